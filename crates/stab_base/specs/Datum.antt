@@ -1,0 +1,33 @@
+-- Values, without where they lie in memory.
+use Rattle.std.specs.Prelude.{◌≡◌, ℕ, ◌+◌, ◌≤◌, ℤ, Bool, max}
+use Rattle.stab_base.specs.declared.shape.Shape.{Shape, Unit, Truth, Int, Text, Chan, Ref, Pair'}
+
+-- a value of the language; texts, channels and references are named by their numbers
+pub data Datum : Type 0 where
+  unit : Datum
+  truth : Bool → Datum
+  int : ℤ → Datum
+  text : ℕ → Datum
+  chan : ℕ → Datum
+  reference : ℕ → Datum
+  pair : Datum → Datum → Datum
+
+-- the value that a shape is
+abbrev pub datum_of : Shape → Datum
+datum_of Unit = unit
+datum_of (Truth b) = truth b
+datum_of (Int n) = int n
+datum_of (Text t) = text t.0
+datum_of (Chan c) = chan c.0
+datum_of (Ref r) = reference r.0
+datum_of (Pair' p a q b) = pair (datum_of a) (datum_of b)
+
+-- how deep pairs stand in each other
+abbrev pub depth_of : Datum → ℕ
+depth_of (pair a b) = max (depth_of a) (depth_of b) + 1
+depth_of _ = 0
+
+-- how many parts a value has that aren't pairs
+abbrev pub leaves_of : Datum → ℕ
+leaves_of (pair a b) = leaves_of a + leaves_of b
+leaves_of _ = 1

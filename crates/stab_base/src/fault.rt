@@ -1,0 +1,18 @@
+//! Why a thread ended before its time.
+
+/// What ended a thread. A fault ends its own thread and no other.
+#[derive(Clone, Copy, PartialEq, Eq, Debug)]
+pub enum Fault {
+    /// An operand of another kind than its operator or act asks for.
+    WrongKind,
+    /// A number outside 64 signed bits.
+    Overflow,
+    /// A division by zero.
+    ZeroDivisor,
+    /// More than 1,000 forms round the next redex.
+    TooDeep,
+    /// A pair that would pass a limit of pairs.
+    DeepValue,
+    /// A `stabilize` outside every section that can still be taken back.
+    NoSection,
+}
