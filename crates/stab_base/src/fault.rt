@@ -1,4 +1,6 @@
 //! Why a thread ended before its time.
+ghost use Rattle.std.specs.Prelude.{◌≡◌};
+ghost use Rattle.stab_base.specs.FaultName.{fault_name};
 
 /// What ended a thread. A fault ends its own thread and no other.
 #[derive(Clone, Copy, PartialEq, Eq, Debug)]
@@ -15,4 +17,20 @@ pub enum Fault {
     DeepValue,
     /// A `stabilize` outside every section that can still be taken back.
     NoSection,
+}
+
+impl Fault {
+    /// The name by which a run's output calls the fault.
+    pub fn name(self) -> &'static str
+        ensures { result.now ≡ fault_name self }
+    {
+        match self {
+            Fault::WrongKind => "WrongKind",
+            Fault::Overflow => "Overflow",
+            Fault::ZeroDivisor => "ZeroDivisor",
+            Fault::TooDeep => "TooDeep",
+            Fault::DeepValue => "DeepValue",
+            Fault::NoSection => "NoSection",
+        }
+    }
 }

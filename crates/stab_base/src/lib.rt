@@ -3,8 +3,15 @@
 
 mod fault;
 mod numbers;
+mod print;
 mod shape;
+#[cfg(test)]
+mod tests;
+mod texts;
+mod value;
 
 pub use fault::Fault;
 pub use numbers::{ChanId, FnId, Generation, NoMemory, RefId, Seq, TextId, ThreadId};
-pub use shape::Shape;
+pub use shape::{MAX_DEPTH, MAX_LEAVES, Shape};
+pub use texts::Texts;
+pub use value::{PairFault, Value};

@@ -1,5 +1,7 @@
 //! The numbers that name things, each with a type of its own.
 
+use std::alloc::{AllocError, AllocFailed};
+
 /// A thread. Numbers start at 1 and are never used again.
 #[derive(Clone, Copy, PartialEq, Eq, PartialOrd, Ord, Hash, Debug)]
 pub struct ThreadId(pub u32);
@@ -31,3 +33,15 @@ pub struct Generation(pub u64);
 /// The memory that a call needs isn't there.
 #[derive(Clone, Copy, PartialEq, Eq, Debug)]
 pub struct NoMemory;
+
+impl From<AllocError> for NoMemory {
+    fn from(_: AllocError) -> NoMemory {
+        NoMemory
+    }
+}
+
+impl<T: Drop> From<AllocFailed<T>> for NoMemory {
+    fn from(_: AllocFailed<T>) -> NoMemory {
+        NoMemory
+    }
+}

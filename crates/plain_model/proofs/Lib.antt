@@ -1,0 +1,7 @@
+pub mod Running
+pub mod Starting
+pub mod OneThread
+pub mod Stepping
+pub mod Working
+pub mod Looking
+pub mod Alone

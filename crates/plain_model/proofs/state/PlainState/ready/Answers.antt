@@ -1,0 +1,28 @@
+use Rattle.std.proofs.Common.{◌≡◌, true, false, IsTrue, refl, subst, sym}
+use Rattle.plain_model.specs.Expression.{look}
+use Rattle.plain_model.specs.State.{State, AllDone, IsQuiet, CanStep, IsEnded, IsDone}
+use Rattle.plain_model.specs.Machine.{thread_expr}
+use Rattle.plain_model.proofs.OneThread.{done_only, only_done, quiet_only, can_step_only}
+use Rattle.plain_model.proofs.Looking.{done_is_done, done_is_ended, failed_is_ended, failed_is_not_done, pure_is_not_ended, act_is_not_ended}
+use Rattle.std.specs.FinMap as map
+use Rattle.plain_model.proofs.state.PlainState.ready.Goals as goal
+
+pub returns-in-Done-clause-quiet : goal.returns-in-Done-clause-quiet
+returns-in-Done-clause-quiet c =
+    let e = thread_expr c.self.inside.main in
+    subst IsQuiet c.self.view_is (quiet_only e c.self.inside.printed.items (done_is_ended (look e) (done_is_done (look e) c.in-Done.ensures)))
+
+pub returns-in-Failed-clause-quiet : goal.returns-in-Failed-clause-quiet
+returns-in-Failed-clause-quiet c =
+    let e = thread_expr c.self.inside.main in
+    subst IsQuiet c.self.view_is (quiet_only e c.self.inside.printed.items (failed_is_ended (look e) c.in-Failed.field-0 c.in-Failed.ensures))
+
+pub returns-in-Pure-clause-ready : goal.returns-in-Pure-clause-ready
+returns-in-Pure-clause-ready c =
+    let e = thread_expr c.self.inside.main in
+    subst (λ s. CanStep (map.get s.threads 1)) c.self.view_is (can_step_only e (pure_is_not_ended (look e) c.in-Pure.ensures))
+
+pub returns-in-Act-clause-ready : goal.returns-in-Act-clause-ready
+returns-in-Act-clause-ready c =
+    let e = thread_expr c.self.inside.main in
+    subst (λ s. CanStep (map.get s.threads 1)) c.self.view_is (can_step_only e (act_is_not_ended (look e) c.in-Act.field-0 c.in-Act.ensures))

@@ -1,0 +1,10 @@
+pub mod Numbers
+pub mod Expression
+pub mod ExpressionCode
+pub mod Program
+pub mod State
+pub mod StateCode
+pub mod Standing
+pub mod Shown
+pub mod Job
+pub mod Machine

@@ -1,0 +1,13 @@
+//! The plain language, and a slow machine that makes its steps.
+#![tactic(auto)]
+
+mod form;
+mod job;
+mod shown;
+mod state;
+mod thread;
+
+pub use job::Job;
+pub use shown::shown_text;
+pub use state::{PlainState, PlayFault};
+pub use thread::{ActKind, Look};

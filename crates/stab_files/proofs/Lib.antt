@@ -1,0 +1,4 @@
+pub mod Counts
+pub mod Moved
+pub mod Named
+pub mod Puts

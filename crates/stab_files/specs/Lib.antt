@@ -1,0 +1,7 @@
+pub mod Count
+pub mod Entry
+pub mod Loaded
+pub mod Told
+pub mod MemFiles
+pub mod MemSink
+pub mod OutSink

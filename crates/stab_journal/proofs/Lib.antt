@@ -1,0 +1,5 @@
+pub mod Changes
+pub mod Entries
+pub mod Events
+pub mod Look
+pub mod Survivors

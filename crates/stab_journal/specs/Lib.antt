@@ -1,0 +1,4 @@
+pub mod Event
+pub mod Journal
+pub mod Label
+pub mod View

@@ -1,0 +1,57 @@
+ghost use Rattle.std.specs.Prelude.{◌≡◌};
+
+use super::*;
+use stab_base::{ChanId, NoMemory, RefId, Seq, ThreadId};
+
+fn step(worker: u32, label: Label) -> Event
+    ensures { result ≡ record { worker = worker; what = What.Step label } }
+{
+    Event {
+        worker,
+        what: What::Step(label),
+    }
+}
+
+#[test]
+fn a_section_is_taken_back(rt: HostRuntime) {
+    let mut history = History::new(rt.alloc());
+    assert_eq!(rt; history.len(), 0);
+    assert_eq!(rt; history.weight(), 0);
+    assert_eq!(rt; history.reserve(5), Ok(()));
+    let one = history.push(step(1, Label::Local(ThreadId(1), 40)));
+    let two = history.push(step(64, Label::Enter(ThreadId(1))));
+    let three = history.push(step(1, Label::NewChan(ThreadId(1), ChanId(1))));
+    assert_eq!(rt; (one, two, three), (Seq(1), Seq(2), Seq(3)));
+    let undo = Event {
+        worker: 2,
+        what: What::Undo(ThreadId(1), two),
+    };
+    let four = history.push(undo);
+    history.strike(two);
+    history.strike(three);
+    let five = history.push(Event {
+        worker: 1,
+        what: What::Release(1),
+    });
+    assert_eq!(rt; (four, five), (Seq(4), Seq(5)));
+    assert_eq!(rt; history.len(), 5);
+    assert_eq!(rt; history.weight(), 44);
+    let live = [0, 1, 2, 3, 4, 5, 6].map(|q| history.is_live(Seq(q)));
+    assert_eq!(rt; live, [false, true, false, false, false, false, false]);
+    assert_eq!(rt; history.get(four).copied(), Some(undo));
+    assert_eq!(rt; history.get(Seq(0)).copied(), None);
+    assert_eq!(rt; history.get(Seq(6)).copied(), None);
+}
+
+#[test]
+fn room_is_kept(rt: HostRuntime) -> Result<(), NoMemory> {
+    let mut history = History::new(rt.alloc());
+    for i in 0..100 {
+        assert_eq!(rt; history.len(), i);
+        assert_eq!(rt; history.weight(), i);
+        history.reserve(1)?;
+        let q = history.push(step(1, Label::Set(ThreadId(4_000_000_000), RefId(1))));
+        assert_eq!(rt; q, Seq(i + 1));
+    }
+    Ok(())
+}

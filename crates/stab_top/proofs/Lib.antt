@@ -1,0 +1,5 @@
+pub mod Showing
+pub mod Turning
+pub mod Bounding
+pub mod Pieces
+pub mod Ending

@@ -1,0 +1,25 @@
+-- What a book shows.
+use Rattle.std.specs.Prelude.{◌≡◌, ℕ, ◌+◌, ◌≤◌, List, length}
+use Rattle.stab_journal.specs.declared.event.Numbered.{Numbered}
+use Rattle.stab_journal.specs.Journal.{Journal}
+use Rattle.stab_journal.specs.Event.{weight_of}
+use Rattle.plain_model.specs.Expression.{Expr}
+use Rattle.plain_model.specs.Job.{Job}
+use Rattle.plain_model.specs.Program.{main_expr}
+use Rattle.plain_model.specs.State.{State, work_left}
+use Rattle.plain_model.specs.Standing.{Shows}
+
+-- the job, what happened, and the state that it led to
+pub record Book : Type 0 where
+  pub job : Job
+  pub history : Journal
+  pub state : State
+
+-- the journal stands for a run of the program that ends in the state
+abbrev pub IsShown : Expr → Journal → State → Type 0
+IsShown main journal state = (run : List Numbered) × Shows main journal run state
+
+-- what every book keeps; a text is too small for more than so much to do
+pub record IsBook (book : Book) : Type 0 where
+  pub shown : IsShown (main_expr book.job.program) book.history book.state
+  pub small : weight_of book.history.events + work_left book.state ≤ 1048576

@@ -1,0 +1,57 @@
+-- The numbers and names of statuses, and the line that tells a reason.
+use Rattle.std.specs.Prelude.{ℕ, List, [], ◌∷◌, ◌++◌, Option, Some, None, codes}
+use Rattle.stab_top.specs.declared.report.Status.{Status}
+use Rattle.stab_top.specs.declared.report.Status.TheVariants.{Done, Held, BadWords, BadText, NoFile, TooBig, FileFault, SinkFault, Spent, NoMemory, BadProbes, BadTrace, BadScript, No, NotBuilt}
+use Rattle.stab_top.specs.declared.report.Role.{Role}
+use Rattle.stab_top.specs.declared.report.Role.TheVariants.{Program, Probes, Trace, Script}
+
+-- the exit status
+abbrev pub status_number : Status → ℕ
+status_number Done = 0
+status_number Held = 1
+status_number BadWords = 2
+status_number BadText = 3
+status_number NoFile = 4
+status_number TooBig = 5
+status_number FileFault = 6
+status_number SinkFault = 7
+status_number Spent = 8
+status_number NoMemory = 9
+status_number BadProbes = 10
+status_number BadTrace = 11
+status_number BadScript = 12
+status_number No = 13
+status_number NotBuilt = 14
+
+abbrev pub status_name : Status → List ℕ
+status_name Done = codes "Done"
+status_name Held = codes "Held"
+status_name BadWords = codes "BadWords"
+status_name BadText = codes "BadText"
+status_name NoFile = codes "NoFile"
+status_name TooBig = codes "TooBig"
+status_name FileFault = codes "FileFault"
+status_name SinkFault = codes "SinkFault"
+status_name Spent = codes "Spent"
+status_name NoMemory = codes "NoMemory"
+status_name BadProbes = codes "BadProbes"
+status_name BadTrace = codes "BadTrace"
+status_name BadScript = codes "BadScript"
+status_name No = codes "No"
+status_name NotBuilt = codes "NotBuilt"
+
+abbrev pub role_name : Role → List ℕ
+role_name Program = codes "program"
+role_name Probes = codes "probes"
+role_name Trace = codes "trace"
+role_name Script = codes "script"
+
+-- the status, and the role of the file where there is one
+abbrev pub reason_line : Status → Option Role → List ℕ
+reason_line status None = codes "stab: " ++ status_name status ++ 10 ∷ []
+reason_line status (Some role) = codes "stab: " ++ status_name status ++ 32 ∷ role_name role ++ 10 ∷ []
+
+-- nothing for Done, and else a line
+abbrev pub reason_text : Status → Option Role → List ℕ
+reason_text Done role = []
+reason_text status role = reason_line status role

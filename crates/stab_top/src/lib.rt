@@ -1,0 +1,13 @@
+//! The one call that the program makes: from its words, its files and its sink to what it reports.
+#![tactic(auto)]
+
+mod book;
+mod report;
+mod run;
+mod top;
+mod words;
+mod writing;
+
+pub use book::Book;
+pub use report::{Gate, Report, Role, Status, reason};
+pub use top::stab;

@@ -1,0 +1,130 @@
+//! The one call that the program makes.
+ghost use Rattle.std.specs.Prelude.{◌≡◌, ◌≤◌, [], length, map as each, string_bytes, Some, None, IfOk};
+ghost use Rattle.plain_model.specs.Job.{default_job};
+ghost use Rattle.plain_model.specs.Program.{main_expr};
+ghost use Rattle.plain_model.specs.Shown.{shown};
+ghost use Rattle.plain_model.specs.State.{IsQuiet, work};
+ghost use Rattle.stab_top.specs.Book.{IsShown};
+ghost use Rattle.stab_top.specs.Call.{EndSays, Says, TextSays};
+ghost use Rattle.stab_top.specs.Words.{run_file};
+ghost use Rattle.stab_top.specs.declared.report.Status.TheVariants.{NotBuilt};
+
+use crate::book::Book;
+use crate::report::{Gate, Report, Role, Status};
+use crate::words::run_file;
+use crate::writing::put_lines;
+use plain_model::{Job, shown_text};
+use stab_base::NoMemory;
+use stab_files::{Files, Loaded, Sink, SinkFail};
+use std::alloc::Global;
+use std::sync::Wait;
+use std::thread::Threads;
+use sum_reader::{Program, ReadFault, read_sums};
+
+/// The greatest size of a program's text in bytes.
+const MAX_TEXT: u64 = 1_048_576;
+
+/// Does what the words ask for: `run FILE` runs the program of the file and writes what it shows.
+/// The report tells how it ended. One worker runs on the calling thread, and calls no gate.
+pub fn stab<R: Threads + Wait + Sync, F: Files, K: Sink, G: Gate + Sync>(
+    rt: &R,
+    alloc: Global,
+    words: &[String],
+    files: &mut F,
+    sink: &mut K,
+    gate: &G,
+) -> Report
+    ensures says { Says result.status (record {
+      words = each string_bytes words.now;
+      files = record { told = F.held files.old; faults = F.faults files.old };
+      files_after = F.faults files.new;
+      outcome = record {
+        sink = record { told = K.told sink.old; faults = K.faults sink.old };
+        sink_after = record { told = K.told sink.new; faults = K.faults sink.new };
+        book = result.book;
+        file = result.file;
+      };
+    }) }
+    ensures kept { F.held files.new ≡ F.held files.old }
+    ensures words { run_file (each string_bytes words.now) ≡ None → result.status ≡ NotBuilt }
+{
+    let Some(name) = run_file(words) else {
+        return refusal(Status::NotBuilt, None);
+    };
+    match files.load(alloc, name, MAX_TEXT) {
+        Loaded::Bytes(bytes) => run_text(alloc, &bytes, sink),
+        Loaded::Missing => refusal(Status::NoFile, Some(Role::Program)),
+        Loaded::TooBig => refusal(Status::TooBig, Some(Role::Program)),
+        Loaded::Failed => refusal(Status::FileFault, Some(Role::Program)),
+        Loaded::NoMemory => refusal(Status::NoMemory, None),
+    }
+}
+
+// Runs the program of a text, and writes what it shows.
+fn run_text<K: Sink>(alloc: Global, bytes: &[u8], sink: &mut K) -> Report
+    requires { length bytes.now ≤ 1048576 }
+    ensures { TextSays result.status bytes.now (record {
+      sink = record { told = K.told sink.old; faults = K.faults sink.old };
+      sink_after = record { told = K.told sink.new; faults = K.faults sink.new };
+      book = result.book;
+      file = result.file;
+    }) }
+{
+    let program = match read_sums(alloc, bytes) {
+        Ok(program) => program,
+        Err(ReadFault::NotSums) => return refusal(Status::NotBuilt, None),
+        Err(ReadFault::NoMemory) => return refusal(Status::NoMemory, None),
+    };
+    let Ok(book) = run_program(alloc, program) else {
+        return refusal(Status::NoMemory, None);
+    };
+    match shown_text(alloc, book.state()) {
+        Ok(text) => write_end(book, &text, sink),
+        Err(NoMemory) => refusal(Status::NoMemory, None),
+    }
+}
+
+// The book of a whole run.
+fn run_program(alloc: Global, program: Program) -> Result<Book, NoMemory>
+    requires { work (main_expr program) ≤ 1048576 }
+    ensures job { IfOk result (λ b. b.job ≡ default_job program) }
+    ensures quiet { IfOk result (λ b. IsQuiet b.state) }
+{
+    let mut book = Book::new(alloc, Job::of_program(alloc, program))?;
+    while book.turn(alloc)? {}
+    Ok(book)
+}
+
+// Writes what a run at rest shows.
+fn write_end<K: Sink>(book: Book, text: &[u8], sink: &mut K) -> Report
+    requires { text.now ≡ shown [] book.state }
+    ensures book { result.book ≡ Some book }
+    ensures file { result.file ≡ None }
+    ensures end { EndSays result.status book.state (record { told = K.told sink.old; faults = K.faults sink.old })
+        (record { told = K.told sink.new; faults = K.faults sink.new }) }
+    ensures shown { IsShown (main_expr book.job.program) book.history book.state }
+{
+    let done = book.state().is_done();
+    let status = match put_lines(sink, text) {
+        Err(SinkFail::Failed) => Status::SinkFault,
+        Ok(()) if done => Status::Done,
+        Ok(()) => Status::Held,
+    };
+    Report {
+        status,
+        book: Some(book),
+        file: None,
+    }
+}
+
+fn refusal(status: Status, file: Option<Role>) -> Report
+    ensures status { result.status ≡ status }
+    ensures book { result.book ≡ None }
+    ensures file { result.file ≡ file }
+{
+    Report {
+        status,
+        book: None,
+        file,
+    }
+}

@@ -1,0 +1,10 @@
+pub mod Lexed
+pub mod Runs
+pub mod Digits
+pub mod Front
+pub mod Chains
+pub mod Sums
+pub mod Faults
+pub mod Blocks
+pub mod Once
+pub mod Ranges
