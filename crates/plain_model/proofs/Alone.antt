@@ -2,7 +2,7 @@
 use Rattle.std.specs.FinMap as map
 use Rattle.std.proofs.lemmas.List.{append-nil}
 use Rattle.std.specs.List.{flat_map}
-use Rattle.std.proofs.Common.{◌≡◌, ℕ, List, [], ◌∷◌, ◌++◌, map as each, append_assoc, refl, sym, ap, subst, ◌∙◌}
+use Rattle.std.proofs.Common.{◌≡◌, ℕ, List, [], ◌∷◌, ◌++◌, map as each, append_assoc, sym, ap, ◌∙◌}
 use Rattle.plain_model.specs.declared.thread.Look as seen
 use Rattle.plain_model.specs.Expression.{Expr, Look, done, fault, act, prints, pure, look}
 use Rattle.plain_model.specs.State.{State}

@@ -1,5 +1,4 @@
 -- What is told of an expression says whether it has ended.
-use Rattle.std.proofs.Common.{◌≡◌}
 use Rattle.stab_base.specs.declared.fault.Fault as base
 use Rattle.plain_model.specs.declared.thread.Look.TheVariants.{Done, Failed, Pure, Act}
 use Rattle.plain_model.specs.declared.thread.ActKind.{ActKind}

@@ -10,7 +10,7 @@ use Rattle.std.proofs.Common.{arith, ◌≡◌, ◌≢◌, ◌<◌, ◌+◌, ℕ
 use Rattle.stab_base.specs.Datum.{Datum, unit}
 use Rattle.plain_model.specs.Expression.{Expr, Look, look, done, fault, pure, act, prints, answered}
 use Rattle.plain_model.specs.Machine.{Prints}
-use Rattle.plain_model.specs.State.{State, with_thread, after_print, print_of, local_of, printed_by, pure_steps, some_pure_steps, greatest_thread, IsEnded, IsDone, IsQuiet, AllDone, CanStep, work, work_left}
+use Rattle.plain_model.specs.State.{State, with_thread, after_print, print_of, local_of, printed_by, pure_steps, some_pure_steps, IsEnded, IsDone, IsQuiet, AllDone, CanStep, work, work_left}
 
 -- thread 1 at an expression
 abbrev pub only : Expr → FinMap nat_cmp Expr

@@ -1,15 +1,13 @@
 -- What the next step of a thread is, by the form that it is at and the es after it.
 use Rattle.std.proofs.lemmas.List.{map_push}
-use Rattle.std.proofs.Common.{arith, ◌≡◌, ◌<◌, ◌↔◌, ℕ, length, map, Bool, true, false, List, [], ◌∷◌, ◌++◌, Option, None, refl, sym, ap, subst, ◌∙◌}
+use Rattle.std.proofs.Common.{arith, ◌≡◌, ◌<◌, ◌↔◌, length, map, true, false, List, [], ◌∷◌, ◌++◌, None, refl, sym, ap, subst, ◌∙◌}
 use Rattle.stab_base.specs.Datum.{Datum, unit, int}
 use Rattle.stab_base.specs.declared.fault.Fault as base
 use Rattle.plain_model.specs.declared.form.Form.{Form, Unit as UnitForm, Int, Sum', Print'}
-use Rattle.plain_model.specs.declared.form.Made.{Made}
 use Rattle.plain_model.specs.declared.form.Made.TheVariants.{Step, Fault, Print}
-use Rattle.plain_model.specs.declared.thread.Look as seen
-use Rattle.plain_model.specs.declared.thread.Look.TheVariants.{Done, Pure, Act}
+use Rattle.plain_model.specs.declared.thread.Look.TheVariants.{Pure, Act}
 use Rattle.plain_model.specs.declared.thread.ActKind.TheVariants as kinds
-use Rattle.plain_model.specs.Expression.{Expr, Items, value, failed, block, sum, print, none, item, is_value, redex, rebuild, spine, cap, turn, Turn, becomes, fails, acts, prints, Look, done, fault, act, pure, look, look_by}
+use Rattle.plain_model.specs.Expression.{Expr, Items, value, failed, block, none, item, is_value, redex, rebuild, spine, cap, turn, Turn, becomes, fails, acts, prints, Look, done, fault, act, pure, look, look_by}
 use Rattle.plain_model.specs.State.{printed_by}
 use Rattle.plain_model.specs.Machine.{expr_of, items_of, running_expr, Looks, Makes, StepsOnce, IsPrint, StandsAtPrint}
 

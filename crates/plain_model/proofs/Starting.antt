@@ -1,6 +1,6 @@
 -- The forms of a block, the first one at the end.
 use Rattle.std.proofs.lemmas.List.{map_push, length-map, get_or-map}
-use Rattle.std.proofs.Common.{arith, ◌≡◌, ℕ, suc, ◌-◌, ◌<◌, ◌≤◌, length, get_or, drop, drop-cons, List, [], ◌∷◌, ◌++◌, map, refl, sym, ap, subst, ◌∙◌}
+use Rattle.std.proofs.Common.{arith, ◌≡◌, ℕ, suc, ◌-◌, ◌<◌, ◌≤◌, length, get_or, drop, drop-cons, List, [], ◌∷◌, ◌++◌, map, sym, ap, subst, ◌∙◌}
 use Rattle.plain_model.specs.declared.form.Form.{Form}
 use Rattle.plain_model.specs.Expression.{Expr, Items, block, none, item}
 use Rattle.sum_reader.specs.Tree.{Tree}

@@ -1,5 +1,5 @@
 -- Several pure steps.
-use Rattle.std.proofs.Common.{arith, ◌≡◌, ℕ, zero, suc, ◌+◌, ◌-◌, ◌<◌, ◌≤◌, true, false, Option, Some, None, option_and_then, refl, sym, ap, subst, ◌∙◌}
+use Rattle.std.proofs.Common.{arith, ◌≡◌, ℕ, suc, ◌+◌, ◌-◌, ◌<◌, ◌≤◌, true, false, Option, Some, None, option_and_then, refl, sym, ap, ◌∙◌}
 use Rattle.plain_model.specs.Expression.{Expr, Look, done, fault, act, pure, look}
 use Rattle.plain_model.specs.State.{pure_of, pure_steps}
 use Rattle.plain_model.specs.Machine.{StepsOnce}

@@ -1,6 +1,6 @@
 -- Each step takes a form away.
-use Rattle.std.proofs.Common.{arith, ◌≡◌, ℕ, zero, suc, ◌+◌, ◌<◌, ◌≤◌, Bool, true, false, cond, nat_lt, Option, Some, None, option_and_then, List, refl, sym, ap, subst, ◌∙◌}
-use Rattle.stab_base.specs.Datum.{Datum, unit, truth, int, text, chan, reference, pair}
+use Rattle.std.proofs.Common.{arith, ◌≡◌, ℕ, zero, suc, ◌+◌, ◌≤◌, Bool, true, false, cond, nat_lt, Option, Some, None, option_and_then, List, refl, sym, ap}
+use Rattle.stab_base.specs.Datum.{Datum, unit, int}
 use Rattle.std.specs.Prelude.{◌+ℤ◌}
 use Rattle.plain_model.specs.Numbers.{fits_word}
 use Rattle.plain_model.specs.Expression.{Expr, Items, value, failed, block, sum, print, none, item, is_value, redex, rebuild, spine, cap, answered, turn, turn_of_sum, Turn, becomes, fails, acts, Act, prints, Look, done, fault, act, pure, look, look_by}

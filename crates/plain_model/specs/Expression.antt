@@ -1,6 +1,6 @@
 -- Expressions, and one pure step of one.
-use Rattle.std.specs.Prelude.{◌≡◌, ℕ, suc, ◌+◌, ◌<◌, ◌+ℤ◌, Bool, true, false, nat_lt, if◌then◌else◌, List, Option, None}
-use Rattle.stab_base.specs.Datum.{Datum, unit, truth, int, text, chan, reference, pair}
+use Rattle.std.specs.Prelude.{ℕ, suc, ◌+ℤ◌, Bool, true, false, nat_lt, if◌then◌else◌, List, Option, None}
+use Rattle.stab_base.specs.Datum.{Datum, int}
 use Rattle.stab_base.specs.declared.fault.Fault.{Fault}
 use Rattle.stab_base.specs.declared.fault.Fault.TheVariants.{WrongKind, Overflow, TooDeep}
 use Rattle.plain_model.specs.Numbers.{fits_word}

@@ -1,5 +1,5 @@
 -- How proofs store an expression: as a list of symbols, the parts of a form before the form's own symbol.
-use Rattle.std.specs.Prelude.{◌≡◌, ℕ, ◌==◌, List, [], ◌∷◌, Bool, true, false, cond, refl}
+use Rattle.std.specs.Prelude.{◌≡◌, ℕ, ◌==◌, List, [], ◌∷◌, cond, refl}
 use Rattle.std.specs.Coded.{Coded, code_by, coded×, coded_ℕ, coded_list}
 use Rattle.std.proofs.Common.{◌∙◌, ap}
 use Rattle.stab_base.specs.Datum.{Datum, unit}

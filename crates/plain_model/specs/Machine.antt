@@ -13,7 +13,7 @@ use Rattle.plain_model.specs.declared.thread.ActKind.TheVariants as kinds
 use Rattle.std.specs.FinMap.{insert, empty}
 use Rattle.plain_model.specs.State.{State}
 use Rattle.plain_model.specs.Shown.{fault_line, counts}
-use Rattle.plain_model.specs.Expression.{Expr, Items, value, failed, block, sum, print, none, item, rebuild, cap, answered, Turn, becomes, fails, acts, prints, Look, done, fault, act, pure, look}
+use Rattle.plain_model.specs.Expression.{Expr, Items, value, failed, block, sum, print, none, item, rebuild, answered, Turn, becomes, fails, acts, prints, Look, done, fault, act, pure, look}
 
 -- the expression that a form stands for
 abbrev pub expr_of : Form → Expr

@@ -2,10 +2,9 @@
 use Rattle.std.specs.Prelude.{ℕ, Bool, true, false, not, ◌&&◌, List, [], ◌∷◌, ◌++◌, map as each, count_by, codes, decimal}
 use Rattle.std.specs.List.{flat_map}
 use Rattle.std.specs.FinMap as map
-use Rattle.stab_base.specs.Datum.{Datum}
 use Rattle.stab_base.specs.Printed.{printed}
 use Rattle.stab_base.specs.FaultName.{fault_name}
-use Rattle.plain_model.specs.Expression.{Expr, Look, done, fault, act, pure, look}
+use Rattle.plain_model.specs.Expression.{Expr, Look, done, fault, look}
 use Rattle.plain_model.specs.State.{State}
 
 abbrev pub is_done : Look → Bool

@@ -1,5 +1,5 @@
 -- States of the plain language, and its steps.
-use Rattle.std.specs.Prelude.{◌≡◌, ℕ, zero, suc, ◌+◌, ◌<◌, List, [], ◌∷◌, ◌++◌, Option, Some, None, option_and_then, option_map, fold, max}
+use Rattle.std.specs.Prelude.{ℕ, zero, suc, ◌+◌, List, [], ◌∷◌, ◌++◌, Option, Some, None, option_and_then, option_map, fold, max}
 use Rattle.std.specs.List.{AllByRecursion, sum_by}
 use Rattle.std.specs.Ordering.{nat_cmp}
 use Rattle.std.specs.FinMap as map
@@ -10,7 +10,7 @@ use Rattle.stab_base.specs.Datum.{Datum, unit}
 use Rattle.stab_journal.specs.declared.event.Label.{Label}
 use Rattle.stab_journal.specs.declared.event.Label.TheVariants.{Local, Print}
 use Rattle.stab_journal.specs.declared.event.Numbered.{Numbered}
-use Rattle.plain_model.specs.Expression.{Expr, Items, value, failed, block, sum, print, none, item, put, answered, Act, prints, Look, done, fault, act, pure, look}
+use Rattle.plain_model.specs.Expression.{Expr, Items, value, failed, block, sum, print, none, item, put, answered, prints, Look, done, fault, act, pure, look}
 
 -- The threads that are there, what each reference holds, the channels, and what was printed.
 pub record State : Type 0 where

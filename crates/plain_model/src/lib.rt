@@ -5,6 +5,8 @@ mod form;
 mod job;
 mod shown;
 mod state;
+#[cfg(test)]
+mod tests;
 mod thread;
 
 pub use job::Job;

@@ -4,6 +4,8 @@
 mod book;
 mod report;
 mod run;
+#[cfg(test)]
+mod tests;
 mod top;
 mod words;
 mod writing;

@@ -1,5 +1,5 @@
 use Rattle.std.specs.List.{flat_map}
-use Rattle.std.proofs.Common.{◌≡◌, ◌++◌, [], ap, ◌∙◌}
+use Rattle.std.proofs.Common.{◌++◌, [], ap, ◌∙◌}
 use Rattle.stab_base.specs.Printed.{printed}
 use Rattle.plain_model.specs.Shown.{line}
 use Rattle.plain_model.proofs.Alone.{shown_in_parts}

@@ -1,5 +1,5 @@
 use Rattle.std.proofs.lemmas.List.{map_push}
-use Rattle.std.proofs.Common.{◌≡◌, map, drop, arith, ap, subst, sym, ◌∙◌, ◌-◌}
+use Rattle.std.proofs.Common.{map, drop, arith, ap, subst, sym, ◌∙◌, ◌-◌}
 use Rattle.plain_model.specs.Program.{block_items, last_expr}
 use Rattle.plain_model.specs.Machine.{expr_of, IsChain}
 use Rattle.plain_model.proofs.Starting.{next_item}

@@ -1,6 +1,6 @@
 use Rattle.std.proofs.lemmas.List.{length-map}
 use Rattle.std.proofs.lemmas.Grind.{common_steps}
-use Rattle.std.proofs.Common.{◌≡◌, ◌<◌, ◌↔◌, ℕ, length, map, arith}
+use Rattle.std.proofs.Common.{◌<◌, ◌↔◌, length, map, arith}
 use Rattle.plain_model.specs.Machine.{expr_of}
 use Rattle.plain_model.specs.Expression.{spine}
 use Rattle.plain_model.specs.Machine.{running_expr}

@@ -14,7 +14,7 @@ returns-in-Ok-shown_text g c =
       sink = record { told = g.K.Sink.told c.args.sink.now; faults = g.K.Sink.faults c.args.sink.now };
       sink_after = record { told = g.K.Sink.told c.write_end.new.sink; faults = g.K.Sink.faults c.write_end.new.sink };
       book = c.write_end.result.book;
-      file = c.write_end.result.file
+      file = c.write_end.result.file;
     }) book c.write_end.ensures.book c.write_end.ensures.file
     (came_to_rest c.args.bytes.now c.in-Ok.program book c.in-Ok.ensures.ok c.in-Ok-run_program.ensures.job c.write_end.ensures.shown c.in-Ok-run_program.ensures.quiet)
     c.write_end.ensures.end

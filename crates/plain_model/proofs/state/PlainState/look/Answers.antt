@@ -1,5 +1,5 @@
 use Rattle.std.specs.FinMap as map
-use Rattle.std.proofs.Common.{◌≡◌, None, Some, refl, ap, sym, subst, ◌∙◌}
+use Rattle.std.proofs.Common.{None, Some, refl, ap, sym, subst, ◌∙◌}
 use Rattle.plain_model.specs.Machine.{thread_expr, LooksAt}
 use Rattle.plain_model.proofs.OneThread.{only, get-only, get-only_other}
 use Rattle.plain_model.proofs.state.PlainState.look.Goals as goal

@@ -1,8 +1,6 @@
-use Rattle.std.proofs.Common.{arith, ◌≡◌, ◌+◌, ◌≤◌, ℕ, subst, Result, Ok, Err, OnOk, Option, Some, None, ap, sym, ◌∙◌}
-use Rattle.stab_journal.specs.declared.event.Label.{Label}
-use Rattle.stab_journal.specs.declared.event.Label.TheVariants.{Local, Print}
+use Rattle.std.proofs.Common.{arith, ◌+◌, ◌≤◌, subst, Result, Ok, Err, OnOk, ap, sym, ◌∙◌}
 use Rattle.plain_model.specs.Machine.{thread_expr}
-use Rattle.plain_model.specs.State.{State, plain, local_of, print_of, work, work_left}
+use Rattle.plain_model.specs.State.{plain, local_of, print_of, work_left}
 use Rattle.plain_model.proofs.OneThread.{state_of, local_made, local_none, local_other, print_made, work-only, print_none, print_other}
 use Rattle.plain_model.proofs.Working.{pure_steps_less, printed_less}
 use Rattle.stab_journal.specs.Event.{weigh}

@@ -1,9 +1,9 @@
-use Rattle.std.proofs.Common.{◌≡◌, true, false, IsTrue, refl, subst, sym}
+use Rattle.std.proofs.Common.{subst}
 use Rattle.plain_model.specs.Expression.{look}
-use Rattle.plain_model.specs.State.{State, AllDone, IsQuiet, CanStep, IsEnded, IsDone}
+use Rattle.plain_model.specs.State.{IsQuiet, CanStep}
 use Rattle.plain_model.specs.Machine.{thread_expr}
-use Rattle.plain_model.proofs.OneThread.{done_only, only_done, quiet_only, can_step_only}
-use Rattle.plain_model.proofs.Looking.{done_is_done, done_is_ended, failed_is_ended, failed_is_not_done, pure_is_not_ended, act_is_not_ended}
+use Rattle.plain_model.proofs.OneThread.{quiet_only, can_step_only}
+use Rattle.plain_model.proofs.Looking.{done_is_done, done_is_ended, failed_is_ended, pure_is_not_ended, act_is_not_ended}
 use Rattle.std.specs.FinMap as map
 use Rattle.plain_model.proofs.state.PlainState.ready.Goals as goal
 

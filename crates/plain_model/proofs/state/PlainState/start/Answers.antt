@@ -1,4 +1,4 @@
-use Rattle.std.proofs.Common.{◌≡◌, [], ap, ◌∙◌}
+use Rattle.std.proofs.Common.{ap, ◌∙◌}
 use Rattle.plain_model.specs.Machine.{thread_expr}
 use Rattle.plain_model.specs.State.{work}
 use Rattle.plain_model.proofs.OneThread.{work-only}

@@ -1,4 +1,4 @@
-use Rattle.std.proofs.Common.{◌≡◌, ap, sym, ◌∙◌}
+use Rattle.std.proofs.Common.{ap, sym, ◌∙◌}
 use Rattle.plain_model.specs.Machine.{thread_expr}
 use Rattle.plain_model.specs.State.{greatest_thread}
 use Rattle.plain_model.proofs.OneThread.{greatest_only}

@@ -1,6 +1,6 @@
-use Rattle.std.proofs.Common.{◌≡◌, map, ap, subst, sym, ◌∙◌}
+use Rattle.std.proofs.Common.{map, ap, subst, sym, ◌∙◌}
 use Rattle.stab_base.specs.Datum.{unit}
-use Rattle.plain_model.specs.Expression.{Expr, value, act, prints, look, cap, answered, is_value}
+use Rattle.plain_model.specs.Expression.{value, look, cap, answered}
 use Rattle.plain_model.specs.Machine.{expr_of, thread_expr, running_expr, StandsAtPrint}
 use Rattle.plain_model.proofs.Running.{print_is_no_value, print_is_the_form's, look-printed, rebuild-form}
 use Rattle.plain_model.proofs.thread.Thread.answer_print.Goals as goal

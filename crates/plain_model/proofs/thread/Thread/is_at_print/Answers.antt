@@ -1,6 +1,6 @@
-use Rattle.std.proofs.Common.{◌≡◌, map, true, false, IsTrue, sym, subst, ◌∙◌}
-use Rattle.plain_model.specs.Expression.{look, is_value}
-use Rattle.plain_model.specs.Machine.{expr_of, thread_expr, running_expr, StandsAtPrint}
+use Rattle.std.proofs.Common.{◌≡◌, map, true, false, sym, ◌∙◌}
+use Rattle.plain_model.specs.Expression.{is_value}
+use Rattle.plain_model.specs.Machine.{expr_of}
 use Rattle.plain_model.proofs.Running.{form's_print_is, print_is_no_value, print_is_the_form's}
 use Rattle.plain_model.proofs.thread.Thread.is_at_print.Goals as goal
 

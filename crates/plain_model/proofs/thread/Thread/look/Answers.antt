@@ -1,7 +1,6 @@
 use Rattle.std.proofs.lemmas.List.{length-map}
-use Rattle.std.proofs.Common.{◌≡◌, ◌<◌, ℕ, length, map, arith, false, true, refl, sym, subst, ◌∙◌}
-use Rattle.plain_model.specs.Expression.{look, is_value}
-use Rattle.plain_model.specs.Machine.{expr_of, Looks, thread_expr}
+use Rattle.std.proofs.Common.{◌≡◌, ◌<◌, length, map, arith, false, true, refl, sym, ◌∙◌}
+use Rattle.plain_model.specs.Machine.{expr_of}
 use Rattle.plain_model.proofs.Running.{looks_at_print, looks_at_other, looks_behind_value}
 use Rattle.plain_model.proofs.thread.Thread.look.Goals as goal
 

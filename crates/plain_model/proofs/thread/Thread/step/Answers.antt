@@ -1,6 +1,5 @@
-use Rattle.std.proofs.Common.{◌≡◌, ◌<◌, ℕ, length, map, false, true, sym, subst, ◌∙◌}
-use Rattle.plain_model.specs.Expression.{look, is_value}
-use Rattle.plain_model.specs.Machine.{expr_of, StepsOnce, thread_expr}
+use Rattle.std.proofs.Common.{map, sym, ◌∙◌}
+use Rattle.plain_model.specs.Machine.{expr_of}
 use Rattle.plain_model.proofs.Running.{steps_to_next, steps_form, faults_form}
 use Rattle.plain_model.proofs.thread.Thread.step.Goals as goal
 

@@ -1,4 +1,4 @@
-use Rattle.std.proofs.Common.{◌≡◌, true, subst}
+use Rattle.std.proofs.Common.{subst}
 use Rattle.plain_model.specs.Expression.{look}
 use Rattle.plain_model.specs.State.{pure_steps}
 use Rattle.plain_model.specs.Machine.{thread_expr, StepsOnce}

@@ -1,0 +1,4 @@
+pub mod Lists
+pub mod Lines
+pub mod Firsts
+pub mod CallerLemmas

@@ -1,0 +1,3 @@
+pub mod Offer
+pub mod Line
+pub mod Layout

@@ -1,0 +1,13 @@
+pub mod Classes
+pub mod Lengths
+pub mod Marks
+pub mod Numbers
+pub mod Progress
+pub mod Scan
+pub mod Spans
+pub mod TextCharacters
+pub mod Texts
+pub mod Total
+pub mod Unique
+pub mod Ways
+pub mod Words

@@ -1,0 +1,5 @@
+pub mod Kinds
+pub mod Pieces
+pub mod Place
+pub mod Readings
+pub mod Steps

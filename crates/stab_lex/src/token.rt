@@ -1,0 +1,37 @@
+ghost use Rattle.std.specs.Prelude.{◌≡◌};
+ghost use Rattle.stab_lex.specs.declared.token.LexFault.TheVariants.{NoMemory};
+
+use crate::kind::Kind;
+use std::alloc::AllocFailed;
+
+/// A token of a text: the bytes from `start` to `end`, both counted from 0.
+#[derive(Clone, Copy, Debug, PartialEq, Eq)]
+pub struct Token {
+    pub kind: Kind,
+    pub start: u32,
+    pub end: u32,
+}
+
+/// Why a text has no tokens. A place is a byte offset from 0.
+#[derive(Clone, Copy, Debug, PartialEq, Eq)]
+pub enum LexFault {
+    /// The bytes up to here are UTF-8, and with those that follow they aren't.
+    NotUtf8(u32),
+    /// A character that begins no token, or a backslash in a text before a character that it
+    /// can't stand before.
+    BadChar(u32),
+    /// The first digit of a number above 9223372036854775808.
+    BigNumber(u32),
+    /// The opening quote of a text that its line doesn't close.
+    OpenText(u32),
+    /// There was no memory for the tokens.
+    NoMemory,
+}
+
+impl<T: Drop> From<AllocFailed<T>> for LexFault {
+    ghost from_gives = { λ _ fault. fault ≡ NoMemory };
+
+    fn from(_refused: AllocFailed<T>) -> LexFault {
+        LexFault::NoMemory
+    }
+}

@@ -1,0 +1,166 @@
+//! Whole calls over files and a sink in memory.
+
+use crate::report::{Gate, Report, Role, Status, reason};
+use crate::top::stab;
+use stab_base::{Seq, ThreadId};
+use stab_files::{MemFiles, MemSink};
+use stab_journal::{Event, Label, What};
+use std::alloc::Global;
+use std::sync::Wait;
+use std::test::Fail;
+use std::thread::Threads;
+
+const SUM: &[u8] = b"fn main(): unit { print(1 + 2) }";
+
+struct Open;
+
+impl Gate for Open {
+    fn before_commit(&self, _worker: u32) {}
+}
+
+// What a call reports and writes.
+#[derive(Drop)]
+struct Answer {
+    status: Status,
+    file: Option<Role>,
+    events: Vec<Event>,
+    written: Vec<u8>,
+    line: Vec<u8>,
+}
+
+// A call over files that hold the text under the name `p`, with the loads and the puts that are to fail.
+fn called<R: Threads + Wait + Sync>(
+    rt: &R,
+    alloc: Global,
+    words: [&str; 2],
+    text: &[u8],
+    fails: [&[u64]; 2],
+) -> Result<Answer, Fail> {
+    let words = texts(alloc, words)?;
+    let mut files = holding(alloc, text, fails[0])?;
+    let mut sink = MemSink::new(alloc, 1_048_576, fails[1].to_vec(alloc)?)?;
+    let report = stab(rt, alloc, &words, &mut files, &mut sink, &Open);
+    Ok(Answer {
+        status: report.status,
+        file: report.file,
+        events: events(alloc, &report)?,
+        written: sink.bytes().to_vec(alloc)?,
+        line: told(alloc, &report)?,
+    })
+}
+
+fn events(alloc: Global, report: &Report) -> Result<Vec<Event>, Fail> {
+    let mut events = Vec::new(alloc);
+    if let Some(book) = &report.book {
+        for number in 1..=book.history().len() {
+            events.push(*book.history().get(Seq(number)).ok_or("no event")?)?;
+        }
+    }
+    Ok(events)
+}
+
+fn texts(alloc: Global, words: [&str; 2]) -> Result<Vec<String>, Fail> {
+    let first = String::from_str(alloc, words[0])?;
+    let second = String::from_str(alloc, words[1])?;
+    Ok(vec![in alloc; first, second]?)
+}
+
+fn holding(alloc: Global, text: &[u8], fails: &[u64]) -> Result<MemFiles, Fail> {
+    let file = (String::from_str(alloc, "p")?, text.to_vec(alloc)?);
+    Ok(MemFiles::new(vec![in alloc; file]?, fails.to_vec(alloc)?))
+}
+
+fn told(alloc: Global, report: &Report) -> Result<Vec<u8>, Fail> {
+    let mut line = Vec::new(alloc);
+    reason(alloc, report, &mut line).map_err(|_| Fail::from("no memory"))?;
+    Ok(line)
+}
+
+#[test]
+fn print_a_sum(rt: HostRuntime) -> Result<(), Fail> {
+    let call = called(&rt, rt.alloc(), ["run", "p"], SUM, [&[], &[]])?;
+    assert_eq!(rt; call.status, Status::Done);
+    let text = b"3\nended 1 faulted 0 waiting 0\n".as_slice();
+    assert_eq!(rt; call.written.as_slice(), text);
+    assert_eq!(rt; call.line.len(), 0);
+    Ok(())
+}
+
+#[test]
+fn events_of_a_sum(rt: HostRuntime) -> Result<(), Fail> {
+    let call = called(&rt, rt.alloc(), ["run", "p"], SUM, [&[], &[]])?;
+    let local = What::Step(Label::Local(ThreadId(1), 1));
+    let print = What::Step(Label::Print(ThreadId(1)));
+    assert_eq!(rt; call.events.len(), 2);
+    assert!(rt; call.events[0].what == local);
+    assert!(rt; call.events[1].what == print);
+    Ok(())
+}
+
+#[test]
+fn overflow_in_main(rt: HostRuntime) -> Result<(), Fail> {
+    let program = b"fn main(): unit { print(9223372036854775807 + 1) }";
+    let call = called(&rt, rt.alloc(), ["run", "p"], program, [&[], &[]])?;
+    assert_eq!(rt; call.status, Status::Held);
+    let text = b"thread 1 fault Overflow\nended 0 faulted 1 waiting 0\n".as_slice();
+    assert_eq!(rt; call.written.as_slice(), text);
+    assert_eq!(rt; call.line.as_slice(), b"stab: Held\n".as_slice());
+    Ok(())
+}
+
+#[test]
+fn kinds_and_order(rt: HostRuntime) -> Result<(), Fail> {
+    let program = b"fn main(): unit { print(print(1)); print(2) + 1; print(3) }";
+    let call = called(&rt, rt.alloc(), ["run", "p"], program, [&[], &[]])?;
+    let text = b"1\n()\n2\nthread 1 fault WrongKind\nended 0 faulted 1 waiting 0\n".as_slice();
+    assert_eq!(rt; call.written.as_slice(), text);
+    Ok(())
+}
+
+#[test]
+fn sink_fails_at_the_second_line(rt: HostRuntime) -> Result<(), Fail> {
+    let call = called(&rt, rt.alloc(), ["run", "p"], SUM, [&[], &[2]])?;
+    assert_eq!(rt; call.status, Status::SinkFault);
+    assert_eq!(rt; call.written.as_slice(), b"3\n".as_slice());
+    assert_eq!(rt; call.events.len(), 2);
+    Ok(())
+}
+
+#[test]
+fn file_is_missing(rt: HostRuntime) -> Result<(), Fail> {
+    let call = called(&rt, rt.alloc(), ["run", "q"], SUM, [&[], &[]])?;
+    assert_eq!(rt; call.status, Status::NoFile);
+    assert_eq!(rt; call.line.as_slice(), b"stab: NoFile program\n".as_slice());
+    assert_eq!(rt; call.written.len(), 0);
+    Ok(())
+}
+
+#[test]
+fn load_fails(rt: HostRuntime) -> Result<(), Fail> {
+    let call = called(&rt, rt.alloc(), ["run", "p"], SUM, [&[1], &[]])?;
+    assert_eq!(rt; call.status, Status::FileFault);
+    assert_eq!(rt; call.file, Some(Role::Program));
+    Ok(())
+}
+
+#[test]
+fn one_byte_too_many(rt: HostRuntime) -> Result<(), Fail> {
+    let mut text = SUM.to_vec(rt.alloc())?;
+    text.resize(1_048_576, b' ')?;
+    let call = called(&rt, rt.alloc(), ["run", "p"], &text, [&[], &[]])?;
+    assert_eq!(rt; call.status, Status::Done);
+    text.push(b' ')?;
+    let call = called(&rt, rt.alloc(), ["run", "p"], &text, [&[], &[]])?;
+    assert_eq!(rt; call.status, Status::TooBig);
+    Ok(())
+}
+
+#[test]
+fn not_built(rt: HostRuntime) -> Result<(), Fail> {
+    let call = called(&rt, rt.alloc(), ["run", "p"], b"", [&[], &[]])?;
+    assert_eq!(rt; call.status, Status::NotBuilt);
+    let call = called(&rt, rt.alloc(), ["check", "a"], SUM, [&[], &[]])?;
+    assert_eq!(rt; call.status.number(), 14);
+    assert_eq!(rt; call.line.as_slice(), b"stab: NotBuilt\n".as_slice());
+    Ok(())
+}

@@ -1,0 +1,6 @@
+pub mod Queues
+pub mod Numbered
+pub mod Kept
+pub mod Entries
+pub mod Layouts
+pub mod CallerLemmas

@@ -1,0 +1,10 @@
+//! The threads of a run with what each of them is, and the queue of those that are ready.
+#![tactic(auto)]
+
+mod slots;
+mod state;
+#[cfg(test)]
+mod tests;
+
+pub use slots::Slots;
+pub use state::State;

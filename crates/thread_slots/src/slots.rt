@@ -1,0 +1,308 @@
+//! Threads by number, and the queue of those that are ready.
+
+ghost use Rattle.std.specs.Prelude.{◌≡◌, ◌+◌, ◌-◌, ◌≤◌, ◌<◌, [], ◌∷◌, ◌++◌, length, IsSome, IsSomeAnd, OnOk, option_map, slice_get, if◌then◌else◌};
+ghost use Rattle.std.specs.Option.{option_copied};
+ghost use Rattle.std.specs.Vec.{vec_capacity};
+ghost use Rattle.std.specs.FinMap as map;
+ghost use Rattle.thread_slots.specs.Queue.{without};
+ghost use Rattle.thread_slots.specs.Slot.{is_ready, started, restored, changed, IsSound};
+ghost use Rattle.thread_slots.specs.Layout.{numbers, by_number, places, slot_of};
+
+use crate::state::State;
+use stab_base::{Generation, NoMemory, ThreadId};
+use std::alloc::Global;
+use std::marker::Model;
+
+#[derive(Drop)]
+struct Entry<C> {
+    control: C,
+    generation: Generation,
+    state: State,
+}
+
+/// The live threads of a run, each with a control of the type `C`, and the queue of the ready ones.
+#[derive(Drop)]
+pub struct Slots<C> {
+    /// The thread n at the place n - 1. A removed thread leaves its place empty.
+    entries: Vec<Option<Entry<C>>>,
+    /// The ready threads, the longest ready first.
+    queue: Vec<ThreadId>,
+    /// How many threads more fit without memory.
+    room: usize,
+}
+
+impl<C> Model for Slots<C> {
+    ghost use Rattle.std.specs.Prelude.{◌+◌, length};
+    ghost use Rattle.std.specs.Vec.{vec_capacity};
+    ghost use Rattle.thread_slots.specs.Slot.{Seen, seen_code};
+    ghost use Rattle.thread_slots.specs.contracts.state.State as state_row;
+    ghost use Rattle.thread_slots.specs.Layout.{by_number, places, numbers, IsLaidOut};
+
+    ghost Value = { Seen C };
+
+    ghost coded = { seen_code C.code state_row.the_row.coded };
+
+    ghost view = { λ s. record {
+      threads = by_number (places s.entries.items);
+      queue = numbers s.queue.items;
+      next = length s.entries.items + 1;
+      room = s.room;
+    } };
+
+    ghost invariant = { λ s.
+        IsLaidOut (by_number (places s.entries.items)) (numbers s.queue.items)
+        (length s.entries.items) s.room (vec_capacity s.entries) (vec_capacity s.queue) };
+}
+
+impl<C: Drop> Slots<C> {
+    pub fn new(alloc: Global) -> Self
+        ensures threads { result.threads ≡ map.empty }
+        ensures queue { result.queue ≡ [] }
+        ensures next { result.next ≡ 1 }
+        ensures sound { IsSound result }
+    {
+        Slots {
+            entries: Vec::new(alloc),
+            queue: Vec::new(alloc),
+            room: 0,
+        }
+    }
+
+    /// Makes room for one thread more.
+    pub fn reserve(&mut self) -> Result<(), NoMemory>
+        ensures room { OnOk result (1 ≤ self.new.room) }
+        ensures more { self.old.room ≤ self.new.room }
+        ensures threads { self.new.threads ≡ self.old.threads }
+        ensures queue { self.new.queue ≡ self.old.queue }
+        ensures next { self.new.next ≡ self.old.next }
+    {
+        if self.room > 0 {
+            return Ok(());
+        }
+        let waiting = self.queue.len();
+        let threads = self.entries.len();
+        if self.entries.reserve(1).is_err() {
+            return Err(NoMemory);
+        }
+        if self.queue.reserve(threads + 1 - waiting).is_err() {
+            return Err(NoMemory);
+        }
+        self.room = 1;
+        Ok(())
+    }
+
+    /// Adds a thread under the next number.
+    pub fn add(&mut self, control: C, ended: bool) -> ThreadId
+        requires room { 1 ≤ self.old.room }
+        requires numbers { self.old.next ≤ 4294967294 }
+        ensures number { result.0 ≡ self.old.next }
+        ensures threads { self.new.threads
+            ≡ map.insert self.old.threads result.0 (started control ended) }
+        ensures queue { self.new.queue
+            ≡ (if ended then self.old.queue else self.old.queue ++ result.0 ∷ []) }
+        ensures next { self.new.next ≡ self.old.next + 1 }
+        ensures room { self.new.room + 1 ≡ self.old.room }
+        ensures sound { IsSound self.new }
+    {
+        let t = ThreadId(self.entries.len() as u32 + 1);
+        let state = first_state(ended);
+        self.entries.push_reserved(Some(Entry {
+            control,
+            generation: Generation(0),
+            state,
+        }));
+        self.room -= 1;
+        enter(&mut self.queue, t, state);
+        t
+    }
+
+    /// The thread that is ready the longest.
+    pub fn front(&self) -> Option<ThreadId>
+        ensures first { option_map (λ t. t.0) result ≡ slice_get self.now.queue 0 }
+        ensures sound { IsSound self.now }
+    {
+        self.queue.first().copied()
+    }
+
+    pub fn set_state(&mut self, t: ThreadId, state: State)
+        requires { IsSome (map.get self.old.threads t.0) }
+        ensures threads { self.new.threads
+            ≡ changed self.old.threads t.0 (λ slot. record slot { state = state }) }
+        ensures queue { self.new.queue
+            ≡ without t.0 self.old.queue ++ (if is_ready state then t.0 ∷ [] else []) }
+        ensures next { self.new.next ≡ self.old.next }
+        ensures room { self.new.room ≡ self.old.room }
+        ensures sound { IsSound self.new }
+    {
+        requeue(&mut self.queue, t, state);
+        write_state(&mut self.entries, t, state);
+    }
+
+    pub fn put_control(&mut self, t: ThreadId, control: C)
+        requires { IsSome (map.get self.old.threads t.0) }
+        ensures threads { self.new.threads
+            ≡ changed self.old.threads t.0 (λ slot. record slot { control = control }) }
+        ensures queue { self.new.queue ≡ self.old.queue }
+        ensures next { self.new.next ≡ self.old.next }
+        ensures room { self.new.room ≡ self.old.room }
+        ensures sound { IsSound self.new }
+    {
+        write_control(&mut self.entries, t, control);
+    }
+
+    /// Puts a thread back: it is Ready with an earlier control, and of the next generation.
+    pub fn restore(&mut self, t: ThreadId, control: C)
+        requires { IsSomeAnd (map.get self.old.threads t.0) (λ slot. slot.generation < u64.MAX) }
+        ensures threads { self.new.threads ≡ changed self.old.threads t.0 (restored control) }
+        ensures queue { self.new.queue ≡ without t.0 self.old.queue ++ t.0 ∷ [] }
+        ensures next { self.new.next ≡ self.old.next }
+        ensures room { self.new.room ≡ self.old.room }
+        ensures sound { IsSound self.new }
+    {
+        requeue(&mut self.queue, t, State::Ready);
+        put_back(&mut self.entries, t, control);
+    }
+
+    /// Removes a thread, as one whose spawn was undone. Its number isn't used again.
+    pub fn remove(&mut self, t: ThreadId)
+        requires { IsSome (map.get self.old.threads t.0) }
+        ensures threads { self.new.threads ≡ map.remove self.old.threads t.0 }
+        ensures queue { self.new.queue ≡ without t.0 self.old.queue }
+        ensures next { self.new.next ≡ self.old.next }
+        ensures room { self.new.room ≡ self.old.room }
+        ensures sound { IsSound self.new }
+    {
+        leave(&mut self.queue, t);
+        clear(&mut self.entries, t);
+    }
+
+    pub fn control(&self, t: ThreadId) -> Option<&C>
+        ensures { option_copied result
+            ≡ option_map (λ slot. slot.control) (map.get self.now.threads t.0) }
+    {
+        let entry = entry_of(&self.entries, t)?;
+        Some(&entry.control)
+    }
+
+    /// How often a thread was put back.
+    pub fn generation(&self, t: ThreadId) -> Option<Generation>
+        ensures { option_map (λ g. g.0) result
+            ≡ option_map (λ slot. slot.generation) (map.get self.now.threads t.0) }
+    {
+        let entry = entry_of(&self.entries, t)?;
+        Some(entry.generation)
+    }
+
+    pub fn state(&self, t: ThreadId) -> Option<State>
+        ensures { result ≡ option_map (λ slot. slot.state) (map.get self.now.threads t.0) }
+    {
+        let entry = entry_of(&self.entries, t)?;
+        Some(entry.state)
+    }
+}
+
+// What is kept of a thread, where it is live.
+fn entry_of<C>(entries: &Vec<Option<Entry<C>>>, t: ThreadId) -> Option<&Entry<C>>
+    ensures { option_map slot_of (option_copied result)
+        ≡ map.get (by_number (places entries.now.items)) t.0 }
+{
+    if t.0 == 0 || t.0 as usize > entries.len() {
+        return None;
+    }
+    entries[place(t)].as_ref()
+}
+
+fn write_state<C>(entries: &mut Vec<Option<Entry<C>>>, t: ThreadId, state: State)
+    requires { IsSome (map.get (by_number (places entries.old.items)) t.0) }
+    ensures threads { by_number (places entries.new.items)
+        ≡ changed (by_number (places entries.old.items)) t.0 (λ slot. record slot { state = state }) }
+    ensures length { length entries.new.items ≡ length entries.old.items }
+    ensures capacity { vec_capacity entries.new ≡ vec_capacity entries.old }
+{
+    if let Some(entry) = &mut entries[place(t)] {
+        entry.state = state;
+    }
+}
+
+fn write_control<C: Drop>(entries: &mut Vec<Option<Entry<C>>>, t: ThreadId, control: C)
+    requires { IsSome (map.get (by_number (places entries.old.items)) t.0) }
+    ensures threads { by_number (places entries.new.items)
+        ≡ changed (by_number (places entries.old.items)) t.0 (λ slot. record slot { control = control }) }
+    ensures length { length entries.new.items ≡ length entries.old.items }
+    ensures capacity { vec_capacity entries.new ≡ vec_capacity entries.old }
+{
+    if let Some(entry) = &mut entries[place(t)] {
+        entry.control = control;
+    }
+}
+
+// The thread is Ready with this control and of the next generation.
+fn put_back<C: Drop>(entries: &mut Vec<Option<Entry<C>>>, t: ThreadId, control: C)
+    requires { IsSomeAnd (map.get (by_number (places entries.old.items)) t.0)
+        (λ slot. slot.generation < u64.MAX) }
+    ensures threads { by_number (places entries.new.items)
+        ≡ changed (by_number (places entries.old.items)) t.0 (restored control) }
+    ensures length { length entries.new.items ≡ length entries.old.items }
+    ensures capacity { vec_capacity entries.new ≡ vec_capacity entries.old }
+{
+    if let Some(entry) = &mut entries[place(t)] {
+        entry.control = control;
+        entry.generation = Generation(entry.generation.0 + 1);
+        entry.state = State::Ready;
+    }
+}
+
+fn clear<C: Drop>(entries: &mut Vec<Option<Entry<C>>>, t: ThreadId)
+    requires { IsSome (map.get (by_number (places entries.old.items)) t.0) }
+    ensures threads { by_number (places entries.new.items)
+        ≡ map.remove (by_number (places entries.old.items)) t.0 }
+    ensures length { length entries.new.items ≡ length entries.old.items }
+    ensures capacity { vec_capacity entries.new ≡ vec_capacity entries.old }
+{
+    entries[place(t)] = None;
+}
+
+fn first_state(ended: bool) -> State
+    ensures { result ≡ (if ended then State.Ended else State.Ready) }
+{
+    if ended { State::Ended } else { State::Ready }
+}
+
+// Where a thread stands among the entries.
+fn place(t: ThreadId) -> usize
+    requires { 1 ≤ t.0 }
+    ensures { result + 1 ≡ t.0 }
+{
+    t.0 as usize - 1
+}
+
+// Puts a thread at the tail, where it is ready.
+fn enter(queue: &mut Vec<ThreadId>, t: ThreadId, state: State)
+    requires { length queue.old.items < vec_capacity queue.old }
+    ensures queue { numbers queue.new.items
+        ≡ numbers queue.old.items ++ (if is_ready state then t.0 ∷ [] else []) }
+    ensures capacity { vec_capacity queue.new ≡ vec_capacity queue.old }
+{
+    if state == State::Ready {
+        queue.push_reserved(t);
+    }
+}
+
+// Takes a thread out of its place, and puts it at the tail where it is ready.
+fn requeue(queue: &mut Vec<ThreadId>, t: ThreadId, state: State)
+    requires { length (without t.0 (numbers queue.old.items)) < vec_capacity queue.old }
+    ensures queue { numbers queue.new.items
+        ≡ without t.0 (numbers queue.old.items) ++ (if is_ready state then t.0 ∷ [] else []) }
+    ensures capacity { vec_capacity queue.new ≡ vec_capacity queue.old }
+{
+    leave(queue, t);
+    enter(queue, t, state);
+}
+
+// Takes a thread out of the queue, where it stands in it.
+fn leave(queue: &mut Vec<ThreadId>, t: ThreadId)
+    ensures queue { numbers queue.new.items ≡ without t.0 (numbers queue.old.items) }
+    ensures capacity { vec_capacity queue.new ≡ vec_capacity queue.old }
+{
+    queue.retain(|u| u.0 != t.0);
+}
