@@ -1,0 +1,22 @@
+//! How long the containers of a run take with many entries.
+//!
+//! With the word `counts` it prints, for few entries, how many calls found what they were for.
+#![tactic(auto)]
+
+mod offers;
+mod saved;
+mod scatter;
+mod table;
+mod threads;
+mod writes;
+
+use std::{env, io};
+
+fn main(rt: HostRuntime) -> io::Result<()> {
+    let mut words = env::args(&rt)?;
+    let _program = words.next();
+    match words.next() {
+        Some(word) if word.as_str() == "counts" => table::print_counts(&rt),
+        _ => table::print_times(&rt),
+    }
+}

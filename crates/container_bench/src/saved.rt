@@ -1,0 +1,44 @@
+//! Controls that are saved, taken out and dropped.
+ghost use Rattle.std.specs.Prelude.{◌<◌, ◌≤◌, ◌+◌};
+
+use crate::scatter::scattered;
+use checkpoint_store::Store;
+use stab_base::{NoMemory, Seq, ThreadId};
+use std::alloc::Global;
+
+/// How many controls were taken out: each second one.
+pub fn run(alloc: Global, n: u32) -> Result<u32, NoMemory> {
+    let mut store = Store::new(alloc);
+    save_all(&mut store, n)?;
+    let taken = take_half(&mut store, n);
+    drop_all(&mut store, n);
+    Ok(taken)
+}
+
+fn save_all(store: &mut Store<u32>, n: u32) -> Result<(), NoMemory> {
+    for i in 0..n {
+        let q = scattered(i, n);
+        if store.save(Seq(u64::from(q)), ThreadId(1), i).is_err() {
+            return Err(NoMemory);
+        }
+    }
+    Ok(())
+}
+
+fn take_half(store: &mut Store<u32>, n: u32) -> u32 {
+    let mut taken = 0u32;
+    for i in 0..n {
+        let q = scattered(i, n);
+        if q % 2 == 0 && store.take(Seq(u64::from(q)), ThreadId(1)).is_some() {
+            taken = taken.saturating_add(1);
+        }
+    }
+    taken
+}
+
+fn drop_all(store: &mut Store<u32>, n: u32) {
+    for q in 0..n {
+        store.drop_at(Seq(u64::from(q)));
+        store.drop_before(Seq(u64::from(q)));
+    }
+}

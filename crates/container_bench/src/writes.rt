@@ -1,0 +1,105 @@
+//! Writes of many references, and of one that leave the middle of its log.
+ghost use Rattle.std.specs.Prelude.{◌≡◌, ◌<◌, ◌≤◌, ◌+◌, ℕ, [], IsTrue, OnOk};
+ghost use Rattle.std.specs.List.{AllByRecursion};
+ghost use Rattle.ref_log.specs.Log.{writes_of, has_write};
+ghost use Rattle.container_bench.specs.Filled.{IsFilled};
+
+use ref_log::RefLog;
+use stab_base::{NoMemory, RefId, Seq, Value};
+use std::alloc::Global;
+
+const LONG: RefId = RefId(0);
+
+/// How many references had a value after each was written twice and the log was cut.
+pub fn run(alloc: Global, n: u32) -> Result<u32, NoMemory>
+    requires { n ≤ 1000000 }
+{
+    let mut wide = RefLog::new(alloc);
+    make_all(&mut wide, n)?;
+    write_again(&mut wide, n)?;
+    cut_all(&mut wide, n);
+    let there = read_all(&wide, n);
+    let mut long = RefLog::new(alloc);
+    write_all(&mut long, n)?;
+    strike_half(&mut long, n);
+    Ok(there)
+}
+
+fn make_all(log: &mut RefLog, n: u32) -> Result<(), NoMemory>
+    requires uncut { log.old.last_cut ≡ 0 }
+    requires empty { (r : ℕ) → writes_of log.old r ≡ [] }
+    ensures { OnOk result (IsFilled n (n + 1) log.new) }
+{
+    for r in 0..n {
+        if log
+            .make(RefId(r), Seq(u64::from(r) + 1), Value::unit())
+            .is_err()
+        {
+            return Err(NoMemory);
+        }
+    }
+    Ok(())
+}
+
+fn write_again(log: &mut RefLog, n: u32) -> Result<(), NoMemory>
+    requires few { n ≤ 1000000 }
+    requires filled { IsFilled n (n + 1) log.old }
+    ensures { OnOk result (IsFilled n (n + n + 1) log.new) }
+{
+    for r in 0..n {
+        let q = Seq(u64::from(n) + u64::from(r) + 1);
+        if log.write(RefId(r), q, Value::unit()).is_err() {
+            return Err(NoMemory);
+        }
+    }
+    Ok(())
+}
+
+// Cuts above all writes, so that the first write of each reference goes.
+fn cut_all(log: &mut RefLog, n: u32)
+    requires few { n ≤ 1000000 }
+    requires filled { IsFilled n (n + n + 1) log.old }
+{
+    log.cut(Seq(u64::from(n) + u64::from(n) + 1));
+}
+
+fn read_all(log: &RefLog, n: u32) -> u32 {
+    let mut there = 0u32;
+    for r in 0..n {
+        if log.read(RefId(r)).is_some() {
+            there = there.saturating_add(1);
+        }
+    }
+    there
+}
+
+// Writes of one reference under the numbers from 1 to n.
+fn write_all(log: &mut RefLog, n: u32) -> Result<(), NoMemory>
+    requires uncut { log.old.last_cut ≡ 0 }
+    requires empty { (r : ℕ) → writes_of log.old r ≡ [] }
+    ensures uncut { log.new.last_cut ≡ 0 }
+    ensures written { OnOk result ((q : ℕ) → 1 ≤ q → q ≤ n → IsTrue (has_write q (writes_of log.new 0))) }
+{
+    if log.make(LONG, Seq(1), Value::unit()).is_err() {
+        return Err(NoMemory);
+    }
+    for q in 1..n {
+        if log
+            .write(LONG, Seq(u64::from(q) + 1), Value::unit())
+            .is_err()
+        {
+            return Err(NoMemory);
+        }
+    }
+    Ok(())
+}
+
+// Strikes the upper half of the writes, each of which but the last has others on both sides.
+fn strike_half(log: &mut RefLog, n: u32)
+    requires uncut { log.old.last_cut ≡ 0 }
+    requires written { (q : ℕ) → 1 ≤ q → q ≤ n → IsTrue (has_write q (writes_of log.old 0)) }
+{
+    for q in n / 2..n {
+        log.strike(LONG, Seq(u64::from(q) + 1));
+    }
+}

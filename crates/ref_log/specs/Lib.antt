@@ -1,0 +1,4 @@
+pub mod Log
+pub mod Calls
+pub mod Layout
+pub mod Index

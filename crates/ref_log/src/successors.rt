@@ -1,0 +1,47 @@
+//! The writes that have an earlier one of their reference, in the order of their numbers.
+ghost use Rattle.std.specs.Prelude.{◌≡◌, ◌<◌, ◌≤◌, ◌+◌, ℕ, true, not, nat_eq, length, ◌&&◌, ◌||◌, IfSome, IfNone, OnSome, OnOk, OnErr};
+ghost use Rattle.ref_log.specs.Index.{is_among};
+
+use stab_base::{NoMemory, RefId, Seq};
+use std::collections::BTreeSet;
+
+#[derive(Clone, Copy, PartialEq, Eq, PartialOrd, Ord)]
+pub struct Successor {
+    pub number: Seq,
+    pub reference: RefId,
+}
+
+pub type Successors = BTreeSet<Successor>;
+
+pub fn add(successors: &mut Successors, number: Seq, reference: RefId) -> Result<(), NoMemory>
+    ensures ok { OnOk result ((p s : ℕ) → is_among successors.new.keys p s
+        ≡ (is_among successors.old.keys p s || nat_eq number.0 p && nat_eq reference.0 s)) }
+    ensures err { OnErr result (successors.new.keys ≡ successors.old.keys) }
+{
+    let _new = successors.insert(Successor { number, reference })?;
+    Ok(())
+}
+
+pub fn forget(successors: &mut Successors, number: Seq, reference: RefId)
+    ensures { (p s : ℕ) → is_among successors.new.keys p s
+        ≡ (is_among successors.old.keys p s && not (nat_eq number.0 p && nat_eq reference.0 s)) }
+{
+    let _was = successors.remove(&Successor { number, reference });
+}
+
+/// Takes out the first one, if it is below `q`.
+pub fn pop_below(successors: &mut Successors, q: Seq) -> Option<Successor>
+    ensures below { IfSome result (λ k. k.number.0 < q.0) }
+    ensures among { IfSome result (λ k. is_among successors.old.keys k.number.0 k.reference.0 ≡ true) }
+    ensures least { IfSome result (λ k. (p s : ℕ) → is_among successors.old.keys p s ≡ true → k.number.0 ≤ p) }
+    ensures left { IfSome result (λ k. (p s : ℕ) → is_among successors.new.keys p s
+        ≡ (is_among successors.old.keys p s && not (nat_eq k.number.0 p && nat_eq k.reference.0 s))) }
+    ensures fewer { OnSome result (length successors.new.keys + 1 ≡ length successors.old.keys) }
+    ensures none { IfNone result ((p s : ℕ) → is_among successors.old.keys p s ≡ true → q.0 ≤ p) }
+    ensures same { IfNone result (successors.new.keys ≡ successors.old.keys) }
+{
+    if successors.first()?.number >= q {
+        return None;
+    }
+    successors.pop_first()
+}

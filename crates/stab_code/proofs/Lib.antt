@@ -1,0 +1,4 @@
+pub mod FormLemmas
+pub mod TwiceIsValid
+pub mod ValidLemmas
+pub mod WalkLemmas

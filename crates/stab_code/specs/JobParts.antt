@@ -1,0 +1,22 @@
+-- What a run is given.
+use Rattle.std.specs.Prelude.{ℕ, ◌≤◌, ℤ, List, length}
+use Rattle.stab_code.specs.declared.job.TheConstants.{MAX_FUEL, MAX_QUANTUM, MAX_SCRIPT}
+use Rattle.stab_code.specs.ProgramParts.{ProgramParts}
+
+-- a job: a program, the numbers that its probes get, its fuel, and the most steps that a thread makes at a time
+pub record JobParts : Type 0 where
+  pub program : ProgramParts
+  pub script : List ℤ
+  pub fuel : ℕ
+  pub quantum : ℕ
+
+abbrev pub job_of : ProgramParts → List ℤ → ℕ → ℕ → JobParts
+job_of program script fuel quantum = record { program = program; script = script; fuel = fuel; quantum = quantum }
+
+-- a job that keeps its limits
+pub record IsWithinLimits (job : JobParts) : Type 0 where
+  pub some_fuel : 1 ≤ job.fuel
+  pub fuel_within : job.fuel ≤ MAX_FUEL
+  pub some_quantum : 1 ≤ job.quantum
+  pub quantum_within : job.quantum ≤ MAX_QUANTUM
+  pub script_within : length job.script ≤ MAX_SCRIPT

@@ -1,0 +1,10 @@
+pub mod FormDepth
+pub mod JobParts
+pub mod Parts
+pub mod ProgramParts
+pub mod Scope
+pub mod Valid
+pub mod Walk
+pub mod Written
+pub mod WrittenCode
+pub mod WrittenType

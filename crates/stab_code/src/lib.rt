@@ -1,0 +1,17 @@
+//! A program of the language as data: written types, nodes, functions, and the job that a run is given.
+#![tactic(auto)]
+
+mod function;
+mod job;
+mod node;
+mod program;
+mod same;
+#[cfg(test)]
+mod tests;
+mod ty;
+
+pub use function::Function;
+pub use job::{Job, MAX_FUEL, MAX_QUANTUM, MAX_SCRIPT};
+pub use node::{Args, Item, Items, MAX_FORM_DEPTH, Node, NodeId, Op};
+pub use program::Program;
+pub use ty::{Ty, TyForm};
