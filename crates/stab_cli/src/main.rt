@@ -8,26 +8,27 @@ use std::process::ExitCode;
 use std::{env, io};
 
 /// A gate at which no worker waits.
-struct Open;
+struct OpenGate;
 
-impl Gate for Open {
+impl Gate for OpenGate {
     fn before_commit(&self, _worker: u32) {}
 }
 
-fn main(rt: HostRuntime) -> io::Result<ExitCode> {
+fn main(rt: HostRuntime) -> ExitCode {
     let report = match words(&rt) {
         Ok(words) => {
-            let mut files = DiskFiles::new(rt.clone()?);
+            let mut files = DiskFiles::new(&rt);
             let mut sink = OutSink::new(io::writer(&rt));
-            stab(&rt, rt.alloc(), &words, &mut files, &mut sink, &Open)
+            stab(&rt, rt.alloc(), &words, &mut files, &mut sink, &OpenGate)
         }
-        Err(error) => unread(&error),
+        Err(error) => refused_words(&error),
     };
     let mut line = Vec::new(rt.alloc());
     if reason(rt.alloc(), &report, &mut line).is_ok() {
-        rt.stderr().write_all(&line)?;
+        // A reason that can't be written changes no status.
+        let _ = rt.stderr().write_all(&line);
     }
-    Ok(ExitCode::from(report.status.number()))
+    ExitCode::from(report.status.number())
 }
 
 // The words behind the program's name.
@@ -40,7 +41,7 @@ fn words(rt: &HostRuntime) -> io::Result<Vec<String>> {
 }
 
 // An argument that isn't text is no word of a command.
-fn unread(error: &io::Error) -> Report {
+fn refused_words(error: &io::Error) -> Report {
     let status = if error.kind() == ErrorKind::OutOfMemory {
         Status::NoMemory
     } else {

@@ -1,10 +1,10 @@
 -- A text has more bytes than its program has steps to make.
-use Rattle.std.proofs.Common.{arith, ◌≡◌, ℕ, suc, ◌+◌, ◌<◌, ◌≤◌, List, [], ◌∷◌, ◌++◌, length, length-append, Option, Some, None, ◌⊎◌, inl, inr, refl, sym, ap, subst, ◌∙◌}
+use Rattle.std.proofs.Common.{arith, ◌≡◌, ℕ, suc, ◌+◌, ◌<◌, ◌≤◌, List, [], ◌∷◌, ◌++◌, length, length-append, Option, Some, None, inl, inr, ap}
 use Rattle.sum_reader.specs.declared.token.Token.{Token}
 use Rattle.sum_reader.specs.declared.token.Token.TheVariants.{Plus, CloseParen, CloseBrace, Semicolon}
 use Rattle.sum_reader.specs.Tree as tree
 use Rattle.sum_reader.specs.Tree.{Tree, number, plus, tokens_of}
-use Rattle.sum_reader.specs.Text.{keyword, IsLexeme, Begins, Spells}
+use Rattle.sum_reader.specs.Text.{keyword, IsLexeme, Spells}
 use Rattle.sum_reader.specs.Program.{Body, items_tokens, last_tokens, program_tokens, IsProgram}
 use Rattle.std.proofs.lemmas.List.Sums.{sum_by-cons}
 use Rattle.stab_journal.specs.declared.event.Label.{Label}

@@ -1,13 +1,16 @@
 -- What a status says of a run that came to rest.
-use Rattle.std.proofs.Common.{◌≡◌, ℕ, List, Option, Some, None, ap, sym, subst, ◌∙◌}
+use Rattle.std.specs.FinMap as map
+use Rattle.std.specs.List.{AllByRecursion}
+use Rattle.std.proofs.Common.{◌≡◌, ◌⊎◌, inl, inr, ℕ, List, [], ◌∷◌, Some, None, refl, ap, sym, subst, ◌∙◌}
 use Rattle.sum_reader.specs.Program.{Body, IsProgram}
 use Rattle.plain_model.specs.Job.{default_job}
 use Rattle.plain_model.specs.Program.{main_expr}
-use Rattle.plain_model.specs.State.{IsQuiet}
+use Rattle.plain_model.specs.State.{State, IsQuiet, AllDone, IsEnded, IsDone}
+use Rattle.plain_model.specs.Expression.{Expr, Look, done, fault, act, pure, look}
 use Rattle.stab_top.specs.declared.report.Status.{Status}
 use Rattle.stab_top.specs.declared.report.Status.TheVariants.{Done, Held, BadWords, BadText, NoFile, TooBig, FileFault, SinkFault, Spent, NoMemory, BadProbes, BadTrace, BadScript, No, NotBuilt}
 use Rattle.stab_top.specs.Book.{Book, IsShown}
-use Rattle.stab_top.specs.Call.{Outcome, CameToRest, EndSays, Ends, TextSays}
+use Rattle.stab_top.specs.Call.{Outcome, CameToRest, EndSays, TextSays, IsFailed, AnyFailed, SomeFailed}
 
 -- the book of a whole run
 pub came_to_rest : (bytes : List ℕ) (program : Body) (book : Book) → IsProgram bytes program → book.job ≡ default_job program → IsShown (main_expr book.job.program) book.history book.state → IsQuiet book.state → CameToRest bytes book
@@ -31,3 +34,17 @@ ended BadTrace bytes o book reported no_file rest end = elim end [ ]
 ended BadScript bytes o book reported no_file rest end = elim end [ ]
 ended No bytes o book reported no_file rest end = elim end [ ]
 ended NotBuilt bytes o book reported no_file rest end = elim end [ ]
+
+one_failed : (e : Expr) (es : List Expr) (l : Look) → look e ≡ l → IsEnded l → AllByRecursion (λ x. IsEnded (look x)) es → (IsDone l × AllByRecursion (λ x. IsDone (look x)) es → ⊥) → ((AllByRecursion (λ x. IsDone (look x)) es → ⊥) → AnyFailed es) → IsFailed l ⊎ AnyFailed es
+one_failed e es (done v) is ended rest some others = inr (others (λ all. some (tt, all)))
+one_failed e es (fault k) is ended rest some others = inl tt
+one_failed e es (act a) is ended rest some others = elim ended [ ]
+one_failed e es (pure d) is ended rest some others = elim ended [ ]
+
+any_failed : (es : List Expr) → AllByRecursion (λ x. IsEnded (look x)) es → (AllByRecursion (λ x. IsDone (look x)) es → ⊥) → AnyFailed es
+any_failed [] ended some = some tt
+any_failed (e ∷ es) ended some = one_failed e es (look e) refl ended.0 ended.1 some (λ more. any_failed es ended.1 more)
+
+-- where all threads have ended and not every one without a fault, one failed
+pub some_failed : (s : State) → IsQuiet s → (AllDone s → ⊥) → SomeFailed s
+some_failed s quiet some = any_failed (map.values s.threads) quiet some

@@ -3,3 +3,4 @@ pub mod Turning
 pub mod Bounding
 pub mod Pieces
 pub mod Ending
+pub mod Complete

@@ -2,7 +2,7 @@
 use Rattle.std.proofs.Common.{◌≡◌, ◌++◌, ℕ, List, Option, take, drop, append_assoc, ap, sym, subst, ◌∙◌}
 use Rattle.std.proofs.lemmas.List.{take-append-drop}
 use Rattle.stab_files.specs.Told.{Appends, AppendsPrefix}
-use Rattle.stab_files.proofs.Puts.{appends_trans, appends_prefix_trans, appends_prefix_more}
+use Rattle.stab_files.proofs.Puts.{appends_prefix_trans, appends_prefix_more}
 
 -- what was written, the next piece and what comes after it
 text_is : (text front rest line others : List ℕ) (n : ℕ) → text ≡ front ++ rest → line ≡ take n rest → others ≡ drop n rest → text ≡ front ++ (line ++ others)

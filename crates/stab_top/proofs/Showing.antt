@@ -1,15 +1,14 @@
 -- A journal that stands for a run goes on standing for one, step by step.
-use Rattle.std.proofs.Common.{arith, ◌≡◌, ℕ, suc, ◌+◌, ◌<◌, ◌≤◌, List, [], ◌∷◌, ◌++◌, length, length-append, Option, Some, None, option_and_then, refl, sym, ap, subst, ◌∙◌}
+use Rattle.std.proofs.Common.{arith, ◌≡◌, ℕ, ◌+◌, ◌<◌, ◌≤◌, List, [], ◌∷◌, ◌++◌, length, length-append, Option, Some, None, option_and_then, refl, sym, ap, subst, ◌∙◌}
 use Rattle.stab_journal.specs.declared.event.Label.{Label}
 use Rattle.stab_journal.specs.declared.event.What.TheVariants.{Step}
 use Rattle.stab_journal.specs.declared.event.Event.{Event}
 use Rattle.stab_journal.specs.declared.event.Numbered.{Numbered}
 use Rattle.stab_journal.specs.Journal.{Journal, survivors, step_at}
 use Rattle.plain_model.specs.Expression.{Expr}
-use Rattle.plain_model.specs.State.{State, start, plain, after_steps, end_of}
-use Rattle.plain_model.specs.Standing.{StandsFor, nothing, step, Rises, IsRun, Shows}
+use Rattle.plain_model.specs.State.{State, start, plain, after_steps}
+use Rattle.plain_model.specs.Standing.{StandsFor, nothing, step, Rises, IsRun}
 use Rattle.stab_top.specs.Book.{IsShown}
-use Rattle.stab_top.specs.Turn.{Goes}
 
 -- no number of the run is above this one
 Below : ℕ → List Numbered → Type 0

@@ -3,8 +3,7 @@ use Rattle.std.specs.Ordering.{nat_cmp, eq_by_cmp}
 use Rattle.std.specs.Cmp.{nat_cmp_total, eq_by_cmp_equiv}
 use Rattle.std.specs.FinMap as map
 use Rattle.std.specs.FinMap.{FinMap, nat_cmp-IsAntisymmetric, get-insert, same_map}
-use Rattle.std.proofs.Common.{arith, ◌≡◌, ℕ, zero, suc, ◌+◌, ◌≤◌, ◌<◌, Bool, true, false, cond, Option, Some, None, IsSome, IsSomeAnd, option_and_then, option_map, refl, sym, ap, subst, ◌∙◌}
-use Rattle.stab_base.specs.Datum.{Datum}
+use Rattle.std.proofs.Common.{arith, ◌≡◌, ℕ, zero, suc, ◌+◌, ◌≤◌, Bool, true, false, cond, Option, Some, None, IsSome, IsSomeAnd, option_and_then, option_map, refl, sym, ap, subst, ◌∙◌}
 use Rattle.stab_base.specs.declared.fault.Fault as base
 use Rattle.plain_model.specs.declared.thread.Look as seen
 use Rattle.plain_model.specs.declared.thread.Look.TheVariants.{Pure, Act, Done, Failed}

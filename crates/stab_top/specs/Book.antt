@@ -1,5 +1,5 @@
 -- What a book shows.
-use Rattle.std.specs.Prelude.{◌≡◌, ℕ, ◌+◌, ◌≤◌, List, length}
+use Rattle.std.specs.Prelude.{◌+◌, ◌≤◌, List}
 use Rattle.stab_journal.specs.declared.event.Numbered.{Numbered}
 use Rattle.stab_journal.specs.Journal.{Journal}
 use Rattle.stab_journal.specs.Event.{weight_of}

@@ -1,9 +1,11 @@
 -- What the one call says by the status that it reports.
-use Rattle.std.specs.Prelude.{◌≡◌, ℕ, ◌<◌, ◌≤◌, List, [], length, Option, Some, None, IfSome, IsSome, IsSomeAnd, ◌⊎◌}
+use Rattle.std.specs.Prelude.{◌≡◌, ℕ, ◌<◌, ◌≤◌, List, [], ◌∷◌, length, Option, Some, None, IfSome, IsSome, IsSomeAnd, ◌⊎◌}
 use Rattle.stab_files.specs.Count.{Rose}
 use Rattle.stab_files.specs.Entry.{Entry, contents_of}
 use Rattle.stab_files.specs.Told.{Appends, AppendsPrefix}
 use Rattle.sum_reader.specs.Program as text
+use Rattle.std.specs.FinMap as map
+use Rattle.plain_model.specs.Expression.{Expr, Look, fault, look}
 use Rattle.plain_model.specs.Job.{default_job}
 use Rattle.plain_model.specs.Program.{main_expr}
 use Rattle.plain_model.specs.State.{State, IsQuiet, AllDone}
@@ -42,10 +44,22 @@ pub record CameToRest (bytes : List ℕ) (book : Book) : Type 0 where
   pub shown : IsShown (main_expr book.job.program) book.history book.state
   pub quiet : IsQuiet book.state
 
+abbrev pub IsFailed : Look → Type 0
+IsFailed (fault k) = Unit {0}
+IsFailed _ = ⊥
+
+abbrev pub AnyFailed : List Expr → Type 0
+AnyFailed [] = ⊥
+AnyFailed (e ∷ es) = IsFailed (look e) ⊎ AnyFailed es
+
+-- a thread of the state failed
+abbrev pub SomeFailed : State → Type 0
+SomeFailed s = AnyFailed (map.values s.threads)
+
 -- what the status says of the end of a run and of the sink
 abbrev pub EndSays : Status → State → Device (List ℕ) → Device (List ℕ) → Type 0
 EndSays Done state sink after = AllDone state × Appends sink.told after.told (shown [] state) × (after.faults ≡ sink.faults)
-EndSays Held state sink after = (AllDone state → ⊥) × Appends sink.told after.told (shown [] state) × (after.faults ≡ sink.faults)
+EndSays Held state sink after = SomeFailed state × Appends sink.told after.told (shown [] state) × (after.faults ≡ sink.faults)
 EndSays SinkFault state sink after = AppendsPrefix sink.told after.told (shown [] state) × Rose sink.faults after.faults
 EndSays _ state sink after = ⊥
 
@@ -102,3 +116,14 @@ pub record Loads (c : Call) (bytes : List ℕ) : Type 0 where
 -- what a call says by its status: it was refused, or a text was loaded and its run says it
 abbrev pub Says : Status → Call → Type 0
 Says status c = RefusalSays status c ⊎ ((bytes : List ℕ) × Loads c bytes × TextSays status bytes c.outcome)
+
+-- the run came to its end, or memory was refused
+abbrev pub Ran : Status → Type 0
+Ran Done = Unit {0}
+Ran Held = Unit {0}
+Ran NoMemory = Unit {0}
+Ran _ = ⊥
+
+-- the files or the sink counted a fault in this call
+abbrev pub CountedFault : Call → Type 0
+CountedFault c = Rose c.files.faults c.files_after ⊎ Rose c.outcome.sink.faults c.outcome.sink_after.faults

@@ -12,4 +12,4 @@ mod writing;
 
 pub use book::Book;
 pub use report::{Gate, Report, Role, Status, reason};
-pub use top::stab;
+pub use top::{good_programs_run, stab};

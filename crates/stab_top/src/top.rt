@@ -1,12 +1,15 @@
 //! The one call that the program makes.
-ghost use Rattle.std.specs.Prelude.{◌≡◌, ◌≤◌, [], length, map as each, string_bytes, Some, None, IfOk};
+ghost use Rattle.std.specs.Prelude.{◌≡◌, ◌≤◌, ◌⊎◌, ℕ, List, [], length, map as each, string_bytes, Some, None, IfOk};
 ghost use Rattle.plain_model.specs.Job.{default_job};
 ghost use Rattle.plain_model.specs.Program.{main_expr};
 ghost use Rattle.plain_model.specs.Shown.{shown};
 ghost use Rattle.plain_model.specs.State.{IsQuiet, work};
 ghost use Rattle.stab_top.specs.Book.{IsShown};
-ghost use Rattle.stab_top.specs.Call.{EndSays, Says, TextSays};
+ghost use Rattle.stab_top.specs.Call.{Call, CountedFault, EndSays, max_text, Ran, Says, TextSays};
 ghost use Rattle.stab_top.specs.Words.{run_file};
+ghost use Rattle.stab_files.specs.Entry.{contents_of, Entry};
+ghost use Rattle.sum_reader.specs.Program.{Body, IsProgram};
+ghost use Rattle.stab_top.specs.declared.report.Status.{Status};
 ghost use Rattle.stab_top.specs.declared.report.Status.TheVariants.{NotBuilt};
 
 use crate::book::Book;
@@ -34,6 +37,25 @@ pub fn stab<R: Threads + Wait + Sync, F: Files, K: Sink, G: Gate + Sync>(
     sink: &mut K,
     gate: &G,
 ) -> Report
+    ensures says { Says result.status (record {
+      words = each string_bytes words.now;
+      files = record { told = F.held files.old; faults = F.faults files.old };
+      files_after = F.faults files.new;
+      outcome = record {
+        sink = record { told = K.told sink.old; faults = K.faults sink.old };
+        sink_after = record { told = K.told sink.new; faults = K.faults sink.new };
+        book = result.book;
+        file = result.file;
+      };
+    }) }
+    ensures kept { F.held files.new ≡ F.held files.old }
+    ensures words { run_file (each string_bytes words.now) ≡ None → result.status ≡ NotBuilt }
+{
+    answer(alloc, words, files, sink)
+}
+
+// The answer, for which nothing waits.
+fn answer<F: Files, K: Sink>(alloc: Global, words: &[String], files: &mut F, sink: &mut K) -> Report
     ensures says { Says result.status (record {
       words = each string_bytes words.now;
       files = record { told = F.held files.old; faults = F.faults files.old };
@@ -97,7 +119,8 @@ fn run_program(alloc: Global, program: Program) -> Result<Book, NoMemory>
 
 // Writes what a run at rest shows.
 fn write_end<K: Sink>(book: Book, text: &[u8], sink: &mut K) -> Report
-    requires { text.now ≡ shown [] book.state }
+    requires text { text.now ≡ shown [] book.state }
+    requires quiet { IsQuiet book.state }
     ensures book { result.book ≡ Some book }
     ensures file { result.file ≡ None }
     ensures end { EndSays result.status book.state (record { told = K.told sink.old; faults = K.faults sink.old })
@@ -105,11 +128,18 @@ fn write_end<K: Sink>(book: Book, text: &[u8], sink: &mut K) -> Report
     ensures shown { IsShown (main_expr book.job.program) book.history book.state }
 {
     let done = book.state().is_done();
-    let status = match put_lines(sink, text) {
-        Err(SinkFail::Failed) => Status::SinkFault,
-        Ok(()) if done => Status::Done,
-        Ok(()) => Status::Held,
-    };
+    match put_lines(sink, text) {
+        Err(SinkFail::Failed) => ending(Status::SinkFault, book),
+        Ok(()) if done => ending(Status::Done, book),
+        Ok(()) => ending(Status::Held, book),
+    }
+}
+
+fn ending(status: Status, book: Book) -> Report
+    ensures status { result.status ≡ status }
+    ensures book { result.book ≡ Some book }
+    ensures file { result.file ≡ None }
+{
     Report {
         status,
         book: Some(book),
@@ -128,3 +158,11 @@ fn refusal(status: Status, file: Option<Role>) -> Report
         file,
     }
 }
+
+/// What the statuses say leaves no way round a good program: where the files tell that a text of the fragment is held
+/// within the limit under the name of the words, the run is done or held, or memory was refused, or a fault was counted.
+pub fn good_programs_run()
+    ensures { (status : Status) (c : Call) (files : List Entry) (name bytes : List ℕ) (program : Body) → Says status c →
+        run_file c.words ≡ Some name → c.files.told ≡ Some files → contents_of files name ≡ Some bytes →
+        length bytes ≤ max_text → IsProgram bytes program → Ran status ⊎ CountedFault c }
+{}

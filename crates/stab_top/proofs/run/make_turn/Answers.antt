@@ -1,6 +1,5 @@
-use Rattle.std.proofs.Common.{arith, ◌≡◌, ◌+◌, ◌≤◌, ◌++◌, ◌∷◌, [], length, Some, ap, sym, subst, ◌∙◌}
+use Rattle.std.proofs.Common.{arith, ◌+◌, ◌++◌, ◌∷◌, [], length, ap, sym, subst, ◌∙◌}
 use Rattle.stab_journal.specs.declared.event.What.TheVariants.{Step}
-use Rattle.stab_journal.specs.Event.{weight_of}
 use Rattle.stab_journal.specs.Journal.{survivors, step_at}
 use Rattle.plain_model.specs.State.{work_left, plain}
 use Rattle.stab_top.specs.Turn.{IsTurn}

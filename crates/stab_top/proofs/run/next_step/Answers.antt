@@ -1,5 +1,5 @@
 use Rattle.std.specs.FinMap as map
-use Rattle.std.proofs.Common.{◌≡◌, Some, IsSome, subst}
+use Rattle.std.proofs.Common.{Some, subst}
 use Rattle.plain_model.specs.Machine.{LooksAt}
 use Rattle.stab_top.proofs.Turning.{print_next}
 use Rattle.stab_top.proofs.run.next_step.Goals as goal

@@ -1,4 +1,4 @@
-use Rattle.std.proofs.Common.{arith, ◌≡◌, ◌+◌, ◌≤◌, Some, Result, Ok, Err, OnOk, is_ok, true, ap, subst, sym, ◌∙◌}
+use Rattle.std.proofs.Common.{arith, ◌≡◌, ◌+◌, ◌≤◌, Some, Result, Ok, Err, OnOk, is_ok, true}
 use Rattle.plain_model.specs.State.{local_of, work_left}
 use Rattle.stab_top.proofs.Turning.{local_more}
 use Rattle.stab_top.proofs.run.pure_steps.Goals as goal

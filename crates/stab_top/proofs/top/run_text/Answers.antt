@@ -1,4 +1,4 @@
-use Rattle.std.proofs.Common.{arith, ◌≡◌, ◌≤◌}
+use Rattle.std.proofs.Common.{arith}
 use Rattle.stab_top.proofs.Bounding.{text_small}
 use Rattle.stab_top.proofs.Ending.{came_to_rest, ended}
 use Rattle.stab_top.proofs.top.run_text.Goals as goal

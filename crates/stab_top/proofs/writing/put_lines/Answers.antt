@@ -1,4 +1,4 @@
-use Rattle.std.proofs.Common.{◌≡◌, ◌++◌, ◌∙◌}
+use Rattle.std.proofs.Common.{◌++◌, ◌∙◌}
 use Rattle.stab_files.proofs.Puts.{appends_trans}
 use Rattle.stab_top.proofs.Pieces.{piece_cut, piece_whole}
 use Rattle.stab_top.proofs.writing.put_lines.Goals as goal
