@@ -10,7 +10,7 @@ use Rattle.stab_base.specs.declared.numbers.ChanId.{ChanId}
 use Rattle.rendezvous.specs.declared.offer.Offer.{Offer}
 use Rattle.rendezvous.specs.declared.offer.Offer.TheVariants as offer
 use Rattle.rendezvous.specs.Line.{Line, Lines, nobody, joined, left, HasNoOffer, AreThere}
-use Rattle.rendezvous.proofs.Lines.{any-without}
+use Rattle.rendezvous.proofs.Changes.{any-without}
 
 still : (o : Option Line) (f : Line → Line) → IsSome o → IsSome (option_map f o)
 still None f is = cc

@@ -1,4 +1,3 @@
-pub mod Lists
-pub mod Lines
-pub mod Firsts
+pub mod Changes
+pub mod InLine
 pub mod CallerLemmas

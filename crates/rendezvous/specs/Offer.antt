@@ -21,8 +21,3 @@ abbrev pub receives_on : ℕ → Offer → Bool
 receives_on c (offer.Send a) = false
 receives_on c (offer.Recv a) = nat_eq c a.0
 receives_on c (offer.Pick a b) = nat_eq c a.0 || nat_eq c b.0
-
--- whether it would act on the channel c at this side
-abbrev pub waits_on : Side → ℕ → Offer → Bool
-waits_on side.Send c offer = sends_on c offer
-waits_on side.Recv c offer = receives_on c offer

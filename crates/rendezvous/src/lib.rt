@@ -1,8 +1,11 @@
 //! The offers of threads that wait on channels, and who meets whom.
 #![tactic(auto)]
 
+mod channels;
 mod offer;
 mod offers;
+mod queue;
+mod queues;
 #[cfg(test)]
 mod tests;
 

@@ -2,40 +2,40 @@
 
 ghost use Rattle.std.specs.Prelude.{◌≡◌, IsSome, OnOk, OnErr, Some, None, ℕ, option_map, option_and_then, slice_get, true};
 ghost use Rattle.std.specs.FinMap as map;
-ghost use Rattle.rendezvous.specs.Offer.{opposite, waits_on};
+ghost use Rattle.rendezvous.specs.Offer.{opposite};
 ghost use Rattle.rendezvous.specs.Line.{nobody, waiting, joined, left, HasNoOffer, AreThere};
-ghost use Rattle.rendezvous.specs.Layout.{line_at};
 
+use crate::channels;
 use crate::offer::{Offer, Side};
+use crate::queues::Queues;
 use stab_base::{ChanId, NoMemory, ThreadId};
 use std::alloc::Global;
+use std::collections::BTreeMap;
 use std::marker::Model;
-
-#[derive(Clone, Copy)]
-struct Waiting {
-    thread: ThreadId,
-    offer: Offer,
-}
 
 /// The channels that are there, and who waits on each.
 #[derive(Drop)]
 pub struct Offers {
-    channels: Vec<ChanId>,
-    /// All offers, the longest waiting first. A pick stands here once.
-    waiting: Vec<Waiting>,
+    /// For the lines of new channels.
+    alloc: Global,
+    /// By the number of the channel.
+    lines: BTreeMap<u32, Queues>,
+    /// What each thread that waits offers, by the number of the thread.
+    offers: BTreeMap<u32, Offer>,
 }
 
 impl Model for Offers {
+    ghost use Rattle.std.specs.FinMap.{from_entries};
     ghost use Rattle.rendezvous.specs.Line.{Lines, lines_code};
-    ghost use Rattle.rendezvous.specs.Layout.{lines_of, NoneAstray};
+    ghost use Rattle.rendezvous.specs.Layout.{Backed};
 
     ghost Value = { Lines };
 
     ghost coded = { lines_code };
 
-    ghost view = { λ o. lines_of o.channels.items o.waiting.items };
+    ghost view = { λ o. from_entries o.lines.entries };
 
-    ghost invariant = { λ o. NoneAstray o.channels.items o.waiting.items };
+    ghost invariant = { λ o. Backed o.lines.entries o.offers.entries };
 }
 
 impl Offers {
@@ -43,8 +43,9 @@ impl Offers {
         ensures { result ≡ map.empty }
     {
         Offers {
-            channels: Vec::new(alloc),
-            waiting: Vec::new(alloc),
+            alloc,
+            lines: BTreeMap::new(alloc),
+            offers: BTreeMap::new(alloc),
         }
     }
 
@@ -54,10 +55,10 @@ impl Offers {
         ensures ok { OnOk result (self.new ≡ map.insert self.old c.0 nobody) }
         ensures err { OnErr result (self.new ≡ self.old) }
     {
-        if self.channels.reserve(1).is_err() {
+        let line = Queues::new(self.alloc)?;
+        if self.lines.insert(c.0, line).is_err() {
             return Err(NoMemory);
         }
-        self.channels.push_reserved(c);
         Ok(())
     }
 
@@ -67,7 +68,8 @@ impl Offers {
         ensures { option_map (λ t. t.0) result
             ≡ option_and_then (λ line. slice_get (waiting (opposite side) line) 0) (map.get self.now c.0) }
     {
-        first_that(&self.waiting, c, opposite_of(side))
+        let thread = self.lines.get(&c.0)?.first(opposite_of(side))?;
+        Some(ThreadId(thread))
     }
 
     /// Lets a thread wait with its offer. Without memory nothing of it waits, of a pick neither part.
@@ -78,10 +80,13 @@ impl Offers {
             map.get self.new c ≡ option_map (joined t.0 offer c) (map.get self.old c)) }
         ensures err { OnErr result (self.new ≡ self.old) }
     {
-        if self.waiting.reserve(1).is_err() {
+        if self.offers.insert(t.0, offer).is_err() {
             return Err(NoMemory);
         }
-        self.waiting.push_reserved(Waiting { thread: t, offer });
+        if channels::enter_all(&mut self.lines, offer, t).is_err() {
+            let _offer = self.offers.remove(&t.0);
+            return Err(NoMemory);
+        }
         Ok(())
     }
 
@@ -91,7 +96,9 @@ impl Offers {
         ensures gone { HasNoOffer self.new t.0 }
         ensures absent { HasNoOffer self.old t.0 → self.new ≡ self.old }
     {
-        self.waiting.retain(|w| w.thread.0 != t.0);
+        if let Some(offer) = self.offers.remove(&t.0) {
+            channels::leave_all(&mut self.lines, offer, t);
+        }
     }
 
     /// Removes a channel, as one whose making was undone.
@@ -99,7 +106,7 @@ impl Offers {
         requires { map.get self.old c.0 ≡ Some nobody }
         ensures { self.new ≡ map.remove self.old c.0 }
     {
-        self.channels.retain(|d| d.0 != c.0);
+        let _line = self.lines.remove(&c.0);
     }
 }
 
@@ -110,28 +117,4 @@ fn opposite_of(side: Side) -> Side
         Side::Send => Side::Recv,
         Side::Recv => Side::Send,
     }
-}
-
-// Whether an offer waits on the channel at this side.
-fn waits(offer: Offer, c: ChanId, side: Side) -> bool
-    ensures { result ≡ waits_on side c.0 offer }
-{
-    match (side, offer) {
-        (Side::Send, Offer::Send(a)) => a.0 == c.0,
-        (Side::Recv, Offer::Recv(a)) => a.0 == c.0,
-        (Side::Recv, Offer::Pick(a, b)) => a.0 == c.0 || b.0 == c.0,
-        _ => false,
-    }
-}
-
-// The thread of the first of these offers that waits on the channel at this side.
-fn first_that(all: &[Waiting], c: ChanId, side: Side) -> Option<ThreadId>
-    ensures { option_map (λ t. t.0) result ≡ slice_get (waiting side (line_at c.0 all.now)) 0 }
-{
-    for w in all {
-        if waits(w.offer, c, side) {
-            return Some(w.thread);
-        }
-    }
-    None
 }

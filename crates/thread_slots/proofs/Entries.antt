@@ -4,13 +4,12 @@ use Rattle.std.specs.List.{IsDistinct}
 use Rattle.std.specs.Option.{option_map_or}
 use Rattle.std.specs.Ordering.{nat_cmp}
 use Rattle.std.specs.FinMap.{get, insert, remove, get-empty}
-use Rattle.stab_base.specs.declared.numbers.ThreadId.{ThreadId}
 use Rattle.thread_slots.specs.Queue.{IsQueueOf}
 use Rattle.std.proofs.lemmas.List.{map-set, map-append, length-map, get_or_default, get_or_past}
 use Rattle.std.proofs.Math.ListN.{get_or-map}
 use Rattle.thread_slots.specs.declared.slots.Entry.{Entry}
 use Rattle.thread_slots.specs.Slot.{Slot, is_ready, is_ready_at, changed, put_changed, IsSound}
-use Rattle.thread_slots.specs.Layout.{by_number, numbers, slot_of, places, IsLaidOut}
+use Rattle.thread_slots.specs.Layout.{by_number, slot_of, places, IsLaidOut}
 use Rattle.thread_slots.proofs.Numbered.{get-by_number, by_number-set, by_number-clear, by_number-push, get-by_number-0, number_of}
 
 IsDistinct-nil : IsDistinct nat_eq []
@@ -88,12 +87,12 @@ module _ {C : Type 0} where
     next = omega arith;
   }
 
-  empty_queue : (es : List (Option (Entry C))) (queue : List ThreadId) → es ≡ [] → queue ≡ [] → IsQueueOf (is_ready_at (by_number (places es))) (numbers queue)
+  empty_queue : (es : List (Option (Entry C))) (queue : List ℕ) → es ≡ [] → queue ≡ [] → IsQueueOf (is_ready_at (by_number (places es))) queue
   empty_queue [] [] none empty = record { once = IsDistinct-nil; ready = λ t. sym (nobody C t) }
   empty_queue (e ∷ es) queue none empty = cc
   empty_queue [] (t ∷ queue) none empty = cc
 
-  pub IsLaidOut-new : (es : List (Option (Entry C))) (queue : List ThreadId) (capacity queue_capacity : ℕ) → es ≡ [] → queue ≡ [] → IsLaidOut (by_number (places es)) (numbers queue) (length es) 0 capacity queue_capacity
+  pub IsLaidOut-new : (es : List (Option (Entry C))) (queue : List ℕ) (capacity queue_capacity : ℕ) → es ≡ [] → queue ≡ [] → IsLaidOut (by_number (places es)) queue (length es) 0 capacity queue_capacity
   IsLaidOut-new es queue capacity queue_capacity none empty =
       let short : length es ≡ 0 = ap length none in
       record { queue = empty_queue es queue none empty; numbers = omega arith; room_for_threads = omega arith; room_for_queue = omega arith }

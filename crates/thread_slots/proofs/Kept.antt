@@ -1,25 +1,13 @@
 -- What holds of all slots stays true at each change.
-use Rattle.std.proofs.Common.{◌≡◌, ℕ, ◌+◌, ◌≤◌, ◌<◌, Bool, true, false, cond, not, nat_eq, List, [], ◌∷◌, ◌++◌, length, Option, Some, None, IsSome, refl, sym, ap, ◌∙◌, subst, arith, length-append}
-use Rattle.std.specs.List.{filter}
+use Rattle.std.proofs.Common.{◌≡◌, ℕ, Bool, true, false, cond, nat_eq, List, [], ◌∷◌, ◌++◌, Option, Some, None, IsSome, refl, sym, ap, ◌∙◌, subst, arith}
 use Rattle.std.specs.Option.{option_map_or}
 use Rattle.std.specs.Ordering.{nat_cmp, eq_by_cmp}
 use Rattle.std.specs.Cmp.{nat_cmp_total, unsigned_tied}
 use Rattle.std.specs.FinMap.{FinMap, get, insert, remove, get-insert, get-remove}
 use Rattle.std.proofs.lemmas.Bool.Decides.{nat_tests}
-use Rattle.stab_base.specs.declared.numbers.ThreadId.{ThreadId}
 use Rattle.thread_slots.specs.Queue.{is_queued, without, IsQueueOf}
 use Rattle.thread_slots.specs.Slot.{Slot, is_ready, is_ready_at, changed, put_changed}
-use Rattle.thread_slots.specs.Layout.{numbers}
-use Rattle.thread_slots.proofs.Queues.{IsQueueOf-requeued, IsQueueOf-without, length-IsQueueOf, gone, without-absent}
-use Rattle.thread_slots.proofs.Numbered.{cases_eq, apart}
-
-pub numbers-without : (t : ℕ) (queue : List ThreadId) → numbers (filter (λ u. not (nat_eq t u.0)) queue) ≡ without t (numbers queue)
-numbers-without t [] = refl
-numbers-without t (u ∷ queue) =
-    elim (nat_eq t u.0) as (λ b. numbers (cond (not b) (u ∷ filter (λ u. not (nat_eq t u.0)) queue) (filter (λ u. not (nat_eq t u.0)) queue)) ≡ cond (not b) (u.0 ∷ without t (numbers queue)) (without t (numbers queue))) [
-      | true ↦ numbers-without t queue
-      | false ↦ ap (λ us. u.0 ∷ us) (numbers-without t queue)
-    ]
+use Rattle.thread_slots.proofs.Queues.{IsQueueOf-requeued, IsQueueOf-without, gone, without-absent}
 
 pub flipped : (t u : ℕ) → eq_by_cmp nat_cmp u t ≡ nat_eq t u
 flipped t u = unsigned_tied u t ∙ grind (arith, nat_tests)
@@ -39,13 +27,6 @@ module _ {C : Type 0} where
   pub is_ready_at-remove : (threads : FinMap nat_cmp (Slot C)) (t u : ℕ) → is_ready_at (remove threads t) u ≡ cond (nat_eq t u) false (is_ready_at threads u)
   is_ready_at-remove threads t u =
       ap (λ o. option_map_or (λ slot. is_ready slot.state) o false) (get-remove nat_cmp_total threads t u ∙ ap (λ b. cond b None (get threads u)) (flipped t u)) ∙ chosen (nat_eq t u) None (get threads u)
-
-  there : (o : Option (Slot C)) → option_map_or (λ slot. is_ready slot.state) o false ≡ true → IsSome o
-  there None e = cc
-  there (Some slot) e = refl
-
-  pub live_from_ready : (threads : FinMap nat_cmp (Slot C)) (t : ℕ) → is_ready_at threads t ≡ true → IsSome (get threads t)
-  live_from_ready threads t e = there (get threads t) e
 
   -- the thread's slot is another, and it leaves its place
   pub IsQueueOf-insert : (threads : FinMap nat_cmp (Slot C)) (queue : List ℕ) (t : ℕ) (slot : Slot C) → IsQueueOf (is_ready_at threads) queue → IsQueueOf (is_ready_at (insert threads t slot)) (without t queue ++ cond (is_ready slot.state) (t ∷ []) [])
@@ -73,23 +54,11 @@ module _ {C : Type 0} where
   pub IsQueueOf-same : (threads : FinMap nat_cmp (Slot C)) (queue : List ℕ) (t : ℕ) (f : Slot C → Slot C) → ((slot : Slot C) → is_ready (f slot).state ≡ is_ready slot.state) → IsQueueOf (is_ready_at threads) queue → IsQueueOf (is_ready_at (changed threads t f)) queue
   IsQueueOf-same threads queue t f gives is = IsQueueOf-put threads queue t f (get threads t) refl gives is
 
-  in_range : (threads : FinMap nat_cmp (Slot C)) (n t : ℕ) → ((u : ℕ) → IsSome (get threads u) → (1 ≤ u) × (u < n)) → IsSome (get threads t) → (u : ℕ) → cond (nat_eq t u) true (is_ready_at threads u) ≡ true → (1 ≤ u) × (u < n)
-  in_range threads n t low live u is =
-      cases_eq t u (λ same. subst (λ u. (1 ≤ u) × (u < n)) same (low t live)) (λ other. low u (live_from_ready threads u (sym (ap (λ b. cond b true (is_ready_at threads u)) (apart t u other)) ∙ is)))
-
-  -- without a live thread the queue is shorter by two than the next number
-  pub length-without : (threads : FinMap nat_cmp (Slot C)) (queue : List ℕ) (n t : ℕ) → ((u : ℕ) → IsSome (get threads u) → (1 ≤ u) × (u < n)) → IsSome (get threads t) → IsQueueOf (is_ready_at threads) queue → length (without t queue) + 2 ≤ n
-  length-without threads queue n t low live is =
-      let positive : (1 ≤ t) × (t < n) = low t live in
-      let more : length (without t queue ++ t ∷ []) + 1 ≤ n = length-IsQueueOf n (without t queue ++ t ∷ []) (omega arith) (in_range threads n t low live) (IsQueueOf-requeued _ t true queue (λ u. refl) is) in
-      omega (arith, length-append {A = ℕ})
-
-  -- the queue is shorter than the next number
-  pub length_queue : (threads : FinMap nat_cmp (Slot C)) (queue : List ℕ) (n : ℕ) → 1 ≤ n → ((u : ℕ) → IsSome (get threads u) → (1 ≤ u) × (u < n)) → IsQueueOf (is_ready_at threads) queue → length queue + 1 ≤ n
-  length_queue threads queue n positive low is = length-IsQueueOf n queue positive (λ u e. low u (live_from_ready threads u e)) is
+  -- a number that isn't live doesn't stand in the queue
+  pub not_queued-fresh : (threads : FinMap nat_cmp (Slot C)) (queue : List ℕ) (t : ℕ) → get threads t ≡ None → IsQueueOf (is_ready_at threads) queue → is_queued t queue ≡ false
+  not_queued-fresh threads queue t out is = is.ready t ∙ ap (λ o. option_map_or (λ slot. is_ready slot.state) o false) out
 
   -- a new thread comes to the tail where it is ready
   pub IsQueueOf-add : (threads : FinMap nat_cmp (Slot C)) (queue : List ℕ) (t : ℕ) (slot : Slot C) → get threads t ≡ None → IsQueueOf (is_ready_at threads) queue → IsQueueOf (is_ready_at (insert threads t slot)) (queue ++ cond (is_ready slot.state) (t ∷ []) [])
   IsQueueOf-add threads queue t slot out is =
-      let away : is_queued t queue ≡ false = is.ready t ∙ ap (λ o. option_map_or (λ slot. is_ready slot.state) o false) out in
-      subst (λ q. IsQueueOf (is_ready_at (insert threads t slot)) (q ++ cond (is_ready slot.state) (t ∷ []) [])) (without-absent t queue away) (IsQueueOf-insert threads queue t slot is)
+      subst (λ q. IsQueueOf (is_ready_at (insert threads t slot)) (q ++ cond (is_ready slot.state) (t ∷ []) [])) (without-absent t queue (not_queued-fresh threads queue t out is)) (IsQueueOf-insert threads queue t slot is)

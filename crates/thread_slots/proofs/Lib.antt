@@ -1,5 +1,7 @@
 pub mod Queues
 pub mod Numbered
+pub mod Rings
+pub mod Links
 pub mod Kept
 pub mod Entries
 pub mod Layouts

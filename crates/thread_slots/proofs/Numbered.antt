@@ -7,7 +7,7 @@ use Rattle.std.proofs.lemmas.Bool.Decides.{nat_tests, Decides-eqb}
 use Rattle.std.proofs.lemmas.List.{get_or-set_same, get_or-set_other}
 use Rattle.thread_slots.specs.Layout.{numbered, by_number}
 
-absurd_bool : {P : Type 0} (b : Bool) → b ≡ false → b ≡ true → P
+pub absurd_bool : {P : Type 0} (b : Bool) → b ≡ false → b ≡ true → P
 absurd_bool b f t = cc
 
 pub cases_eq : {P : Type 0} (a b : ℕ) → (a ≡ b → P) → (a ≢ b → P) → P

@@ -52,6 +52,10 @@ IsQueueOf-push is_ready' t queue out is old = record {
 not_itself : (t : ℕ) (b : Bool) → (not (nat_eq t t) && b) ≡ false
 not_itself t b = grind (arith, nat_tests)
 
+-- a thread that left doesn't stand in the queue
+pub not_queued-without : (t : ℕ) (queue : List ℕ) → is_queued t (without t queue) ≡ false
+not_queued-without t queue = is_queued-without t t queue ∙ not_itself t (is_queued t queue)
+
 again : (t u : ℕ) (b r : Bool) → b ≡ cond (nat_eq t u) true r → b ≡ (nat_eq t u || (not (nat_eq t u) && r))
 again t u b r is = elim (nat_eq t u) as (λ e. b ≡ cond e true r → b ≡ (e || (not e && r))) [ true ↦ λ h. h | false ↦ λ h. h ] is
 

@@ -2,14 +2,9 @@
 use Rattle.std.specs.Prelude.{ℕ, ◌+◌, ◌≤◌, ◌<◌, ◌^◌, List, [], ◌∷◌, Option, Some, None, map, option_map}
 use Rattle.std.specs.Ordering.{nat_cmp}
 use Rattle.std.specs.FinMap.{FinMap, from_entries}
-use Rattle.stab_base.specs.declared.numbers.ThreadId.{ThreadId}
 use Rattle.thread_slots.specs.declared.slots.Entry.{Entry}
 use Rattle.thread_slots.specs.Queue.{IsQueueOf}
 use Rattle.thread_slots.specs.Slot.{Slot, is_ready_at}
-
--- the numbers of threads
-abbrev pub numbers : List ThreadId → List ℕ
-numbers = map (λ t. t.0)
 
 module _ {X : Type 0} where
   -- what is there, with its number, where the first place has n
@@ -31,7 +26,7 @@ module _ {C : Type 0} where
   abbrev pub places : List (Option (Entry C)) → List (Option (Slot C))
   places es = map (option_map slot_of) es
 
-  -- the queue is that of the threads, numbers are left, and both lists have room for each number given and for as many more as there is room for
+  -- the queue is that of the threads, numbers are left, and the threads and the queue have memory for each number given and for as many more as there is room for
   pub record IsLaidOut (threads : FinMap nat_cmp (Slot C)) (waiting : List ℕ) (given room capacity queue_capacity : ℕ) : Type 0 where
     pub queue : IsQueueOf (is_ready_at threads) waiting
     pub numbers : given + 1 < 2 ^ 32

@@ -1,13 +1,14 @@
 //! Threads by number, and the queue of those that are ready.
 
-ghost use Rattle.std.specs.Prelude.{◌≡◌, ◌+◌, ◌-◌, ◌≤◌, ◌<◌, [], ◌∷◌, ◌++◌, length, IsSome, IsSomeAnd, OnOk, option_map, slice_get, if◌then◌else◌};
+ghost use Rattle.std.specs.Prelude.{◌≡◌, ◌+◌, ◌≤◌, ◌<◌, false, [], ◌∷◌, ◌++◌, length, IsSome, IsSomeAnd, OnOk, option_map, slice_get, if◌then◌else◌};
 ghost use Rattle.std.specs.Option.{option_copied};
 ghost use Rattle.std.specs.Vec.{vec_capacity};
 ghost use Rattle.std.specs.FinMap as map;
-ghost use Rattle.thread_slots.specs.Queue.{without};
+ghost use Rattle.thread_slots.specs.Queue.{is_queued, without};
 ghost use Rattle.thread_slots.specs.Slot.{is_ready, started, restored, changed, IsSound};
-ghost use Rattle.thread_slots.specs.Layout.{numbers, by_number, places, slot_of};
+ghost use Rattle.thread_slots.specs.Layout.{by_number, places, slot_of};
 
+use crate::queue::Queue;
 use crate::state::State;
 use stab_base::{Generation, NoMemory, ThreadId};
 use std::alloc::Global;
@@ -25,18 +26,18 @@ struct Entry<C> {
 pub struct Slots<C> {
     /// The thread n at the place n - 1. A removed thread leaves its place empty.
     entries: Vec<Option<Entry<C>>>,
-    /// The ready threads, the longest ready first.
-    queue: Vec<ThreadId>,
+    /// The ready threads, the longest ready first, with a place for each number given.
+    queue: Queue,
     /// How many threads more fit without memory.
     room: usize,
 }
 
 impl<C> Model for Slots<C> {
-    ghost use Rattle.std.specs.Prelude.{◌+◌, length};
+    ghost use Rattle.std.specs.Prelude.{◌≡◌, ◌+◌, length};
     ghost use Rattle.std.specs.Vec.{vec_capacity};
     ghost use Rattle.thread_slots.specs.Slot.{Seen, seen_code};
     ghost use Rattle.thread_slots.specs.contracts.state.State as state_row;
-    ghost use Rattle.thread_slots.specs.Layout.{by_number, places, numbers, IsLaidOut};
+    ghost use Rattle.thread_slots.specs.Layout.{by_number, places, IsLaidOut};
 
     ghost Value = { Seen C };
 
@@ -44,14 +45,15 @@ impl<C> Model for Slots<C> {
 
     ghost view = { λ s. record {
       threads = by_number (places s.entries.items);
-      queue = numbers s.queue.items;
+      queue = s.queue.waiting;
       next = length s.entries.items + 1;
       room = s.room;
     } };
 
     ghost invariant = { λ s.
-        IsLaidOut (by_number (places s.entries.items)) (numbers s.queue.items)
-        (length s.entries.items) s.room (vec_capacity s.entries) (vec_capacity s.queue) };
+        IsLaidOut (by_number (places s.entries.items)) s.queue.waiting
+        (length s.entries.items) s.room (vec_capacity s.entries) s.queue.capacity
+        × (s.queue.places ≡ length s.entries.items) };
 }
 
 impl<C: Drop> Slots<C> {
@@ -63,7 +65,7 @@ impl<C: Drop> Slots<C> {
     {
         Slots {
             entries: Vec::new(alloc),
-            queue: Vec::new(alloc),
+            queue: Queue::new(alloc),
             room: 0,
         }
     }
@@ -79,14 +81,10 @@ impl<C: Drop> Slots<C> {
         if self.room > 0 {
             return Ok(());
         }
-        let waiting = self.queue.len();
-        let threads = self.entries.len();
         if self.entries.reserve(1).is_err() {
             return Err(NoMemory);
         }
-        if self.queue.reserve(threads + 1 - waiting).is_err() {
-            return Err(NoMemory);
-        }
+        self.queue.reserve()?;
         self.room = 1;
         Ok(())
     }
@@ -112,6 +110,7 @@ impl<C: Drop> Slots<C> {
             state,
         }));
         self.room -= 1;
+        self.queue.open(t);
         enter(&mut self.queue, t, state);
         t
     }
@@ -121,7 +120,7 @@ impl<C: Drop> Slots<C> {
         ensures first { option_map (λ t. t.0) result ≡ slice_get self.now.queue 0 }
         ensures sound { IsSound self.now }
     {
-        self.queue.first().copied()
+        self.queue.first()
     }
 
     pub fn set_state(&mut self, t: ThreadId, state: State)
@@ -172,7 +171,7 @@ impl<C: Drop> Slots<C> {
         ensures room { self.new.room ≡ self.old.room }
         ensures sound { IsSound self.new }
     {
-        leave(&mut self.queue, t);
+        self.queue.leave(t);
         clear(&mut self.entries, t);
     }
 
@@ -276,33 +275,28 @@ fn place(t: ThreadId) -> usize
     t.0 as usize - 1
 }
 
-// Puts a thread at the tail, where it is ready.
-fn enter(queue: &mut Vec<ThreadId>, t: ThreadId, state: State)
-    requires { length queue.old.items < vec_capacity queue.old }
-    ensures queue { numbers queue.new.items
-        ≡ numbers queue.old.items ++ (if is_ready state then t.0 ∷ [] else []) }
-    ensures capacity { vec_capacity queue.new ≡ vec_capacity queue.old }
+// Puts a thread that doesn't wait at the tail, where it is ready.
+fn enter(queue: &mut Queue, t: ThreadId, state: State)
+    requires place { (1 ≤ t.0) × (t.0 ≤ queue.old.places) }
+    requires apart { is_queued t.0 queue.old.waiting ≡ false }
+    ensures waiting { queue.new.waiting
+        ≡ queue.old.waiting ++ (if is_ready state then t.0 ∷ [] else []) }
+    ensures places { queue.new.places ≡ queue.old.places }
+    ensures capacity { queue.new.capacity ≡ queue.old.capacity }
 {
     if state == State::Ready {
-        queue.push_reserved(t);
+        queue.join(t);
     }
 }
 
 // Takes a thread out of its place, and puts it at the tail where it is ready.
-fn requeue(queue: &mut Vec<ThreadId>, t: ThreadId, state: State)
-    requires { length (without t.0 (numbers queue.old.items)) < vec_capacity queue.old }
-    ensures queue { numbers queue.new.items
-        ≡ without t.0 (numbers queue.old.items) ++ (if is_ready state then t.0 ∷ [] else []) }
-    ensures capacity { vec_capacity queue.new ≡ vec_capacity queue.old }
+fn requeue(queue: &mut Queue, t: ThreadId, state: State)
+    requires { (1 ≤ t.0) × (t.0 ≤ queue.old.places) }
+    ensures waiting { queue.new.waiting
+        ≡ without t.0 queue.old.waiting ++ (if is_ready state then t.0 ∷ [] else []) }
+    ensures places { queue.new.places ≡ queue.old.places }
+    ensures capacity { queue.new.capacity ≡ queue.old.capacity }
 {
-    leave(queue, t);
+    queue.leave(t);
     enter(queue, t, state);
-}
-
-// Takes a thread out of the queue, where it stands in it.
-fn leave(queue: &mut Vec<ThreadId>, t: ThreadId)
-    ensures queue { numbers queue.new.items ≡ without t.0 (numbers queue.old.items) }
-    ensures capacity { vec_capacity queue.new ≡ vec_capacity queue.old }
-{
-    queue.retain(|u| u.0 != t.0);
 }

@@ -1,21 +1,28 @@
-use Rattle.std.proofs.Common.{[], ◌∷◌, ◌++◌, subst, sym, ap, ◌∙◌}
+use Rattle.std.proofs.Common.{Some, cond, sym, ap, ◌∙◌, subst}
+use Rattle.std.specs.Ordering.{nat_cmp}
+use Rattle.std.specs.BTreeMap.{is_at}
 use Rattle.std.specs.FinMap as map
 use Rattle.rendezvous.specs.Line.{nobody}
-use Rattle.rendezvous.specs.Layout.{lines_of, NoneAstray}
-use Rattle.rendezvous.proofs.Lines.{NoneAstray-made, lines_of-made}
+use Rattle.rendezvous.specs.Layout.{found, Backed, LineBacked}
+use Rattle.rendezvous.proofs.Changes.{backed_made, made_line}
+use Rattle.rendezvous.proofs.InLine.{on_ok, on_err}
 use Rattle.rendezvous.proofs.offers.Offers.make.Goals as goal
 
 pub invariant_of-self : goal.invariant_of-self
-invariant_of-self c = subst (λ channels. NoneAstray channels c.self.inside.waiting.items) (sym c.reserve.ensures.items) c.self.invariant
+invariant_of-self c =
+    let same = on_err c.insert.result _ (sym c.is_err.ensures.value ∙ c.if-is_err.true) c.insert.ensures.err in
+    subst (λ es. Backed es c.self.inside.offers.entries) (sym same) c.self.invariant
 
 pub invariant_of-self-2 : goal.invariant_of-self-2
-invariant_of-self-2 c =
-    let pushed = c.push_reserved.ensures.items ∙ ap (λ channels. channels ++ c.args.c ∷ []) c.reserve.ensures.items in
-    subst (λ channels. NoneAstray channels c.self.inside.waiting.items) (sym pushed) (NoneAstray-made c.self.inside.channels.items c.self.inside.waiting.items c.args.c c.self.invariant)
+invariant_of-self-2 c d u =
+    let inserted = on_ok c.insert.result _ (sym c.is_err.ensures.value ∙ c.if-is_err.false) c.insert.ensures.updates in
+    let new = inserted.0 d ∙ ap (λ l. cond (is_at (nat_cmp c.args.c.0) d) (Some l) (found c.self.inside.lines.entries d)) c.in_ok-line.ensures in
+    subst (λ o. LineBacked d u (found c.self.inside.offers.entries u) o) (sym new)
+    (backed_made d u (is_at (nat_cmp c.args.c.0) d) (found c.self.inside.offers.entries u) (found c.self.inside.lines.entries d) (c.self.invariant d u))
 
 pub returns-clause-ok : goal.returns-clause-ok
 returns-clause-ok c =
-    let pushed = c.push_reserved.ensures.items ∙ ap (λ channels. channels ++ c.args.c ∷ []) c.reserve.ensures.items in
-    ap (λ channels. lines_of channels c.self.inside.waiting.items) pushed
-    ∙ lines_of-made c.self.inside.channels.items c.self.inside.waiting.items c.args.c (ap (λ m. map.get m c.args.c.0) c.self.view_is ∙ c.requires) c.self.invariant
+    let inserted = on_ok c.insert.result _ (sym c.is_err.ensures.value ∙ c.if-is_err.false) c.insert.ensures.updates in
+    made_line c.self.inside.lines.entries c.insert.new.self.entries c.args.c.0 c.in_ok-line.line inserted.0
+    ∙ ap (λ l. map.insert (map.from_entries c.self.inside.lines.entries) c.args.c.0 l) c.in_ok-line.ensures
     ∙ ap (λ m. map.insert m c.args.c.0 nobody) c.self.view_is

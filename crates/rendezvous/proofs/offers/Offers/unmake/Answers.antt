@@ -1,18 +1,17 @@
-use Rattle.std.proofs.Common.{rules, not, nat_eq, subst, sym, ap, ◌∙◌}
+use Rattle.std.proofs.Common.{sym, ap, ◌∙◌, subst}
+use Rattle.std.specs.Ordering.{nat_cmp}
+use Rattle.std.specs.BTreeMap.{is_at}
 use Rattle.std.specs.FinMap as map
-use Rattle.std.proofs.lemmas.Fn.{filter_same}
-use Rattle.rendezvous.specs.Layout.{lines_of, NoneAstray}
-use Rattle.rendezvous.proofs.Lines.{NoneAstray-unmade, lines_of-unmade}
+use Rattle.rendezvous.specs.Layout.{found, LineBacked}
+use Rattle.rendezvous.proofs.Changes.{unmade_line, backed_unmade}
 use Rattle.rendezvous.proofs.offers.Offers.unmake.Goals as goal
 
 pub invariant_of-self : goal.invariant_of-self
-invariant_of-self c =
-    let rest = filter_same _ (λ d. not (nat_eq c.args.c.0 d.0)) _ (λ d b f' k. search rules) _ _ c.retain.ensures.filtered in
-    subst (λ channels. NoneAstray channels c.self.inside.waiting.items) (sym rest) (NoneAstray-unmade c.self.inside.channels.items c.self.inside.waiting.items c.args.c.0 (ap (λ m. map.get m c.args.c.0) c.self.view_is ∙ c.requires) c.self.invariant)
+invariant_of-self c d u =
+    subst (λ o. LineBacked d u (found c.self.inside.offers.entries u) o) (sym (c.remove-line.ensures.updates.0 d))
+    (backed_unmade d u (is_at (nat_cmp c.args.c.0) d) (found c.self.inside.offers.entries u) (found c.self.inside.lines.entries d) (c.self.invariant d u))
 
 pub returns : goal.returns
 returns c =
-    let rest = filter_same _ (λ d. not (nat_eq c.args.c.0 d.0)) _ (λ d b f' k. search rules) _ _ c.retain.ensures.filtered in
-    ap (λ channels. lines_of channels c.self.inside.waiting.items) rest
-    ∙ lines_of-unmade c.self.inside.channels.items c.self.inside.waiting.items c.args.c.0
+    unmade_line c.self.inside.lines.entries c.remove-line.new.self.entries c.args.c.0 c.remove-line.ensures.updates.0
     ∙ ap (λ m. map.remove m c.args.c.0) c.self.view_is
