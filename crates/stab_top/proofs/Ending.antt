@@ -9,14 +9,14 @@ use Rattle.plain_model.specs.State.{State, IsQuiet, AllDone, IsEnded, IsDone}
 use Rattle.plain_model.specs.Expression.{Expr, Look, done, fault, act, pure, look}
 use Rattle.stab_top.specs.declared.report.Status.{Status}
 use Rattle.stab_top.specs.declared.report.Status.TheVariants.{Done, Held, BadWords, BadText, NoFile, TooBig, FileFault, SinkFault, Spent, NoMemory, BadProbes, BadTrace, BadScript, No, NotBuilt}
-use Rattle.stab_top.specs.Book.{Book, IsShown}
+use Rattle.stab_top.specs.Book.{Book, ByOneWorker, IsShown}
 use Rattle.stab_top.specs.Call.{Outcome, CameToRest, EndSays, TextSays, IsFailed, AnyFailed, SomeFailed}
 
 -- the book of a whole run
-pub came_to_rest : (bytes : List ℕ) (program : Body) (book : Book) → IsProgram bytes program → book.job ≡ default_job program → IsShown (main_expr book.job.program) book.history book.state → IsQuiet book.state → CameToRest bytes book
-came_to_rest bytes program book is job shown quiet =
+pub came_to_rest : (bytes : List ℕ) (program : Body) (book : Book) → IsProgram bytes program → book.job ≡ default_job program → IsShown (main_expr book.job.program) book.history book.state → ByOneWorker book.history.events → IsQuiet book.state → CameToRest bytes book
+came_to_rest bytes program book is job shown one quiet =
     let same : book.job.program ≡ program = ap (λ j. j.program) job in
-    record { program = subst (IsProgram bytes) (sym same) is; job = job ∙ ap default_job (sym same); shown = shown; quiet = quiet }
+    record { program = subst (IsProgram bytes) (sym same) is; job = job ∙ ap default_job (sym same); shown = shown; by_one = one; quiet = quiet }
 
 pub ended : (status : Status) (bytes : List ℕ) (o : Outcome) (book : Book) → o.book ≡ Some book → o.file ≡ None → CameToRest bytes book → EndSays status book.state o.sink o.sink_after → TextSays status bytes o
 ended Done bytes o book reported no_file rest end = (book, record { reported = reported; no_file = no_file; rest = rest; end = end })

@@ -8,7 +8,7 @@ use Rattle.stab_journal.specs.Journal.{Journal, survivors, step_at}
 use Rattle.plain_model.specs.Expression.{Expr}
 use Rattle.plain_model.specs.State.{State, start, plain, after_steps}
 use Rattle.plain_model.specs.Standing.{StandsFor, nothing, step, Rises, IsRun}
-use Rattle.stab_top.specs.Book.{IsShown}
+use Rattle.stab_top.specs.Book.{ByOneWorker, IsShown}
 
 -- no number of the run is above this one
 Below : ℕ → List Numbered → Type 0
@@ -96,3 +96,8 @@ shows_step main journal journal' before after worker label events left made show
         is_run = stands_for_run main _ _ after next;
       },
     )
+
+-- one event more of the one worker
+pub by_one_push : (events : List Event) (e : Event) → ByOneWorker events → e.worker ≡ 1 → ByOneWorker (events ++ e ∷ [])
+by_one_push [] e all one = (one, tt)
+by_one_push (d ∷ events) e all one = (all.0, by_one_push events e all.1 one)

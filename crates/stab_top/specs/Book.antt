@@ -1,5 +1,7 @@
 -- What a book shows.
-use Rattle.std.specs.Prelude.{◌+◌, ◌≤◌, List}
+use Rattle.std.specs.Prelude.{◌≡◌, ◌+◌, ◌≤◌, List}
+use Rattle.std.specs.List.{AllByRecursion}
+use Rattle.stab_journal.specs.declared.event.Event.{Event}
 use Rattle.stab_journal.specs.declared.event.Numbered.{Numbered}
 use Rattle.stab_journal.specs.Journal.{Journal}
 use Rattle.stab_journal.specs.Event.{weight_of}
@@ -19,7 +21,12 @@ pub record Book : Type 0 where
 abbrev pub IsShown : Expr → Journal → State → Type 0
 IsShown main journal state = (run : List Numbered) × Shows main journal run state
 
+-- every event is of the one worker, who has the number 1
+abbrev pub ByOneWorker : List Event → Type 0
+ByOneWorker = AllByRecursion (λ (e : Event). e.worker ≡ 1)
+
 -- what every book keeps; a text is too small for more than so much to do
 pub record IsBook (book : Book) : Type 0 where
   pub shown : IsShown (main_expr book.job.program) book.history book.state
+  pub by_one : ByOneWorker book.history.events
   pub small : weight_of book.history.events + work_left book.state ≤ 1048576

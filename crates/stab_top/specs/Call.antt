@@ -15,7 +15,7 @@ use Rattle.stab_top.specs.declared.report.Status.TheVariants.{Done, Held, NoFile
 use Rattle.stab_top.specs.declared.report.Role.{Role}
 use Rattle.stab_top.specs.declared.report.Role.TheVariants.{Program}
 use Rattle.stab_top.specs.Words.{run_file}
-use Rattle.stab_top.specs.Book.{Book, IsShown}
+use Rattle.stab_top.specs.Book.{Book, ByOneWorker, IsShown}
 
 -- what a device tells of its contents, and how many faults it had
 pub record Device (Contents : Type 0) : Type 0 where
@@ -37,11 +37,12 @@ pub record Call : Type 0 where
   pub outcome : Outcome
 
 -- The text is the book's program, by the definition of the fragment, and the job is that of this program. The history
--- stands for a run of the program from the start state that ends in the state of the book. No thread of it can step.
+-- stands for a run of the program from the start state that ends in the state of the book. Worker 1 made it all. No thread can step.
 pub record CameToRest (bytes : List ℕ) (book : Book) : Type 0 where
   pub program : text.IsProgram bytes book.job.program
   pub job : book.job ≡ default_job book.job.program
   pub shown : IsShown (main_expr book.job.program) book.history book.state
+  pub by_one : ByOneWorker book.history.events
   pub quiet : IsQuiet book.state
 
 abbrev pub IsFailed : Look → Type 0

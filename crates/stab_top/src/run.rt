@@ -1,12 +1,12 @@
 //! The turns of a run.
-ghost use Rattle.std.specs.Prelude.{◌≡◌, ◌+◌, ◌<◌, ◌≤◌, Some, true, false, IfOk, IsSome, OnOk, OnErr};
+ghost use Rattle.std.specs.Prelude.{◌≡◌, ◌+◌, ◌<◌, ◌≤◌, Some, true, false, length, IfOk, IsSome, OnOk, OnErr};
 ghost use Rattle.std.specs.FinMap as map;
 ghost use Rattle.stab_journal.specs.Event.{weigh, weight_of};
 ghost use Rattle.stab_journal.specs.declared.event.What.TheVariants as What;
 ghost use Rattle.plain_model.specs.Machine.{LooksAt};
 ghost use Rattle.plain_model.specs.State.{IsQuiet, local_of, plain, work_left};
 ghost use Rattle.plain_model.specs.declared.thread.Look.TheVariants as looks;
-ghost use Rattle.stab_top.specs.Turn.{Goes, IsTurn};
+ghost use Rattle.stab_top.specs.Turn.{IsTurn, KeepsShown};
 
 use plain_model::{Look, PlainState, PlayFault};
 use stab_base::{NoMemory, Seq, ThreadId};
@@ -26,10 +26,13 @@ pub fn make_turn(
 ) -> Result<bool, NoMemory>
     requires quantum { 1 ≤ quantum }
     requires small { weight_of history.old.events + work_left state.old ≤ 1048576 }
-    ensures goes { Goes history.old state.old history.new state.new }
+    ensures goes { KeepsShown history.old state.old history.new state.new }
     ensures small { weight_of history.new.events + work_left state.new ≤ 1048576 }
     ensures rest { IfOk result (λ went. went ≡ false → IsQuiet state.new) }
+    ensures still { IfOk result (λ went. went ≡ false → (state.new ≡ state.old) × (history.new.events ≡ history.old.events)) }
+    ensures one { IfOk result (λ went. went ≡ true → length history.new.events ≡ length history.old.events + 1) }
     ensures less { IfOk result (λ went. went ≡ true → work_left state.new < work_left state.old) }
+    ensures err { OnErr result ((state.new ≡ state.old) × (history.new.events ≡ history.old.events)) }
 {
     let number = Seq(history.len() + 1);
     history.reserve(1)?;

@@ -4,7 +4,7 @@ ghost use Rattle.plain_model.specs.Job.{default_job};
 ghost use Rattle.plain_model.specs.Program.{main_expr};
 ghost use Rattle.plain_model.specs.Shown.{shown};
 ghost use Rattle.plain_model.specs.State.{IsQuiet, work};
-ghost use Rattle.stab_top.specs.Book.{IsShown};
+ghost use Rattle.stab_top.specs.Book.{ByOneWorker, IsShown};
 ghost use Rattle.stab_top.specs.Call.{Call, CountedFault, EndSays, max_text, Ran, Says, TextSays};
 ghost use Rattle.stab_top.specs.Words.{run_file};
 ghost use Rattle.stab_files.specs.Entry.{contents_of, Entry};
@@ -126,6 +126,7 @@ fn write_end<K: Sink>(book: Book, text: &[u8], sink: &mut K) -> Report
     ensures end { EndSays result.status book.state (record { told = K.told sink.old; faults = K.faults sink.old })
         (record { told = K.told sink.new; faults = K.faults sink.new }) }
     ensures shown { IsShown (main_expr book.job.program) book.history book.state }
+    ensures by_one { ByOneWorker book.history.events }
 {
     let done = book.state().is_done();
     match put_lines(sink, text) {

@@ -16,5 +16,5 @@ returns-in-Ok-shown_text g c =
       book = c.write_end.result.book;
       file = c.write_end.result.file;
     }) book c.write_end.ensures.book c.write_end.ensures.file
-    (came_to_rest c.args.bytes.now c.in-Ok.program book c.in-Ok.ensures.ok c.in-Ok-run_program.ensures.job c.write_end.ensures.shown c.in-Ok-run_program.ensures.quiet)
+    (came_to_rest c.args.bytes.now c.in-Ok.program book c.in-Ok.ensures.ok c.in-Ok-run_program.ensures.job c.write_end.ensures.shown c.write_end.ensures.by_one c.in-Ok-run_program.ensures.quiet)
     c.write_end.ensures.end

@@ -3,7 +3,7 @@ use Rattle.stab_journal.specs.Event.{weight_of}
 use Rattle.stab_journal.specs.Journal.{survivors_from}
 use Rattle.plain_model.specs.Program.{main_expr}
 use Rattle.plain_model.specs.State.{start, work, work_left}
-use Rattle.stab_top.specs.Book.{IsShown}
+use Rattle.stab_top.specs.Book.{ByOneWorker, IsShown}
 use Rattle.stab_top.proofs.Showing.{shows_start}
 use Rattle.stab_top.proofs.book.Book.new.Goals as goal
 
@@ -15,5 +15,6 @@ invariant_of-result c =
     let light : weight_of c.new.result.events ≡ 0 = ap weight_of c.new.ensures.events in
     record {
       shown = subst (IsShown main c.new.result) (sym state) (shows_start main c.new.result c.new.ensures.events (ap (survivors_from c.new.result.struck 1) c.new.ensures.events));
+      by_one = subst ByOneWorker (sym c.new.ensures.events) tt;
       small = omega (arith, left, light, c.requires);
     }

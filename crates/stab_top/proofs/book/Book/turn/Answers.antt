@@ -3,4 +3,4 @@ use Rattle.stab_top.proofs.book.Book.turn.Goals as goal
 
 pub invariant_of-self : goal.invariant_of-self
 invariant_of-self c =
-    record { shown = c.make_turn.ensures.goes (main_expr c.self.inside.job.program) c.self.invariant.shown; small = c.make_turn.ensures.small }
+    record { shown = c.make_turn.ensures.goes.shown (main_expr c.self.inside.job.program) c.self.invariant.shown; by_one = c.make_turn.ensures.goes.by_one c.self.invariant.by_one; small = c.make_turn.ensures.small }
