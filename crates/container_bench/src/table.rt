@@ -80,9 +80,13 @@ pub fn print_counts<R: AllocGlobal + Print>(rt: &R) -> io::Result<()> {
 }
 
 /// The times at the three sizes in microseconds, and by how much each is more than the one before.
+///
+/// A run that isn't timed comes first, since the first one pays for what the allocator still has to
+/// do with the memory that the container before it gave back.
 pub fn print_times<R: AllocGlobal + Clock + Print>(rt: &R) -> io::Result<()> {
     for container in ALL {
         let name = container.name();
+        let _untimed = count(rt, container, MANY[0])?;
         let a = micros(rt, container, MANY[0])?;
         let b = micros(rt, container, MANY[1])?;
         let c = micros(rt, container, MANY[2])?;
