@@ -6,6 +6,7 @@ ghost use Rattle.checkpoint_store.specs.Saved.{Place, before, at, found};
 use stab_base::{Seq, ThreadId};
 use std::collections::BTreeMap;
 
+/// Drops what was saved under numbers below `q`, from the front.
 pub fn drop_before<C: Drop>(saved: &mut BTreeMap<(Seq, ThreadId), C>, q: Seq)
     ensures { (k : Place) → found saved.new.entries k ≡ (if before q k then None else found saved.old.entries k) }
 {
@@ -17,6 +18,7 @@ pub fn drop_before<C: Drop>(saved: &mut BTreeMap<(Seq, ThreadId), C>, q: Seq)
     }
 }
 
+/// Drops what was saved under the number `q`, of each thread.
 pub fn drop_at<C: Drop>(saved: &mut BTreeMap<(Seq, ThreadId), C>, q: Seq)
     ensures { (k : Place) → found saved.new.entries k ≡ (if at q k then None else found saved.old.entries k) }
 {

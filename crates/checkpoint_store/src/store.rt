@@ -35,6 +35,7 @@ pub struct SaveRefused<C> {
 }
 
 impl<C: Drop> Store<C> {
+    /// A store with nothing saved. It takes no memory yet.
     pub fn new(alloc: Global) -> Self
         ensures empty { result ≡ map.empty }
         ensures nothing { (r : Seq) (u : ThreadId) → saved_at result r u ≡ None }

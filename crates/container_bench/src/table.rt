@@ -68,6 +68,7 @@ fn micros<R: AllocGlobal + Clock>(rt: &R, container: Container, n: u32) -> io::R
     Ok(u64::try_from(taken.as_micros()).unwrap_or(u64::MAX))
 }
 
+/// The counts at three small sizes, which are the same at each run.
 pub fn print_counts<R: AllocGlobal + Print>(rt: &R) -> io::Result<()> {
     for container in ALL {
         let name = container.name();

@@ -49,6 +49,7 @@ impl Form {
         }
     }
 
+    /// A form of its own memory that stands for the same expression.
     pub fn copy(&self, alloc: Global) -> Result<Form, NoMemory>
         ensures { IfOk result (λ f. expr_of f ≡ expr_of self.now) }
     {
@@ -67,6 +68,7 @@ impl Form {
         }
     }
 
+    /// Whether the form takes no step.
     pub fn is_value(&self) -> bool
         ensures { result ≡ is_value (expr_of self.now) }
     {

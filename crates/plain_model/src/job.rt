@@ -31,8 +31,10 @@ impl Model for Job {
 }
 
 impl Job {
+    /// The fuel of a run whose words name none.
     pub const DEFAULT_FUEL: u64 = 1_000_000;
 
+    /// The quantum of a run whose words name none.
     pub const DEFAULT_QUANTUM: u32 = 1_000;
 
     /// The job of a program with the default fuel and quantum and an empty script.
@@ -47,6 +49,7 @@ impl Job {
         }
     }
 
+    /// The program that is run.
     pub fn program(&self) -> &Program
         ensures { result.now ≡ self.now.program }
     {

@@ -66,6 +66,7 @@ impl Thread {
         }
     }
 
+    /// A thread of its own memory that stands for the same expression.
     pub fn copy(&self, alloc: Global) -> Result<Thread, NoMemory>
         ensures { IfOk result (λ t. thread_expr t ≡ thread_expr self.now) }
     {
@@ -78,6 +79,7 @@ impl Thread {
         }
     }
 
+    /// What the thread is at.
     pub fn look(&self) -> Look
         ensures { Looks (look (thread_expr self.now)) result }
     {

@@ -43,6 +43,7 @@ pub struct WriteRefused {
 }
 
 impl RefLog {
+    /// A log without references that was never cut. It takes no memory yet.
     pub fn new(alloc: Global) -> Self
         ensures last_cut { result.last_cut ≡ 0 }
         ensures empty { (r : ℕ) → writes_of result r ≡ [] }

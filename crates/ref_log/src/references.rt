@@ -11,6 +11,7 @@ use stab_base::{RefId, Seq, Value};
 use std::alloc::Global;
 use std::collections::BTreeMap;
 
+/// The writes of each reference that is there.
 pub type References = BTreeMap<RefId, Writes>;
 
 /// Adds a reference with its first write.
@@ -35,6 +36,7 @@ pub fn begin(
     }
 }
 
+/// Adds a write of a reference that is there, or hands its value back.
 pub fn append(references: &mut References, r: RefId, q: Seq, v: Value) -> Result<(), Value>
     requires there { held references.old.entries r.0 ≢ [] }
     requires above { All (λ w. w.number < q.0) (held references.old.entries r.0) }

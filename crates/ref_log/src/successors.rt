@@ -5,14 +5,17 @@ ghost use Rattle.ref_log.specs.Index.{is_among};
 use stab_base::{NoMemory, RefId, Seq};
 use std::collections::BTreeSet;
 
+/// A write that has an earlier one: its number and its reference.
 #[derive(Clone, Copy, PartialEq, Eq, PartialOrd, Ord)]
 pub struct Successor {
     pub number: Seq,
     pub reference: RefId,
 }
 
+/// The writes of all references that have an earlier one, by number.
 pub type Successors = BTreeSet<Successor>;
 
+/// Adds a write that has an earlier one.
 pub fn add(successors: &mut Successors, number: Seq, reference: RefId) -> Result<(), NoMemory>
     ensures ok { OnOk result ((p s : ℕ) → is_among successors.new.keys p s
         ≡ (is_among successors.old.keys p s || nat_eq number.0 p && nat_eq reference.0 s)) }
@@ -22,6 +25,7 @@ pub fn add(successors: &mut Successors, number: Seq, reference: RefId) -> Result
     Ok(())
 }
 
+/// Takes one out, where it is there.
 pub fn forget(successors: &mut Successors, number: Seq, reference: RefId)
     ensures { (p s : ℕ) → is_among successors.new.keys p s
         ≡ (is_among successors.old.keys p s && not (nat_eq number.0 p && nat_eq reference.0 s)) }

@@ -12,6 +12,7 @@ use std::collections::BTreeMap;
 /// Values by the numbers of the writes that wrote them.
 pub type Writes = BTreeMap<Seq, Value>;
 
+/// Adds the last write, or hands its value back.
 pub fn push(writes: &mut Writes, q: Seq, v: Value) -> Result<(), Value>
     requires { All (λ w. w.number < q.0) (writes_in writes.old.entries) }
     ensures ok { OnOk result (writes_in writes.new.entries ≡ written (writes_in writes.old.entries) q.0 v) }
@@ -24,6 +25,7 @@ pub fn push(writes: &mut Writes, q: Seq, v: Value) -> Result<(), Value>
     }
 }
 
+/// The value of the last write, and its number.
 pub fn last(writes: &Writes) -> Option<(&Value, Seq)>
     ensures { option_map (λ p. record { number = p.1.0; value = p.0.now }) result ≡ last_of (writes_in writes.now.entries) }
 {
@@ -42,6 +44,7 @@ pub fn only_value(mut writes: Writes) -> Value
     }
 }
 
+/// Drops the first write, where there is one.
 pub fn drop_first(writes: &mut Writes)
     ensures left { writes_in writes.new.entries ≡ drop 1 (writes_in writes.old.entries) }
     ensures rising { IsRising (writes_in writes.new.entries) }

@@ -34,6 +34,7 @@ impl Texts {
         self.texts.len()
     }
 
+    /// Whether there is no text.
     pub fn is_empty(&self) -> bool
         ensures { IsTrue result ↔ (self.now ≡ []) }
     {

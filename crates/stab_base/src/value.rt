@@ -47,36 +47,42 @@ pub enum PairFault {
 }
 
 impl Value {
+    /// The one value of `unit`, printed `()`.
     pub fn unit() -> Value
         ensures { result ≡ unit }
     {
         Value::leaf(Shape::Unit)
     }
 
+    /// A truth value.
     pub fn truth(b: bool) -> Value
         ensures { result ≡ truth b }
     {
         Value::leaf(Shape::Truth(b))
     }
 
+    /// A number of 64 signed bits.
     pub fn int(n: i64) -> Value
         ensures { result ≡ int n }
     {
         Value::leaf(Shape::Int(n))
     }
 
+    /// A text of the program, by its number. Its characters stay in the `Texts`.
     pub fn text(t: TextId) -> Value
         ensures { result ≡ text_datum t.0 }
     {
         Value::leaf(Shape::Text(t))
     }
 
+    /// A channel, by its number.
     pub fn chan(c: ChanId) -> Value
         ensures { result ≡ chan_datum c.0 }
     {
         Value::leaf(Shape::Chan(c))
     }
 
+    /// A reference, by its number. What it holds is no part of the value.
     pub fn reference(r: RefId) -> Value
         ensures { result ≡ reference_datum r.0 }
     {

@@ -54,12 +54,14 @@ impl Model for Items {
 }
 
 impl Items {
+    /// The items of a block, of which a valid program has one at least in each.
     pub fn new(items: Vec<Item>) -> Items
         ensures { result ≡ items.items }
     {
         Items { items }
     }
 
+    /// The items in the order of writing.
     pub fn all(&self) -> &[Item]
         ensures { result.now ≡ self.now }
     {
@@ -83,12 +85,14 @@ impl Model for Args {
 }
 
 impl Args {
+    /// The arguments of a call, as many as its function takes.
     pub fn new(args: Vec<NodeId>) -> Args
         ensures { result ≡ args.items }
     {
         Args { args }
     }
 
+    /// The arguments in the order of writing.
     pub fn all(&self) -> &[NodeId]
         ensures { result.now ≡ self.now }
     {

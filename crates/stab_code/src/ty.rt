@@ -36,6 +36,7 @@ impl Model for Ty {
 }
 
 impl Ty {
+    /// The type of this form.
     pub fn new(form: TyForm) -> Ty
         ensures { result ≡ written_by form }
     {

@@ -27,6 +27,7 @@ impl<R: rt::Files + Drop> Model for DiskFiles<R> {
 }
 
 impl<R: rt::Files + Drop> DiskFiles<R> {
+    /// The files of the system that the program runs on.
     pub fn new(rt: R) -> DiskFiles<R>
         ensures { result ≡ 0 }
     {

@@ -62,6 +62,7 @@ impl MemSink {
         })
     }
 
+    /// What was put so far.
     pub fn bytes(&self) -> &[u8]
         ensures bytes { result.now ≡ self.now.bytes }
         ensures within { length self.now.bytes ≤ self.now.room }

@@ -24,6 +24,7 @@ impl<W: Write + Drop> Model for OutSink<W> {
 }
 
 impl<W: Write + Drop> OutSink<W> {
+    /// A sink over the writer, without faults so far.
     pub fn new(writer: W) -> OutSink<W>
         ensures { result ≡ record { contents = W.contents writer; faults = 0 } }
     {

@@ -39,6 +39,7 @@ impl Model for History {
 }
 
 impl History {
+    /// A journal without events. It takes no memory yet.
     pub fn new(alloc: Global) -> Self
         ensures events { result.events ≡ [] }
         ensures struck { result.struck ≡ set.empty }

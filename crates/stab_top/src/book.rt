@@ -53,6 +53,7 @@ impl Book {
         })
     }
 
+    /// What the run was asked to do.
     pub fn job(&self) -> &Job
         ensures job { result.now ≡ self.now.job }
         ensures book { IsBook self.now }
@@ -60,6 +61,7 @@ impl Book {
         &self.job
     }
 
+    /// The events of the run so far.
     pub fn history(&self) -> &History
         ensures history { result.now ≡ self.now.history }
         ensures book { IsBook self.now }

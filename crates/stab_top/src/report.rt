@@ -42,12 +42,14 @@ pub enum Status {
 }
 
 impl Status {
+    /// The exit status of the program.
     pub fn number(self) -> u8
         ensures { result ≡ status_number self }
     {
         self as u8
     }
 
+    /// The name that the line of reasons gives.
     pub fn name(self) -> &'static str
         ensures { result.now ≡ status_name self }
     {

@@ -57,6 +57,7 @@ impl<C> Model for Slots<C> {
 }
 
 impl<C: Drop> Slots<C> {
+    /// No threads. The first one that is added gets the number 1.
     pub fn new(alloc: Global) -> Self
         ensures threads { result.threads ≡ map.empty }
         ensures queue { result.queue ≡ [] }
@@ -123,6 +124,7 @@ impl<C: Drop> Slots<C> {
         self.queue.first()
     }
 
+    /// Gives a thread another state. It leaves the queue, and comes to the tail of it where the state is Ready.
     pub fn set_state(&mut self, t: ThreadId, state: State)
         requires { IsSome (map.get self.old.threads t.0) }
         ensures threads { self.new.threads
@@ -137,6 +139,7 @@ impl<C: Drop> Slots<C> {
         write_state(&mut self.entries, t, state);
     }
 
+    /// Gives a thread another control. Its place in the queue stays.
     pub fn put_control(&mut self, t: ThreadId, control: C)
         requires { IsSome (map.get self.old.threads t.0) }
         ensures threads { self.new.threads
@@ -175,6 +178,7 @@ impl<C: Drop> Slots<C> {
         clear(&mut self.entries, t);
     }
 
+    /// What a thread runs, where it is there.
     pub fn control(&self, t: ThreadId) -> Option<&C>
         ensures { option_copied result
             ≡ option_map (λ slot. slot.control) (map.get self.now.threads t.0) }
@@ -192,6 +196,7 @@ impl<C: Drop> Slots<C> {
         Some(entry.generation)
     }
 
+    /// What a thread is doing, where it is there.
     pub fn state(&self, t: ThreadId) -> Option<State>
         ensures { result ≡ option_map (λ slot. slot.state) (map.get self.now.threads t.0) }
     {
