@@ -1,3 +1,4 @@
+pub mod Closed
 pub mod Running
 pub mod Starting
 pub mod OneThread

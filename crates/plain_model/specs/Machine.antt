@@ -28,6 +28,7 @@ Makes old (becomes r) made new = (made ≡ Step) × (new ≡ rebuild old r)
 Makes old (fails k) made new = (made ≡ Fault k) × (new ≡ old)
 Makes old (acts (prints v)) made new = (made ≡ Print) × (new ≡ old)
 
+-- the redex is a print
 abbrev pub IsPrint : Turn → Type 0
 IsPrint (acts (prints v)) = Unit {0}
 IsPrint _ = ⊥
@@ -64,6 +65,7 @@ abbrev pub StepsOnce : Look → Bool → Expr → Expr → Type 0
 StepsOnce (pure e) stepped old new = (stepped ≡ true) × (new ≡ e)
 StepsOnce _ stepped old new = (stepped ≡ false) × (new ≡ old)
 
+-- a print is next
 abbrev pub StandsAtPrint : Look → Type 0
 StandsAtPrint (act (prints v)) = Unit {0}
 StandsAtPrint _ = ⊥

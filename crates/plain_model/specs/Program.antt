@@ -12,6 +12,7 @@ tree_expr (number n) = value (int n)
 tree_expr (plus a b) = sum (tree_expr a) (tree_expr b)
 tree_expr (tree.print a) = print (tree_expr a)
 
+-- the items of a block, each an expression
 abbrev pub block_items : List Tree → Items
 block_items [] = none
 block_items (t ∷ ts) = item (tree_expr t) (block_items ts)

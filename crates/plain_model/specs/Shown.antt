@@ -7,10 +7,12 @@ use Rattle.stab_base.specs.FaultName.{fault_name}
 use Rattle.plain_model.specs.Expression.{Expr, Look, done, fault, look}
 use Rattle.plain_model.specs.State.{State}
 
+-- whether it ended without a fault
 abbrev pub is_done : Look → Bool
 is_done (done v) = true
 is_done _ = false
 
+-- whether it ended with a fault
 abbrev pub is_fault : Look → Bool
 is_fault (fault k) = true
 is_fault _ = false
@@ -29,6 +31,7 @@ abbrev pub counts : ℕ → ℕ → ℕ → List ℕ
 counts ended faulted waiting =
     line (codes "ended " ++ decimal ended ++ codes " faulted " ++ decimal faulted ++ codes " waiting " ++ decimal waiting)
 
+-- the line of counts for these threads
 abbrev pub count_line : List Look → List ℕ
 count_line looks = counts (count_by is_done looks) (count_by is_fault looks) (count_by (λ l. not (is_done l) && not (is_fault l)) looks)
 

@@ -1,10 +1,10 @@
 -- What a history stands for: a run of the plain language and the state that it ends in.
-use Rattle.std.specs.Prelude.{◌≡◌, ℕ, ◌+◌, ◌<◌, List, [], ◌∷◌, ◌++◌, length, Some}
+use Rattle.std.specs.Prelude.{◌≡◌, ℕ, ◌+◌, List, [], ◌∷◌, ◌++◌, length, Some}
 use Rattle.stab_journal.specs.declared.event.Label.{Label}
 use Rattle.stab_journal.specs.declared.event.What.TheVariants.{Step}
 use Rattle.stab_journal.specs.declared.event.Event.{Event}
 use Rattle.stab_journal.specs.declared.event.Numbered.{Numbered}
-use Rattle.stab_journal.specs.Journal.{Journal, survivors}
+use Rattle.stab_journal.specs.Journal.{Journal, RiseFrom, survivors}
 use Rattle.plain_model.specs.Expression.{Expr}
 use Rattle.plain_model.specs.State.{State, start, plain, end_of}
 
@@ -18,14 +18,9 @@ pub data StandsFor (main : Expr) : List Event → List Numbered → State → Ty
       plain before (length events + 1) label ≡ Some after →
       StandsFor main (events ++ record { worker = worker; what = Step label } ∷ []) (run ++ record { seq = record { 0 = length events + 1 }; label = label } ∷ []) after
 
--- the numbers rise strictly, from above a number on
-abbrev pub Rises : ℕ → List Numbered → Type 0
-Rises least [] = Unit {0}
-Rises least (s ∷ steps) = (least < s.seq.0) × Rises s.seq.0 steps
-
--- a run of the program that ends in the state
+-- a run of the program that ends in the state: its numbers rise, and its steps lead there
 pub record IsRun (main : Expr) (run : List Numbered) (state : State) : Type 0 where
-  pub rises : Rises 0 run
+  pub rises : RiseFrom 1 run
   pub ends : end_of main run ≡ Some state
 
 -- the journal stands for a run of the program that ends in the state, and the run is what is left of it without undone steps

@@ -43,6 +43,7 @@ abbrev pub printed_by : Look → Option Datum
 printed_by (act (prints v)) = Some v
 printed_by _ = None
 
+-- the thread stands at another expression
 abbrev pub with_thread : State → ℕ → Expr → State
 with_thread s t e = record s { threads = map.insert s.threads t e }
 
@@ -87,6 +88,7 @@ IsEnded _ = ⊥
 abbrev pub IsQuiet : State → Type 0
 IsQuiet s = AllByRecursion (λ e. IsEnded (look e)) (map.values s.threads)
 
+-- a thread that has ended without a fault
 abbrev pub IsDone : Look → Type 0
 IsDone (done v) = Unit {0}
 IsDone _ = ⊥

@@ -1,11 +1,11 @@
 -- What the statuses say leaves no way round a good program.
-use Rattle.std.proofs.Common.{arith, ◌≡◌, ◌⊎◌, inl, inr, ℕ, ◌<◌, ◌≤◌, List, length, Option, Some, None, IfSome, IsSomeAnd, refl, ap, sym, subst, ◌∙◌}
+use Rattle.std.proofs.Common.{arith, ◌≡◌, ◌⊎◌, inl, inr, ℕ, ◌<◌, ◌≤◌, List, length, Option, Some, None, IfSome, IsSomeAnd, sym, subst, ◌∙◌}
 use Rattle.stab_files.specs.Entry.{Entry, contents_of}
 use Rattle.sum_reader.specs.Program.{Body, IsProgram}
 use Rattle.stab_top.specs.declared.report.Status.{Status}
 use Rattle.stab_top.specs.declared.report.Status.TheVariants.{Done, Held, BadWords, BadText, NoFile, TooBig, FileFault, SinkFault, Spent, NoMemory, BadProbes, BadTrace, BadScript, No, NotBuilt}
 use Rattle.stab_top.specs.Words.{run_file}
-use Rattle.stab_top.specs.Call.{Call, CountedFault, Finds, IsNoProgram, Loads, max_text, Ran, RefusalSays, Says, TextSays}
+use Rattle.stab_top.specs.Call.{Call, CountedFault, Finds, max_text, Ran, RefusalSays, Says, TextSays}
 
 -- what is found, where the words name a file and the files tell
 found_there : (c : Call) (P : Option (List ℕ) → Type 0) (name : List ℕ) (files : List Entry) → Finds c P → run_file c.words ≡ Some name → c.files.told ≡ Some files → P (contents_of files name)

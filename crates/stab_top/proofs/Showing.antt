@@ -1,13 +1,13 @@
 -- A journal that stands for a run goes on standing for one, step by step.
-use Rattle.std.proofs.Common.{arith, ◌≡◌, ℕ, ◌+◌, ◌<◌, ◌≤◌, List, [], ◌∷◌, ◌++◌, length, length-append, Option, Some, None, option_and_then, refl, sym, ap, subst, ◌∙◌}
+use Rattle.std.proofs.Common.{arith, ◌≡◌, ℕ, suc, ◌+◌, ◌<◌, ◌≤◌, List, [], ◌∷◌, ◌++◌, length, length-append, Option, Some, None, option_and_then, refl, sym, ap, subst, ◌∙◌}
 use Rattle.stab_journal.specs.declared.event.Label.{Label}
 use Rattle.stab_journal.specs.declared.event.What.TheVariants.{Step}
 use Rattle.stab_journal.specs.declared.event.Event.{Event}
 use Rattle.stab_journal.specs.declared.event.Numbered.{Numbered}
-use Rattle.stab_journal.specs.Journal.{Journal, survivors, step_at}
+use Rattle.stab_journal.specs.Journal.{Journal, RiseFrom, survivors, step_at}
 use Rattle.plain_model.specs.Expression.{Expr}
 use Rattle.plain_model.specs.State.{State, start, plain, after_steps}
-use Rattle.plain_model.specs.Standing.{StandsFor, nothing, step, Rises, IsRun}
+use Rattle.plain_model.specs.Standing.{StandsFor, nothing, step, IsRun}
 use Rattle.stab_top.specs.Book.{ByOneWorker, IsShown}
 
 -- no number of the run is above this one
@@ -20,11 +20,11 @@ unfolding Below
 below_push n m [] s h here below = (here, tt)
 below_push n m (r ∷ run) s h here below = (let first : r.seq.0 ≤ n = below.0 in omega arith, below_push n m run s h here below.1)
 
-rises_push : (least n : ℕ) (run : List Numbered) (s : Numbered) → least < s.seq.0 → n < s.seq.0 → Below n run → Rises least run → Rises least (run ++ s ∷ [])
+rise_push : (least n : ℕ) (run : List Numbered) (s : Numbered) → least ≤ s.seq.0 → n < s.seq.0 → Below n run → RiseFrom least run → RiseFrom least (run ++ s ∷ [])
 unfolding Below
-rises_push least n [] s low above below rises = (low, tt)
-rises_push least n (r ∷ run) s low above below rises =
-    (rises.0, rises_push r.seq.0 n run s (let first : r.seq.0 ≤ n = below.0 in omega arith) above below.1 rises.1)
+rise_push least n [] s low above below rises = (low, tt)
+rise_push least n (r ∷ run) s low above below rises =
+    (rises.0, rise_push (suc r.seq.0) n run s (let first : r.seq.0 ≤ n = below.0 in omega arith) above below.1 rises.1)
 
 some_again : (o : Option State) → option_and_then (λ c. after_steps c []) o ≡ o
 some_again None = refl
@@ -54,7 +54,7 @@ unfolding Below
 one_more main count after_count run before after label counted kept made =
     record {
       is_run = record {
-        rises = rises_push 0 count run (record { seq = record { 0 = count + 1 }; label = label }) (omega arith) (omega arith) kept.below kept.is_run.rises;
+        rises = rise_push 1 count run (record { seq = record { 0 = count + 1 }; label = label }) (omega arith) (omega arith) kept.below kept.is_run.rises;
         ends = after_steps-push (start main) before run (record { seq = record { 0 = count + 1 }; label = label }) kept.is_run.ends ∙ made;
       };
       below = below_push count after_count run (record { seq = record { 0 = count + 1 }; label = label }) (omega arith) (omega arith) kept.below;

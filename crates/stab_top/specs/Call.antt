@@ -45,10 +45,12 @@ pub record CameToRest (bytes : List ℕ) (book : Book) : Type 0 where
   pub by_one : ByOneWorker book.history.events
   pub quiet : IsQuiet book.state
 
+-- a thread that ended with a fault
 abbrev pub IsFailed : Look → Type 0
 IsFailed (fault k) = Unit {0}
 IsFailed _ = ⊥
 
+-- one of these threads ended with a fault
 abbrev pub AnyFailed : List Expr → Type 0
 AnyFailed [] = ⊥
 AnyFailed (e ∷ es) = IsFailed (look e) ⊎ AnyFailed es

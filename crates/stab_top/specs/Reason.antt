@@ -23,6 +23,7 @@ status_number BadScript = 12
 status_number No = 13
 status_number NotBuilt = 14
 
+-- the name of a status
 abbrev pub status_name : Status → List ℕ
 status_name Done = codes "Done"
 status_name Held = codes "Held"
@@ -40,6 +41,7 @@ status_name BadScript = codes "BadScript"
 status_name No = codes "No"
 status_name NotBuilt = codes "NotBuilt"
 
+-- the word for what a file is for
 abbrev pub role_name : Role → List ℕ
 role_name Program = codes "program"
 role_name Probes = codes "probes"

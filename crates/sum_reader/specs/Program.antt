@@ -16,6 +16,7 @@ abbrev pub items_tokens : List Tree → List Token
 items_tokens [] = []
 items_tokens (t ∷ ts) = tokens_of t ++ (Semicolon ∷ items_tokens ts)
 
+-- the expression without a `;`, where it is written
 abbrev pub last_tokens : Option Tree → List Token
 last_tokens None = []
 last_tokens (Some t) = tokens_of t
