@@ -6,3 +6,4 @@ pub mod Stepping
 pub mod Working
 pub mod Looking
 pub mod Alone
+pub mod Resting

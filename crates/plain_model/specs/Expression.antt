@@ -30,6 +30,7 @@ abbrev mutual
   put (sum a b) vs = sum (put a vs) (put b vs)
   put (print a) vs = print (put a vs)
 
+  -- the same of each item
   pub put_items : Items → List Datum → Items
   put_items none vs = none
   put_items (item a rest) vs = item (put a vs) (put_items rest vs)
@@ -98,10 +99,10 @@ abbrev pub turn_of_sum : Datum → Datum → Turn
 turn_of_sum (int x) (int y) = if fits_word (x +ℤ y) then becomes (value (int (x +ℤ y))) else fails Overflow
 turn_of_sum _ _ = fails WrongKind
 
--- the step of a redex, form by form; what is no redex is said to fail, and is never asked
+-- the step of a redex, form by form; an expression of a run has no other at its redex than a block, a sum or a print of values
 abbrev pub turn : Expr → Turn
 turn (value v) = fails WrongKind
-turn (failed k) = fails WrongKind
+turn (failed k) = fails k
 turn (block none e) = fails WrongKind
 turn (block (item a none) e) = becomes e
 turn (block (item a (item b rest)) e) = becomes (block (item b rest) e)

@@ -1,5 +1,5 @@
 -- States of the plain language, and its steps.
-use Rattle.std.specs.Prelude.{ℕ, zero, suc, ◌+◌, List, [], ◌∷◌, ◌++◌, Option, Some, None, option_and_then, option_map, fold, max}
+use Rattle.std.specs.Prelude.{◌≢◌, ℕ, zero, suc, ◌+◌, List, [], ◌∷◌, ◌++◌, Option, Some, None, option_and_then, option_map, fold, max}
 use Rattle.std.specs.List.{AllByRecursion, sum_by}
 use Rattle.std.specs.Ordering.{nat_cmp}
 use Rattle.std.specs.FinMap as map
@@ -74,6 +74,11 @@ after_steps s (step ∷ steps) = option_and_then (λ next. after_steps next step
 abbrev pub end_of : Expr → List Numbered → Option State
 end_of main run = after_steps (start main) run
 
+-- one pure step takes no memory; each other step may be refused for want of it
+abbrev pub MayWantMemory : Label → Type 0
+MayWantMemory (Local t n) = n ≢ 1
+MayWantMemory _ = Unit {0}
+
 -- the greatest of the threads that are there, 0 where there is none
 abbrev pub greatest_thread : State → ℕ
 greatest_thread s = fold max 0 (map.keys s.threads)
@@ -111,6 +116,7 @@ abbrev mutual
   work (sum a b) = work a + work b + 1
   work (print a) = work a + 1
 
+  -- those of the items
   pub item_work : Items → ℕ
   item_work none = 0
   item_work (item a items) = work a + item_work items + 1

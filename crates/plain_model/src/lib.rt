@@ -3,6 +3,7 @@
 
 mod form;
 mod job;
+mod law;
 mod shown;
 mod state;
 #[cfg(test)]
@@ -10,6 +11,7 @@ mod tests;
 mod thread;
 
 pub use job::Job;
+pub use law::quiet_states_rest;
 pub use shown::shown_text;
 pub use state::{PlainState, PlayFault};
 pub use thread::{ActKind, Look};

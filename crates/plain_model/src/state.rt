@@ -10,7 +10,7 @@ ghost use Rattle.stab_journal.specs.declared.event.What.TheVariants as What;
 ghost use Rattle.plain_model.specs.Expression.{mark};
 ghost use Rattle.plain_model.specs.Machine.{IsAlone, Looks, LooksAt};
 ghost use Rattle.plain_model.specs.Program.{main_expr};
-ghost use Rattle.plain_model.specs.State.{AllDone, CanStep, greatest_thread, IsQuiet, plain, start, work, work_left};
+ghost use Rattle.plain_model.specs.State.{AllDone, CanStep, greatest_thread, IsQuiet, MayWantMemory, plain, start, work, work_left};
 
 use crate::thread::{Look, Thread};
 use stab_base::{NoMemory, Seq, ThreadId, Value};
@@ -69,10 +69,11 @@ impl PlainState {
         })
     }
 
-    /// Makes the step with this number and label. A fault leaves the state as it was.
+    /// Makes the step with this number and label. A fault leaves the state as it was. One pure step takes no memory.
     pub fn play(&mut self, alloc: Global, q: Seq, label: &Label) -> Result<(), PlayFault>
         ensures ok { OnOk result (plain self.old q.0 label.now ≡ Some self.new) }
         ensures no_step { result ≡ Err PlayFault.NoStep → plain self.old q.0 label.now ≡ None }
+        ensures memory { result ≡ Err PlayFault.NoMemory → MayWantMemory label.now }
         ensures less { OnOk result (work_left self.new + weigh (What.Step label.now) ≤ work_left self.old) }
         ensures err { OnErr result (self.new ≡ self.old) }
     {

@@ -1,5 +1,5 @@
 //! A thread of the machine.
-ghost use Rattle.std.specs.Prelude.{◌≡◌, ◌<◌, ◌↔◌, Some, None, Err, OnErr, All, [], ◌∷◌, ◌++◌, map, true, false, IfOk, OnOk, IsTrue};
+ghost use Rattle.std.specs.Prelude.{◌≡◌, ◌≢◌, ◌<◌, ◌↔◌, Some, None, Err, OnErr, All, [], ◌∷◌, ◌++◌, map, true, false, IfOk, OnOk, IsTrue};
 ghost use Rattle.stab_base.specs.Datum.{unit};
 ghost use Rattle.stab_base.specs.Printed.{HasTexts};
 ghost use Rattle.plain_model.specs.Expression.{act, answered, cap, is_value, look, prints, spine};
@@ -129,6 +129,7 @@ impl Thread {
     pub fn make_steps(&mut self, alloc: Global, n: u32) -> Result<(), PlayFault>
         ensures ok { OnOk result (pure_steps n (thread_expr self.old) ≡ Some (thread_expr self.new)) }
         ensures no_step { result ≡ Err PlayFault.NoStep → pure_steps n (thread_expr self.old) ≡ None }
+        ensures memory { result ≡ Err PlayFault.NoMemory → n ≢ 1 }
         ensures err { OnErr result (thread_expr self.new ≡ thread_expr self.old) }
     {
         if n == 1 {

@@ -1,6 +1,10 @@
 //! The program `stab`: its arguments are the words, standard output is the sink.
 #![tactic(auto)]
 
+ghost use Rattle.std.specs.Prelude.{◌≡◌, ◌⊎◌, None};
+ghost use Rattle.stab_top.specs.Reason.{status_number};
+ghost use Rattle.stab_top.specs.declared.report.Status.TheVariants.{NoMemory, NotBuilt};
+
 use stab_files::{DiskFiles, OutSink};
 use stab_top::{Gate, Report, Status, reason, stab};
 use std::io::ErrorKind;
@@ -28,7 +32,14 @@ fn main(rt: HostRuntime) -> ExitCode {
         // A reason that can't be written changes no status.
         let _ = rt.stderr().write_all(&line);
     }
-    ExitCode::from(report.status.number())
+    ExitCode::from(exit_status(&report))
+}
+
+// The program ends with the number of the status.
+fn exit_status(report: &Report) -> u8
+    ensures { result ≡ status_number report.now.status }
+{
+    report.status.number()
 }
 
 // The words behind the program's name.
@@ -41,7 +52,11 @@ fn words(rt: &HostRuntime) -> io::Result<Vec<String>> {
 }
 
 // An argument that isn't text is no word of a command.
-fn refused_words(error: &io::Error) -> Report {
+fn refused_words(error: &io::Error) -> Report
+    ensures status { (result.status ≡ NotBuilt) ⊎ (result.status ≡ NoMemory) }
+    ensures book { result.book ≡ None }
+    ensures file { result.file ≡ None }
+{
     let status = if error.kind() == ErrorKind::OutOfMemory {
         Status::NoMemory
     } else {

@@ -98,6 +98,14 @@ fn loads_from_the_system(rt: HostRuntime) -> Result<(), Fail> {
     assert_eq!(rt; files.load(alloc, path.as_str(), 10_000), Loaded::Missing);
     assert_eq!(rt; files.load(alloc, "/dev/zero", 10_000), Loaded::TooBig);
     assert_eq!(rt; files.load(alloc, "/", 10_000), Loaded::Failed);
+    assert_eq!(rt;
+        files.load(alloc, "/dev/null/through", 10_000),
+        Loaded::Failed
+    );
+    assert_eq!(rt;
+        files.load(alloc, &"n".repeat(alloc, 5_000)?, 10_000),
+        Loaded::Failed
+    );
     assert_eq!(rt; is_there(&mut files, alloc, "/dev/null"), Some(true));
     Ok(())
 }
@@ -161,5 +169,44 @@ fn puts_in_parts(rt: HostRuntime) -> Result<(), Fail> {
     assert_eq!(rt; sink.put(b""), Ok(()));
     drop(sink);
     assert_eq!(rt; writer.taken.as_slice(), b"abcd".as_slice());
+    Ok(())
+}
+
+/// A writer that keeps what it took until it is flushed, which fails from the second time on.
+#[derive(Drop)]
+struct Holding {
+    held: Vec<u8>,
+    gone_out: Vec<u8>,
+    flushed: bool,
+}
+
+impl Write for Holding {
+    fn write(&mut self, buf: &[u8]) -> io::Result<usize> {
+        self.held.extend_from_slice(buf)?;
+        Ok(buf.len())
+    }
+
+    fn flush(&mut self) -> io::Result<()> {
+        if self.flushed {
+            return Err(io::Error::from(ErrorKind::Other));
+        }
+        self.flushed = true;
+        self.gone_out.append(&mut self.held)?;
+        Ok(())
+    }
+}
+
+#[test]
+fn puts_are_flushed(rt: HostRuntime) -> Result<(), Fail> {
+    let mut writer = Holding {
+        held: Vec::new(rt.alloc()),
+        gone_out: Vec::new(rt.alloc()),
+        flushed: false,
+    };
+    let mut sink = OutSink::new(&mut writer);
+    assert_eq!(rt; sink.put(b"3\n"), Ok(()));
+    assert_eq!(rt; sink.put(b"4\n"), Err(SinkFail::Failed));
+    drop(sink);
+    assert_eq!(rt; writer.gone_out.as_slice(), b"3\n".as_slice());
     Ok(())
 }

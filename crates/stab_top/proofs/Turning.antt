@@ -91,6 +91,20 @@ local_more s mid after t n some h k =
     ∙ ap (λ threads. Some (record s { threads = threads })) (sym (insert_again s.threads t q.0 r.0))
     ∙ ap Some r.2
 
+-- no pure step yet or some, and one more
+pub one_more_local : (s mid after : State) (t n : ℕ) → (n ≡ 0 → mid ≡ s) → (1 ≤ n → local_of s t n ≡ Some mid) → local_of mid t 1 ≡ Some after → local_of s t (n + 1) ≡ Some after
+one_more_local s mid after t zero start made step = subst (λ x. local_of x t 1 ≡ Some after) (start refl) step
+one_more_local s mid after t (suc n) start made step = local_more s mid after t (suc n) (omega arith) (made (omega arith)) step
+
+none_is_not_some : (o : Option State) → o ≡ None → IsSome o → ⊥
+none_is_not_some None h some = cc
+none_is_not_some (Some s) h some = cc
+
+-- a thread that had a pure step and has no further one has made some
+pub some_made : (s mid : State) (t n : ℕ) → LooksAt (map.get s.threads t) (Some Pure) → (n ≡ 0 → mid ≡ s) → local_of mid t 1 ≡ None → 1 ≤ n
+some_made s mid t zero told start none = absurd (none_is_not_some (local_of s t 1) (subst (λ x. local_of x t 1 ≡ None) (start refl) none) (pure_next s t told))
+some_made s mid t (suc n) told start none = omega arith
+
 looks_not_done : (l : Look) → Looks l Done → (IsEnded l → ⊥) → ⊥
 looks_not_done (done v) h can = can tt
 looks_not_done (fault k) h can = can tt

@@ -1,8 +1,9 @@
 //! The book of a run.
-ghost use Rattle.std.specs.Prelude.{◌≡◌, ◌+◌, ◌<◌, ◌≤◌, [], length, true, false, IfOk, OnErr};
+ghost use Rattle.std.specs.Prelude.{◌≡◌, ◌<◌, ◌≤◌, [], true, false, IfOk, OnErr};
 ghost use Rattle.plain_model.specs.Program.{main_expr};
 ghost use Rattle.plain_model.specs.State.{IsQuiet, start, work, work_left};
 ghost use Rattle.stab_top.specs.Book.{IsBook, IsShown};
+ghost use Rattle.stab_top.specs.Turn.{Turned};
 
 use crate::run;
 use plain_model::{Job, PlainState};
@@ -77,12 +78,13 @@ impl Book {
         &self.state
     }
 
-    /// Makes the next turn, which is one event, and tells whether there was one. An `Err` leaves the history and the state.
+    /// Makes the next turn and tells whether there was one. A turn adds one event: a thread's pure steps, as many as it has within
+    /// the quantum, or its act. An `Err` leaves the history and the state.
     pub fn turn(&mut self, alloc: Global) -> Result<bool, NoMemory>
         ensures job { self.new.job ≡ self.old.job }
         ensures rest { IfOk result (λ went. went ≡ false → IsQuiet self.new.state) }
         ensures still { IfOk result (λ went. went ≡ false → (self.new.state ≡ self.old.state) × (self.new.history.events ≡ self.old.history.events)) }
-        ensures one { IfOk result (λ went. went ≡ true → length self.new.history.events ≡ length self.old.history.events + 1) }
+        ensures turn { IfOk result (λ went. went ≡ true → Turned self.old.job.quantum self.old.history.events self.old.state self.new.history.events self.new.state) }
         ensures err { OnErr result ((self.new.state ≡ self.old.state) × (self.new.history.events ≡ self.old.history.events)) }
         ensures less { IfOk result (λ went. went ≡ true → work_left self.new.state < work_left self.old.state) }
     {

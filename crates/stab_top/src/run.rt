@@ -1,12 +1,12 @@
 //! The turns of a run.
-ghost use Rattle.std.specs.Prelude.{◌≡◌, ◌+◌, ◌<◌, ◌≤◌, Some, true, false, length, IfOk, IsSome, OnOk, OnErr};
+ghost use Rattle.std.specs.Prelude.{◌≡◌, ◌+◌, ◌<◌, ◌≤◌, Some, None, true, false, IfOk, IsSome, OnOk, OnErr};
 ghost use Rattle.std.specs.FinMap as map;
 ghost use Rattle.stab_journal.specs.Event.{weigh, weight_of};
 ghost use Rattle.stab_journal.specs.declared.event.What.TheVariants as What;
 ghost use Rattle.plain_model.specs.Machine.{LooksAt};
 ghost use Rattle.plain_model.specs.State.{IsQuiet, local_of, plain, work_left};
 ghost use Rattle.plain_model.specs.declared.thread.Look.TheVariants as looks;
-ghost use Rattle.stab_top.specs.Turn.{IsTurn, KeepsShown};
+ghost use Rattle.stab_top.specs.Turn.{IsTurn, KeepsShown, Turned};
 
 use plain_model::{Look, PlainState, PlayFault};
 use stab_base::{NoMemory, Seq, ThreadId};
@@ -30,7 +30,7 @@ pub fn make_turn(
     ensures small { weight_of history.new.events + work_left state.new ≤ 1048576 }
     ensures rest { IfOk result (λ went. went ≡ false → IsQuiet state.new) }
     ensures still { IfOk result (λ went. went ≡ false → (state.new ≡ state.old) × (history.new.events ≡ history.old.events)) }
-    ensures one { IfOk result (λ went. went ≡ true → length history.new.events ≡ length history.old.events + 1) }
+    ensures turn { IfOk result (λ went. went ≡ true → Turned quantum history.old.events state.old history.new.events state.new) }
     ensures less { IfOk result (λ went. went ≡ true → work_left state.new < work_left state.old) }
     ensures err { OnErr result ((state.new ≡ state.old) × (history.new.events ≡ history.old.events)) }
 {
@@ -54,7 +54,7 @@ fn next_step(
     quantum: u32,
 ) -> Result<Option<Label>, NoMemory>
     requires { 1 ≤ quantum }
-    ensures ok { IfOk result (IsTurn state.old number.0 state.new) }
+    ensures ok { IfOk result (IsTurn quantum state.old number.0 state.new) }
     ensures err { OnErr result (state.new ≡ state.old) }
 {
     let Some(t) = state.ready() else {
@@ -62,7 +62,7 @@ fn next_step(
     };
     match state.look(t) {
         Some(Look::Pure) => {
-            let steps = pure_steps(alloc, state, number, t, quantum)?;
+            let steps = pure_steps(alloc, state, number, t, quantum);
             Ok(Some(Label::Local(t, steps)))
         }
         Some(Look::Act(_)) => {
@@ -75,28 +75,36 @@ fn next_step(
     }
 }
 
-// Makes pure steps of a thread, `most` at most, and tells how many.
-fn pure_steps(
-    alloc: Global,
-    state: &mut PlainState,
-    number: Seq,
-    t: ThreadId,
-    most: u32,
-) -> Result<u32, NoMemory>
+// Makes pure steps of a thread, as many as it has and `most` at most, and tells how many.
+fn pure_steps(alloc: Global, state: &mut PlainState, number: Seq, t: ThreadId, most: u32) -> u32
     requires some { 1 ≤ most }
     requires pure { LooksAt (map.get state.old.threads t.0) (Some looks.Pure) }
-    ensures some { IfOk result (λ made. 1 ≤ made) }
-    ensures made { IfOk result (λ made. local_of state.old t.0 made ≡ Some state.new) }
-    ensures less { IfOk result (λ made. work_left state.new + made ≤ work_left state.old) }
-    ensures err { OnErr result (state.new ≡ state.old) }
+    ensures some { 1 ≤ result }
+    ensures most { result ≤ most }
+    ensures made { local_of state.old t.0 result ≡ Some state.new }
+    ensures all { result < most → local_of state.new t.0 1 ≡ None }
+    ensures less { work_left state.new + result ≤ work_left state.old }
 {
-    let step = Label::Local(t, 1);
-    play(alloc, state, number, &step)?;
-    let mut made = 1;
-    while made < most && state.play(alloc, number, &step).is_ok() {
-        made += 1;
+    for made in 0..most {
+        if !step_on(alloc, state, number, t) {
+            return made;
+        }
     }
-    Ok(made)
+    most
+}
+
+// Makes the next pure step of a thread, and tells whether there was one.
+fn step_on(alloc: Global, state: &mut PlainState, number: Seq, t: ThreadId) -> bool
+    ensures stepped { result ≡ true → local_of state.old t.0 1 ≡ Some state.new }
+    ensures less { result ≡ true → work_left state.new + 1 ≤ work_left state.old }
+    ensures none { result ≡ false → local_of state.old t.0 1 ≡ None }
+    ensures still { result ≡ false → state.new ≡ state.old }
+{
+    match state.play(alloc, number, &Label::Local(t, 1)) {
+        Ok(()) => true,
+        Err(PlayFault::NoStep) => false,
+        Err(PlayFault::NoMemory) => unreachable!(),
+    }
 }
 
 // Plays a step that the language has.

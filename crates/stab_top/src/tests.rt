@@ -7,15 +7,22 @@ use stab_files::{MemFiles, MemSink};
 use stab_journal::{Event, Label, What};
 use std::alloc::Global;
 use std::sync::Wait;
+use std::sync::atomic::{AtomicU32, Ordering};
 use std::test::Fail;
 use std::thread::Threads;
 
 const SUM: &[u8] = b"fn main(): unit { print(1 + 2) }";
 
-struct Open;
+// A gate that counts its calls.
+#[derive(Drop)]
+struct Counting {
+    calls: AtomicU32,
+}
 
-impl Gate for Open {
-    fn before_commit(&self, _worker: u32) {}
+impl Gate for Counting {
+    fn before_commit(&self, _worker: u32) {
+        let _before = self.calls.fetch_add(1, Ordering::SeqCst);
+    }
 }
 
 // What a call reports and writes.
@@ -26,6 +33,7 @@ struct Answer {
     events: Vec<Event>,
     written: Vec<u8>,
     line: Vec<u8>,
+    gate_calls: u32,
 }
 
 // A call over files that hold the text under the name `p`, with the loads and the puts that are to fail.
@@ -39,13 +47,17 @@ fn called<R: Threads + Wait + Sync>(
     let words = texts(alloc, words)?;
     let mut files = holding(alloc, text, fails[0])?;
     let mut sink = MemSink::new(alloc, 1_048_576, fails[1].to_vec(alloc)?)?;
-    let report = stab(rt, alloc, &words, &mut files, &mut sink, &Open);
+    let gate = Counting {
+        calls: AtomicU32::new(0),
+    };
+    let report = stab(rt, alloc, &words, &mut files, &mut sink, &gate);
     Ok(Answer {
         status: report.status,
         file: report.file,
         events: events(alloc, &report)?,
         written: sink.bytes().to_vec(alloc)?,
         line: told(alloc, &report)?,
+        gate_calls: gate.calls.load(Ordering::SeqCst),
     })
 }
 
@@ -83,6 +95,24 @@ fn print_a_sum(rt: HostRuntime) -> Result<(), Fail> {
     let text = b"3\nended 1 faulted 0 waiting 0\n".as_slice();
     assert_eq!(rt; call.written.as_slice(), text);
     assert_eq!(rt; call.line.len(), 0);
+    // One worker waits at no gate.
+    assert_eq!(rt; call.gate_calls, 0);
+    Ok(())
+}
+
+#[test]
+fn turns_are_as_long_as_the_quantum(rt: HostRuntime) -> Result<(), Fail> {
+    let mut text = b"fn main(): unit {".to_vec(rt.alloc())?;
+    for _ in 0..1_001 {
+        text.extend_from_slice(b"0;")?;
+    }
+    text.push(b'}')?;
+    let call = called(&rt, rt.alloc(), ["run", "p"], &text, [&[], &[]])?;
+    let whole = What::Step(Label::Local(ThreadId(1), 1_000));
+    let rest = What::Step(Label::Local(ThreadId(1), 1));
+    assert_eq!(rt; call.events.len(), 2);
+    assert!(rt; call.events[0].what == whole);
+    assert!(rt; call.events[1].what == rest);
     Ok(())
 }
 

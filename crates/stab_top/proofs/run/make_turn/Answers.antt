@@ -19,7 +19,7 @@ returns-clause-goes c =
     let old = c.args.history.now in
     let reserved = c.reserve.new.self in
     let label = c.in-Some.label in
-    let turn = subst (IsTurn c.args.state.now (c.len.result + 1) c.next_step.new.state) c.in-Some.is c.in_ok-label.ensures.ok in
+    let turn = subst (IsTurn c.args.quantum c.args.state.now (c.len.result + 1) c.next_step.new.state) c.in-Some.is c.in_ok-label.ensures.ok in
     let events = ap (λ j. j.events) c.push.ensures.after ∙ ap (λ j. j.events ++ record { worker = 1; what = Step label } ∷ []) c.reserve.ensures.rest in
     record {
       shown = λ main shown. shows_step main old c.push.new.self c.args.state.now c.next_step.new.state 1 label events
@@ -27,4 +27,15 @@ returns-clause-goes c =
           (ap (λ n. plain c.args.state.now (n + 1) label) (sym c.len.ensures.len) ∙ turn.1)
           shown;
       by_one = λ one. subst ByOneWorker (sym events) (by_one_push old.events (record { worker = 1; what = Step label }) one refl);
+    }
+
+pub returns-clause-turn : goal.returns-clause-turn
+returns-clause-turn c went =
+    let label = c.in-Some.label in
+    let turn = subst (IsTurn c.args.quantum c.args.state.now (c.len.result + 1) c.next_step.new.state) c.in-Some.is c.in_ok-label.ensures.ok in
+    record {
+      label = label;
+      event = ap (λ j. j.events) c.push.ensures.after ∙ ap (λ j. j.events ++ record { worker = 1; what = Step label } ∷ []) c.reserve.ensures.rest;
+      step = ap (λ n. plain c.args.state.now (n + 1) label) (sym c.len.ensures.len) ∙ turn.1;
+      whole = turn.3;
     }

@@ -1,24 +1,16 @@
-use Rattle.std.proofs.Common.{arith, ◌≡◌, ◌+◌, ◌≤◌, Some, Result, Ok, Err, OnOk, is_ok, true}
-use Rattle.plain_model.specs.State.{local_of, work_left}
-use Rattle.stab_top.proofs.Turning.{local_more}
+use Rattle.std.proofs.Common.{arith, ◌+◌, ◌≤◌}
+use Rattle.plain_model.specs.State.{work_left}
+use Rattle.stab_top.proofs.Turning.{one_more_local}
 use Rattle.stab_top.proofs.run.pure_steps.Goals as goal
-
-at_ok : {T E P : Type 0} (r : Result T E) → true ≡ is_ok r → OnOk r P → P
-at_ok (Ok x) e p = p
-at_ok (Err x) e p = absurd (let no_way : ⊥ = cc in no_way)
 
 pub loop-made-preserved : goal.loop-made-preserved
 loop-made-preserved c =
-    let made = c.loop-made.made in
-    let mid = c.loop-made.state in
-    let after = c.play-in-loop-made.new.self in
-    let result = c.play-in-loop-made.result in
-    let step : local_of mid c.args.t.0 1 ≡ Some after = at_ok result c.if-is_ok.ensures.value c.play-in-loop-made.ensures.ok in
-    let less : work_left after + 1 ≤ work_left mid = at_ok result c.if-is_ok.ensures.value c.play-in-loop-made.ensures.less in
+    let kept = c.loop-made.invariant in
+    let went = c.if-not-step_on.false in
+    let less : work_left c.step_on.new.state + 1 ≤ work_left c.loop-made.state = c.step_on.ensures.less went in
+    let so_far : work_left c.loop-made.state + c.loop-made.made ≤ work_left c.args.state.now = kept.less in
     record {
-      some = omega arith;
-      within = omega arith;
-      step = c.loop-made.invariant.step;
-      made = local_more c.args.state.now mid after c.args.t.0 made c.loop-made.invariant.some c.loop-made.invariant.made step;
-      less = omega (arith, less);
+      start = λ none. absurd (omega arith);
+      made = λ some. one_more_local c.args.state.now c.loop-made.state c.step_on.new.state c.args.t.0 c.loop-made.made kept.start kept.made (c.step_on.ensures.stepped went);
+      less = omega arith;
     }
