@@ -1,5 +1,8 @@
+ghost use Rattle.std.specs.Prelude.{◌≤◌, length};
+
 use super::*;
 use std::alloc::Global;
+use std::process::Abort;
 use std::test::Fail;
 
 fn token(kind: Kind, start: u32, end: u32) -> Token {
@@ -17,68 +20,88 @@ fn fault_of(alloc: Global, text: &[u8]) -> Option<LexFault> {
     lex_short(alloc, text).err()
 }
 
-#[test]
-fn reserved_names_and_marks(rt: HostRuntime) -> Result<(), Fail> {
-    let table = [
-        ("fn", Kind::KeywordFn),
-        ("let", Kind::KeywordLet),
-        ("if", Kind::KeywordIf),
-        ("else", Kind::KeywordElse),
-        ("true", Kind::KeywordTrue),
-        ("false", Kind::KeywordFalse),
-        ("unit", Kind::KeywordUnit),
-        ("bool", Kind::KeywordBool),
-        ("int", Kind::KeywordInt),
-        ("text", Kind::KeywordText),
-        ("chan", Kind::KeywordChan),
-        ("ref", Kind::KeywordRef),
-        ("get", Kind::KeywordGet),
-        ("set", Kind::KeywordSet),
-        ("send", Kind::KeywordSend),
-        ("recv", Kind::KeywordRecv),
-        ("pick", Kind::KeywordPick),
-        ("spawn", Kind::KeywordSpawn),
-        ("stable", Kind::KeywordStable),
-        ("stabilize", Kind::KeywordStabilize),
-        ("cut", Kind::KeywordCut),
-        ("print", Kind::KeywordPrint),
-        ("probe", Kind::KeywordProbe),
-        ("fst", Kind::KeywordFst),
-        ("snd", Kind::KeywordSnd),
-        ("pin", Kind::KeywordPin),
-        ("attempt", Kind::KeywordAttempt),
-        ("==", Kind::EqualEqual),
-        ("!=", Kind::NotEqual),
-        ("<=", Kind::LessEqual),
-        (">=", Kind::GreaterEqual),
-        ("&&", Kind::AndAnd),
-        ("||", Kind::OrOr),
-        ("(", Kind::OpenParen),
-        (")", Kind::CloseParen),
-        ("{", Kind::OpenBrace),
-        ("}", Kind::CloseBrace),
-        ("[", Kind::OpenBracket),
-        ("]", Kind::CloseBracket),
-        (",", Kind::Comma),
-        (";", Kind::Semicolon),
-        (":", Kind::Colon),
-        ("=", Kind::Equal),
-        ("+", Kind::Plus),
-        ("-", Kind::Minus),
-        ("*", Kind::Star),
-        ("/", Kind::Slash),
-        ("%", Kind::Percent),
-        ("<", Kind::LessThan),
-        (">", Kind::GreaterThan),
-        ("!", Kind::Not),
-    ];
+const RESERVED: [(&str, Kind); 27] = [
+    ("fn", Kind::KeywordFn),
+    ("let", Kind::KeywordLet),
+    ("if", Kind::KeywordIf),
+    ("else", Kind::KeywordElse),
+    ("true", Kind::KeywordTrue),
+    ("false", Kind::KeywordFalse),
+    ("unit", Kind::KeywordUnit),
+    ("bool", Kind::KeywordBool),
+    ("int", Kind::KeywordInt),
+    ("text", Kind::KeywordText),
+    ("chan", Kind::KeywordChan),
+    ("ref", Kind::KeywordRef),
+    ("get", Kind::KeywordGet),
+    ("set", Kind::KeywordSet),
+    ("send", Kind::KeywordSend),
+    ("recv", Kind::KeywordRecv),
+    ("pick", Kind::KeywordPick),
+    ("spawn", Kind::KeywordSpawn),
+    ("stable", Kind::KeywordStable),
+    ("stabilize", Kind::KeywordStabilize),
+    ("cut", Kind::KeywordCut),
+    ("print", Kind::KeywordPrint),
+    ("probe", Kind::KeywordProbe),
+    ("fst", Kind::KeywordFst),
+    ("snd", Kind::KeywordSnd),
+    ("pin", Kind::KeywordPin),
+    ("attempt", Kind::KeywordAttempt),
+];
+
+const MARKS: [(&str, Kind); 24] = [
+    ("==", Kind::EqualEqual),
+    ("!=", Kind::NotEqual),
+    ("<=", Kind::LessEqual),
+    (">=", Kind::GreaterEqual),
+    ("&&", Kind::AndAnd),
+    ("||", Kind::OrOr),
+    ("(", Kind::OpenParen),
+    (")", Kind::CloseParen),
+    ("{", Kind::OpenBrace),
+    ("}", Kind::CloseBrace),
+    ("[", Kind::OpenBracket),
+    ("]", Kind::CloseBracket),
+    (",", Kind::Comma),
+    (";", Kind::Semicolon),
+    (":", Kind::Colon),
+    ("=", Kind::Equal),
+    ("+", Kind::Plus),
+    ("-", Kind::Minus),
+    ("*", Kind::Star),
+    ("/", Kind::Slash),
+    ("%", Kind::Percent),
+    ("<", Kind::LessThan),
+    (">", Kind::GreaterThan),
+    ("!", Kind::Not),
+];
+
+// Each spelling of the table is one token of its kind.
+fn assert_one_token_each(
+    rt: &impl Abort,
+    alloc: Global,
+    table: &[(&str, Kind)],
+) -> Result<(), LexFault> {
     for (spelling, kind) in table {
-        let tokens = lex_short(rt.alloc(), spelling.as_bytes())?;
+        let tokens = lex_short(alloc, spelling.as_bytes())?;
         assert_eq!(rt; tokens.len(), 1, "{spelling}");
-        assert_eq!(rt; tokens[0].kind, kind, "{spelling}");
+        assert_eq!(rt; tokens[0].kind, *kind, "{spelling}");
         assert_eq!(rt; tokens[0].start, 0);
         assert_eq!(rt; tokens[0].end as usize, spelling.len());
     }
+    Ok(())
+}
+
+#[test]
+fn each_reserved_name(rt: HostRuntime) -> Result<(), Fail> {
+    assert_one_token_each(&rt, rt.alloc(), &RESERVED)?;
+    Ok(())
+}
+
+#[test]
+fn each_mark(rt: HostRuntime) -> Result<(), Fail> {
+    assert_one_token_each(&rt, rt.alloc(), &MARKS)?;
     Ok(())
 }
 
@@ -204,11 +227,28 @@ fn nothing_to_read(rt: HostRuntime) -> Result<(), Fail> {
     Ok(())
 }
 
+// The characters of the first text of a program.
+fn first_text(alloc: Global, program: &[u8]) -> Result<Option<String>, LexFault>
+    requires { length program.now ≤ 1048576 }
+{
+    let tokens = lex(alloc, program)?;
+    text_tokens();
+    for token in &tokens {
+        if let Kind::Text = token.kind {
+            let literal = &program[token.start as usize..token.end as usize];
+            return Ok(Some(characters(alloc, literal)?));
+        }
+    }
+    Ok(None)
+}
+
 #[test]
 fn characters_of_texts(rt: HostRuntime) -> Result<(), Fail> {
-    let plain = characters(rt.alloc(), b"\"\"")?;
-    assert_eq!(rt; plain.as_str(), "");
-    let escapes = characters(rt.alloc(), "\"é\\\\n\\\"//\"".as_bytes())?;
-    assert_eq!(rt; escapes.as_str(), "é\\n\"//");
+    let none = first_text(rt.alloc(), b"text // \"a\"")?;
+    assert!(rt; none.is_none());
+    let empty = first_text(rt.alloc(), b"\"\" \"a\"")?.ok_or("no text")?;
+    assert_eq!(rt; empty.as_str(), "");
+    let escapes = first_text(rt.alloc(), "é(\"é\\\\n\\\"//\t\");".as_bytes())?.ok_or("no text")?;
+    assert_eq!(rt; escapes.as_str(), "é\\n\"//\t");
     Ok(())
 }
