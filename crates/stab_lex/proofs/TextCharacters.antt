@@ -5,7 +5,7 @@ use Rattle.std.specs.List.{slice_get}
 use Rattle.std.proofs.lemmas.Str.{encodes-append}
 use Rattle.std.proofs.lemmas.Bool.{cases_Bool, or_parts, eqb-false, cond-true, cond-false}
 use Rattle.stab_lex.specs.Place.{Place, Leads}
-use Rattle.stab_lex.specs.Pieces.{Quoted, spelling, escaped, is_escaped, IsTextOf}
+use Rattle.stab_lex.specs.Pieces.{escaped, is_escaped, IsTextOf}
 use Rattle.stab_lex.proofs.Ways.{bumped}
 
 -- some of the characters have been read, into these bytes, and the others follow the place

@@ -43,6 +43,6 @@ piece_is_text (Quoted cs) after literal stands kind utf8 is =
     (cs, record { utf8 = utf8; text = sym (chars_from_encodes (spelling (Quoted cs)) literal utf8 (sym is)); in_line = stands })
 piece_is_text (Mark cs) after literal stands kind utf8 is = absurd (no_text marks cs refl kind)
 
-pub text_tokens : (bytes : List ℕ) (token : Token) → IsSlice bytes token → token.kind ≡ Text → IsText (slice_range bytes token.start token.end)
-text_tokens bytes token slice is =
+pub texts_are_quoted : (bytes : List ℕ) (token : Token) → IsSlice bytes token → token.kind ≡ Text → IsText (slice_range bytes token.start token.end)
+texts_are_quoted bytes token slice is =
     piece_is_text slice.piece slice.after (slice_range bytes token.start token.end) slice.stands (slice.kind_is ∙ ap Some is) slice.utf8 slice.bytes_are

@@ -12,7 +12,7 @@ use Rattle.stab_lex.specs.Kinds.{name_kind, mark_kind}
 abbrev pub is_blank : ℕ → Bool
 is_blank c = c == 32 || c == 9 || c == 10 || c == 13
 
--- what a comment and a text don't go beyond
+-- any character but a line feed, beyond which no comment and no text goes
 abbrev pub is_in_line : ℕ → Bool
 is_in_line c = not (c == 10)
 

@@ -39,7 +39,7 @@ pub fn tokens_in_order()
 {}
 
 /// The bytes of a token of the kind `Text` are a text between its quotes.
-pub fn text_tokens()
+pub fn texts_are_quoted()
     ensures { (bytes : List ℕ) (token : Token) → IsSlice bytes token → token.kind ≡ Text
         → IsText (slice_range bytes token.start token.end) }
 {}

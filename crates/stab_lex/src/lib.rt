@@ -19,7 +19,7 @@ mod word;
 
 pub use kind::Kind;
 pub use laws::{
-    not_both, one_fault, one_reading, one_text, reading_or_fault, text_tokens, tokens_in_order,
+    not_both, one_fault, one_reading, one_text, reading_or_fault, texts_are_quoted, tokens_in_order,
 };
 pub use literal::characters;
 pub use token::{LexFault, Token};

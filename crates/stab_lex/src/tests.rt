@@ -180,7 +180,7 @@ fn numbers(rt: HostRuntime) -> Result<(), Fail> {
 
 #[test]
 fn faults(rt: HostRuntime) {
-    let table: [(&[u8], LexFault); 19] = [
+    let table: [(&[u8], LexFault); 20] = [
         (b"fn main(): unit { print(1 & 2) }", LexFault::BadChar(26)),
         (b"fn main(): unit { print(\"a) }", LexFault::OpenText(24)),
         (b"fn main(): unit { print(\xFF", LexFault::NotUtf8(24)),
@@ -192,6 +192,7 @@ fn faults(rt: HostRuntime) {
         (b"a|", LexFault::BadChar(1)),
         (b"\0", LexFault::BadChar(0)),
         (b"\xEF\xBB\xBFfn", LexFault::BadChar(0)),
+        (b"\xD9\xA3", LexFault::BadChar(0)),
         (b"& \xC0\x80", LexFault::NotUtf8(2)),
         (b"ab\xED\xA0\x80", LexFault::NotUtf8(2)),
         (b"x \"\\q\"", LexFault::BadChar(3)),
@@ -232,7 +233,7 @@ fn first_text(alloc: Global, program: &[u8]) -> Result<Option<String>, LexFault>
     requires { length program.now ≤ 1048576 }
 {
     let tokens = lex(alloc, program)?;
-    text_tokens();
+    texts_are_quoted();
     for token in &tokens {
         if let Kind::Text = token.kind {
             let literal = &program[token.start as usize..token.end as usize];
