@@ -9,15 +9,13 @@ fn token(kind: Kind, start: u32, end: u32) -> Token {
     Token { kind, start, end }
 }
 
-fn lex_short(alloc: Global, text: &[u8]) -> Result<Vec<Token>, LexFault> {
-    if text.len() > 1000 {
-        return Err(LexFault::NoMemory);
-    }
+fn lexed(rt: &impl Abort, alloc: Global, text: &[u8]) -> Result<Vec<Token>, LexFault> {
+    assert!(rt; text.len() <= 1_048_576);
     lex(alloc, text)
 }
 
-fn fault_of(alloc: Global, text: &[u8]) -> Option<LexFault> {
-    lex_short(alloc, text).err()
+fn fault_of(rt: &impl Abort, alloc: Global, text: &[u8]) -> Option<LexFault> {
+    lexed(rt, alloc, text).err()
 }
 
 const RESERVED: [(&str, Kind); 27] = [
@@ -84,7 +82,7 @@ fn assert_one_token_each(
     table: &[(&str, Kind)],
 ) -> Result<(), LexFault> {
     for (spelling, kind) in table {
-        let tokens = lex_short(alloc, spelling.as_bytes())?;
+        let tokens = lexed(rt, alloc, spelling.as_bytes())?;
         assert_eq!(rt; tokens.len(), 1, "{spelling}");
         assert_eq!(rt; tokens[0].kind, *kind, "{spelling}");
         assert_eq!(rt; tokens[0].start, 0);
@@ -107,7 +105,11 @@ fn each_mark(rt: HostRuntime) -> Result<(), Fail> {
 
 #[test]
 fn a_program(rt: HostRuntime) -> Result<(), Fail> {
-    let tokens = lex_short(rt.alloc(), b"fn main(): unit { print(1 + 2) } // the sum")?;
+    let tokens = lexed(
+        &rt,
+        rt.alloc(),
+        b"fn main(): unit { print(1 + 2) } // the sum",
+    )?;
     let expected = [
         token(Kind::KeywordFn, 0, 2),
         token(Kind::Name, 3, 7),
@@ -130,7 +132,7 @@ fn a_program(rt: HostRuntime) -> Result<(), Fail> {
 
 #[test]
 fn names_of_three_scripts(rt: HostRuntime) -> Result<(), Fail> {
-    let tokens = lex_short(rt.alloc(), "αβγ\tимя_2\r\n名前 fnx".as_bytes())?;
+    let tokens = lexed(&rt, rt.alloc(), "αβγ\tимя_2\r\n名前 fnx".as_bytes())?;
     let expected = [
         token(Kind::Name, 0, 6),
         token(Kind::Name, 7, 15),
@@ -143,7 +145,7 @@ fn names_of_three_scripts(rt: HostRuntime) -> Result<(), Fail> {
 
 #[test]
 fn marks_are_the_longest(rt: HostRuntime) -> Result<(), Fail> {
-    let tokens = lex_short(rt.alloc(), b"=== <== !!= / //= x\n-9")?;
+    let tokens = lexed(&rt, rt.alloc(), b"=== <== !!= / //= x\n-9")?;
     let expected = [
         token(Kind::EqualEqual, 0, 2),
         token(Kind::Equal, 2, 3),
@@ -161,18 +163,22 @@ fn marks_are_the_longest(rt: HostRuntime) -> Result<(), Fail> {
 
 #[test]
 fn numbers(rt: HostRuntime) -> Result<(), Fail> {
-    let tokens = lex_short(rt.alloc(), b"9223372036854775808 007x")?;
+    let tokens = lexed(&rt, rt.alloc(), b"9223372036854775808 007x")?;
     let expected = [
         token(Kind::Number(9_223_372_036_854_775_808), 0, 19),
         token(Kind::Number(7), 20, 23),
         token(Kind::Name, 23, 24),
     ];
     assert_eq!(rt; tokens.as_slice(), expected.as_slice());
-    let long = fault_of(rt.alloc(), b"1 100000000000000000000000000000000000000000");
+    let long = fault_of(
+        &rt,
+        rt.alloc(),
+        b"1 100000000000000000000000000000000000000000",
+    );
     assert_eq!(rt; long, Some(LexFault::BigNumber(2)));
     let million = vec![in rt.alloc(); b'9'; 1_000_000]?;
     assert_eq!(rt;
-        lex(rt.alloc(), &million).err(),
+        fault_of(&rt, rt.alloc(), &million),
         Some(LexFault::BigNumber(0))
     );
     Ok(())
@@ -206,13 +212,13 @@ fn faults(rt: HostRuntime) {
         (b"& 9223372036854775809", LexFault::BadChar(0)),
     ];
     for (text, fault) in table {
-        assert_eq!(rt; fault_of(rt.alloc(), text), Some(fault));
+        assert_eq!(rt; fault_of(&rt, rt.alloc(), text), Some(fault));
     }
 }
 
 #[test]
 fn texts(rt: HostRuntime) -> Result<(), Fail> {
-    let tokens = lex_short(rt.alloc(), b"\"\" \"a\\\"\\\\\"//\"\n")?;
+    let tokens = lexed(&rt, rt.alloc(), b"\"\" \"a\\\"\\\\\"//\"\n")?;
     let expected = [token(Kind::Text, 0, 2), token(Kind::Text, 3, 10)];
     assert_eq!(rt; tokens.as_slice(), expected.as_slice());
     Ok(())
@@ -220,9 +226,9 @@ fn texts(rt: HostRuntime) -> Result<(), Fail> {
 
 #[test]
 fn nothing_to_read(rt: HostRuntime) -> Result<(), Fail> {
-    assert_eq!(rt; lex_short(rt.alloc(), b"")?.len(), 0);
+    assert_eq!(rt; lexed(&rt, rt.alloc(), b"")?.len(), 0);
     assert_eq!(rt;
-        lex_short(rt.alloc(), b" \t\r\n// \xC3\xA9 & \"\n//")?.len(),
+        lexed(&rt, rt.alloc(), b" \t\r\n// \xC3\xA9 & \"\n//")?.len(),
         0
     );
     Ok(())
