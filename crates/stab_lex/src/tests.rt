@@ -92,13 +92,8 @@ fn assert_one_token_each(
 }
 
 #[test]
-fn each_reserved_name(rt: HostRuntime) -> Result<(), Fail> {
+fn reserved_names_and_marks(rt: HostRuntime) -> Result<(), Fail> {
     assert_one_token_each(&rt, rt.alloc(), &RESERVED)?;
-    Ok(())
-}
-
-#[test]
-fn each_mark(rt: HostRuntime) -> Result<(), Fail> {
     assert_one_token_each(&rt, rt.alloc(), &MARKS)?;
     Ok(())
 }
