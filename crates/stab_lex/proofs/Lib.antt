@@ -6,6 +6,7 @@ pub mod Progress
 pub mod Scan
 pub mod Spans
 pub mod TextCharacters
+pub mod TextTokens
 pub mod Texts
 pub mod Total
 pub mod Unique

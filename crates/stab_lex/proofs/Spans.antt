@@ -39,10 +39,10 @@ middle front mid back =
     let span : length front + length mid - length front ≡ length mid = omega arith in
     (λ i. take (span i) (drop-append_seam front (mid ++ back) i)) ∙ take-append_seam mid back
 
-slices_step : (bytes : List ℕ) (p : Piece) (after : List ℕ) (start end : ℕ) (later : List Token) → Stands p after → slice_range bytes start end ≡ encode_utf8_all (spelling p) → all_scalars (spelling p) ≡ true → AllByRecursion (IsSlice bytes) later → (kind : Option Kind) → kind_of p ≡ kind → AllByRecursion (IsSlice bytes) (token_of kind start end ++ later)
-slices_step bytes p after start end later stands here scalar rest None is = rest
-slices_step bytes p after start end later stands here scalar rest (Some k) is =
-    (record { piece = p; after = after; stands = stands; kind_is = is; bytes_are = here; utf8 = (spelling p, (scalar, sym here)) }, rest)
+slices_step : (bytes : List ℕ) (p : Piece) (after : List ℕ) (start end : ℕ) (later : List Token) → Stands p after → start < end → end ≤ length bytes → slice_range bytes start end ≡ encode_utf8_all (spelling p) → all_scalars (spelling p) ≡ true → AllByRecursion (IsSlice bytes) later → (kind : Option Kind) → kind_of p ≡ kind → AllByRecursion (IsSlice bytes) (token_of kind start end ++ later)
+slices_step bytes p after start end later stands some inside here scalar rest None is = rest
+slices_step bytes p after start end later stands some inside here scalar rest (Some k) is =
+    (record { some = some; inside = inside; piece = p; after = after; stands = stands; kind_is = is; bytes_are = here; utf8 = (spelling p, (scalar, sym here)) }, rest)
 
 scalar_parts : (xs ys : List ℕ) → all_scalars (xs ++ ys) ≡ true → (all_scalars xs ≡ true) × (all_scalars ys ≡ true)
 scalar_parts [] ys e = (refl, e)
@@ -61,7 +61,9 @@ slices_of bytes (p ∷ ps) front after stand scalar whole =
     let here : slice_range bytes (length front) end ≡ mid = ap (λ bs. slice_range bs (length front) end) parted ∙ middle front mid (encode_utf8_all (spellings ps)) in
     let later = slices_of bytes ps (front ++ mid) after stand.1 scalars.1 (parted ∙ sym (append_assoc front mid (encode_utf8_all (spellings ps)))) in
     let rest : AllByRecursion (IsSlice bytes) (tokens_at end ps) = subst (λ n. AllByRecursion (IsSlice bytes) (tokens_at n ps)) (length-append front mid) later in
-    slices_step bytes p (spellings ps ++ after) (length front) end (tokens_at end ps) stand.0 here scalars.0 rest (kind_of p) refl
+    let some : length front < end = omega (arith, some_bytes p (spellings ps ++ after) stand.0) in
+    let inside : end ≤ length bytes = omega (arith, ap length parted, length-append front (mid ++ encode_utf8_all (spellings ps)), length-append mid (encode_utf8_all (spellings ps))) in
+    slices_step bytes p (spellings ps ++ after) (length front) end (tokens_at end ps) stand.0 some inside here scalars.0 rest (kind_of p) refl
 
 whole_of : {bytes : List ℕ} {tokens : List Token} (r : Reads bytes tokens) → bytes ≡ encode_utf8_all (spellings r.pieces)
 whole_of {bytes} r = sym (encodes-chars bytes r.utf8) ∙ ap encode_utf8_all r.text

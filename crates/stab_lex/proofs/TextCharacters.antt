@@ -1,11 +1,11 @@
 -- The characters of a text, one after the other.
-use Rattle.std.proofs.Common.{◌≡◌, ℕ, false, eqb, None, Some, Option, List, [], ◌∷◌, ◌++◌, length, refl, sym, ap, ◌∙◌, arith, append_assoc, append-nil, encode_utf8, encode_utf8_all, IsUtf8, MatchOption, ⊎_elim}
+use Rattle.std.proofs.Common.{◌≡◌, ℕ, false, eqb, None, Some, Option, List, [], ◌∷◌, ◌++◌, length, refl, sym, ap, ◌∙◌, arith, append_assoc, append-nil, encode_utf8, encode_utf8_all, MatchOption, ⊎_elim}
 use Rattle.std.specs.Str.{chars}
 use Rattle.std.specs.List.{slice_get}
-use Rattle.std.proofs.lemmas.Str.{encodes-append, chars_from_encodes}
+use Rattle.std.proofs.lemmas.Str.{encodes-append}
 use Rattle.std.proofs.lemmas.Bool.{cases_Bool, or_parts, eqb-false, cond-true, cond-false}
 use Rattle.stab_lex.specs.Place.{Place, Leads}
-use Rattle.stab_lex.specs.Pieces.{Quoted, spelling, escaped, is_escaped, IsTextOf}
+use Rattle.stab_lex.specs.Pieces.{escaped, is_escaped, IsTextOf}
 use Rattle.stab_lex.proofs.Ways.{bumped}
 
 -- some of the characters have been read, into these bytes, and the others follow the place
@@ -73,9 +73,9 @@ module _ (cs : List ℕ) {d : ℕ} {old mid : Place} (step : Leads (d ∷ []) ol
   pub answers_plain : (d ≡ 34 → ⊥) → (d ≡ 92 → ⊥) → Answers (Some d) cs mid
   answers_plain no_quote no_backslash = at_plain cs d mid no_quote no_backslash next
 
-pub ReadsTo-begin : (cs literal bytes : List ℕ) (old new : Place) (r : Option ℕ) → IsUtf8 literal → IsTextOf literal cs → old.rest ≡ chars literal → bytes ≡ [] → MatchOption r ((old.rest ≡ []) × (new ≡ old)) (λ d. Leads (d ∷ []) old new) → ReadsTo cs new bytes
-ReadsTo-begin cs literal bytes old new r utf8 text start empty bump =
-    let written : 34 ∷ (escaped cs ++ 34 ∷ []) ≡ old.rest = chars_from_encodes (spelling (Quoted cs)) literal utf8 (sym text.bytes_are) ∙ sym start in
+pub ReadsTo-begin : (cs literal bytes : List ℕ) (old new : Place) (r : Option ℕ) → IsTextOf literal cs → old.rest ≡ chars literal → bytes ≡ [] → MatchOption r ((old.rest ≡ []) × (new ≡ old)) (λ d. Leads (d ∷ []) old new) → ReadsTo cs new bytes
+ReadsTo-begin cs literal bytes old new r text start empty bump =
+    let written : 34 ∷ (escaped cs ++ 34 ∷ []) ≡ old.rest = sym text.text ∙ sym start in
     let step = bumped 34 r (ap (λ xs. slice_get xs 0) written) bump in
     let split : 34 ∷ (escaped cs ++ 34 ∷ []) ≡ 34 ∷ new.rest = written ∙ step.text in
     record { read = []; left = cs; parts = refl; rest = cc; bytes_are = empty }

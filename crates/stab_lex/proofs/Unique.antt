@@ -7,7 +7,7 @@ use Rattle.stab_lex.specs.declared.token.Token.{Token}
 use Rattle.stab_lex.specs.declared.token.LexFault.{LexFault}
 use Rattle.stab_lex.specs.declared.token.LexFault.TheVariants.{NotUtf8, BadChar, BigNumber, OpenText, NoMemory}
 use Rattle.stab_lex.specs.Place.{byte_len}
-use Rattle.stab_lex.specs.Pieces.{Piece, spelling, obstacle_spelling}
+use Rattle.stab_lex.specs.Pieces.{Piece, Quoted, spelling, obstacle_spelling, IsTextOf}
 use Rattle.stab_lex.specs.Readings.{spellings, AllStand, tokens_at, Reads, fault_at, IsBlocked, HasFault}
 use Rattle.stab_lex.proofs.Scan.{Seen, Ended, Found, Stuck, first_of, first_of-nil, first_of-piece, first_of-obstacle}
 
@@ -96,3 +96,10 @@ one_fault bytes NoMemory other f g = absurd f
 one_fault bytes (BadChar m) other f g = past_utf8 bytes (BadChar m) other f g
 one_fault bytes (BigNumber m) other f g = past_utf8 bytes (BigNumber m) other f g
 one_fault bytes (OpenText m) other f g = past_utf8 bytes (OpenText m) other f g
+
+-- a text stands for one list of characters
+pub one_text : (literal cs others : List ℕ) → IsTextOf literal cs → IsTextOf literal others → cs ≡ others
+one_text literal cs others a b =
+    let seen : Found (Quoted cs) [] ≡ Found (Quoted others) [] =
+    sym (first_of-piece (Quoted cs) [] a.in_line) ∙ ap (λ t. first_of (t ++ [])) (sym a.text ∙ b.text) ∙ first_of-piece (Quoted others) [] b.in_line in
+    cc

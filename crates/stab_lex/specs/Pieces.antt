@@ -1,7 +1,8 @@
 -- The pieces of a text, tokens and what separates them, and what can stand where no piece does.
-use Rattle.std.specs.Prelude.{◌≡◌, ◌≢◌, ℕ, ◌+◌, ◌-◌, ◌*◌, ◌^◌, ◌<◌, ◌≤◌, Bool, ◌||◌, ◌==◌, not, IsTrue, IsFalse, List, [], ◌∷◌, ◌++◌, Option, Some, None, IsSome, IsNone, ◌⊎◌, if◌then◌else◌, fold, encode_utf8_all}
+use Rattle.std.specs.Prelude.{◌≡◌, ◌≢◌, ℕ, ◌+◌, ◌-◌, ◌*◌, ◌^◌, ◌<◌, ◌≤◌, Bool, ◌||◌, ◌==◌, not, IsTrue, IsFalse, List, [], ◌∷◌, ◌++◌, Option, Some, None, IsSome, IsNone, ◌⊎◌, if◌then◌else◌, fold, IsUtf8, encode_utf8_all}
 use Rattle.std.specs.List.{AllByRecursion, flat_map}
 use Rattle.std.specs.Char.{is_ascii_digit}
+use Rattle.std.specs.Str.{chars}
 use Rattle.unicode_ident.specs.Ident.{is_xid_start, is_xid_continue}
 use Rattle.stab_lex.specs.declared.kind.Kind.{Kind}
 use Rattle.stab_lex.specs.declared.kind.Kind.TheVariants.{Number, Text}
@@ -11,7 +12,7 @@ use Rattle.stab_lex.specs.Kinds.{name_kind, mark_kind}
 abbrev pub is_blank : ℕ → Bool
 is_blank c = c == 32 || c == 9 || c == 10 || c == 13
 
--- what a comment and a text don't go beyond
+-- any character but a line feed, beyond which no comment and no text goes
 abbrev pub is_in_line : ℕ → Bool
 is_in_line c = not (c == 10)
 
@@ -140,5 +141,10 @@ Blocks (BadEscape cs c) after = Pass is_in_line cs × IsFalse (is_escaped c)
 
 -- the bytes are a text between its quotes, and these are the characters that it stands for
 pub record IsTextOf (literal : List ℕ) (cs : List ℕ) : Type 0 where
+  pub utf8 : IsUtf8 literal
+  pub text : chars literal ≡ spelling (Quoted cs)
   pub in_line : Pass is_in_line cs
-  pub bytes_are : literal ≡ encode_utf8_all (spelling (Quoted cs))
+
+-- the bytes are a text between its quotes
+abbrev pub IsText : List ℕ → Type 0
+IsText literal = (cs : List ℕ) × IsTextOf literal cs

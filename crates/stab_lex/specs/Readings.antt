@@ -1,5 +1,5 @@
 -- What it means that bytes are read as tokens, or have a fault.
-use Rattle.std.specs.Prelude.{◌≡◌, ℕ, ◌+◌, ◌<◌, ◌≤◌, List, [], ◌∷◌, ◌++◌, Option, Some, option_map, IsUtf8, encode_utf8_all}
+use Rattle.std.specs.Prelude.{◌≡◌, ℕ, ◌+◌, ◌<◌, ◌≤◌, List, [], ◌∷◌, ◌++◌, length, Option, Some, option_map, IsUtf8, encode_utf8_all}
 use Rattle.std.specs.Option.{option_to_list}
 use Rattle.std.specs.List.{flat_map, slice_range}
 use Rattle.std.specs.Str.{chars, IsValidUpTo}
@@ -71,6 +71,8 @@ InOrder at (t ∷ ts) len = (at ≤ t.start) × (t.start < t.end) × InOrder t.e
 
 -- the bytes from the token's start to its end are those of a piece of the token's kind
 pub record IsSlice (bytes : List ℕ) (token : Token) : Type 0 where
+  pub some : token.start < token.end
+  pub inside : token.end ≤ length bytes
   pub piece : Piece
   pub after : List ℕ
   pub stands : Stands piece after

@@ -18,7 +18,9 @@ mod tokens;
 mod word;
 
 pub use kind::Kind;
-pub use laws::{not_both, one_fault, one_reading, reading_or_fault};
+pub use laws::{
+    not_both, one_fault, one_reading, one_text, reading_or_fault, texts_are_quoted, tokens_in_order,
+};
 pub use literal::characters;
 pub use token::{LexFault, Token};
 pub use tokens::lex;

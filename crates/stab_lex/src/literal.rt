@@ -1,17 +1,19 @@
-ghost use Rattle.std.specs.Prelude.{◌≡◌, ℕ, ◌<◌, ◌≤◌, List, [], ◌∷◌, ◌++◌, length, IfOk, OnSome, MatchOption, IsUtf8, encode_utf8_all};
+ghost use Rattle.std.specs.Prelude.{◌≡◌, ℕ, ◌<◌, ◌≤◌, List, [], ◌∷◌, ◌++◌, length, IfOk, IfErr, OnSome, MatchOption, encode_utf8_all};
 ghost use Rattle.std.specs.String.{string_bytes};
-ghost use Rattle.stab_lex.specs.Pieces.{escaped, IsTextOf};
+ghost use Rattle.stab_lex.specs.Pieces.{escaped, IsTextOf, IsText};
 
 use crate::cursor::Cursor;
-use std::alloc::{AllocError, Global};
+use crate::token::LexFault;
+use std::alloc::Global;
 use std::str;
 
 /// The characters that a text stands for, from its bytes in the source with both quotes.
-pub fn characters(alloc: Global, literal: &[u8]) -> Result<String, AllocError>
+pub fn characters(alloc: Global, literal: &[u8]) -> Result<String, LexFault>
     requires small { length literal.now ≤ 1048576 }
-    requires utf8 { IsUtf8 literal.now }
-    ensures { IfOk result (λ text. (cs : List ℕ) → IsTextOf literal.now cs
+    requires text { IsText literal.now }
+    ensures characters { IfOk result (λ text. (cs : List ℕ) → IsTextOf literal.now cs
         → string_bytes text ≡ encode_utf8_all cs) }
+    ensures fault { IfErr result (λ fault. fault ≡ LexFault.NoMemory) }
 {
     let mut text = String::new(alloc);
     let Ok(written) = str::from_utf8(literal) else {

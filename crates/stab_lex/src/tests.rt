@@ -1,81 +1,90 @@
+ghost use Rattle.std.specs.Prelude.{◌≤◌, length};
+
 use super::*;
 use std::alloc::Global;
+use std::process::Abort;
 use std::test::Fail;
 
 fn token(kind: Kind, start: u32, end: u32) -> Token {
     Token { kind, start, end }
 }
 
-fn lex_short(alloc: Global, text: &[u8]) -> Result<Vec<Token>, LexFault> {
-    if text.len() > 1000 {
-        return Err(LexFault::NoMemory);
-    }
+fn lexed(rt: &impl Abort, alloc: Global, text: &[u8]) -> Result<Vec<Token>, LexFault> {
+    assert!(rt; text.len() <= 1_048_576);
     lex(alloc, text)
 }
 
-fn fault_of(alloc: Global, text: &[u8]) -> Option<LexFault> {
-    lex_short(alloc, text).err()
+fn fault_of(rt: &impl Abort, alloc: Global, text: &[u8]) -> Option<LexFault> {
+    lexed(rt, alloc, text).err()
 }
 
-#[test]
-fn reserved_names_and_marks(rt: HostRuntime) -> Result<(), Fail> {
-    let table = [
-        ("fn", Kind::KeywordFn),
-        ("let", Kind::KeywordLet),
-        ("if", Kind::KeywordIf),
-        ("else", Kind::KeywordElse),
-        ("true", Kind::KeywordTrue),
-        ("false", Kind::KeywordFalse),
-        ("unit", Kind::KeywordUnit),
-        ("bool", Kind::KeywordBool),
-        ("int", Kind::KeywordInt),
-        ("text", Kind::KeywordText),
-        ("chan", Kind::KeywordChan),
-        ("ref", Kind::KeywordRef),
-        ("get", Kind::KeywordGet),
-        ("set", Kind::KeywordSet),
-        ("send", Kind::KeywordSend),
-        ("recv", Kind::KeywordRecv),
-        ("pick", Kind::KeywordPick),
-        ("spawn", Kind::KeywordSpawn),
-        ("stable", Kind::KeywordStable),
-        ("stabilize", Kind::KeywordStabilize),
-        ("cut", Kind::KeywordCut),
-        ("print", Kind::KeywordPrint),
-        ("probe", Kind::KeywordProbe),
-        ("fst", Kind::KeywordFst),
-        ("snd", Kind::KeywordSnd),
-        ("pin", Kind::KeywordPin),
-        ("attempt", Kind::KeywordAttempt),
-        ("==", Kind::EqualEqual),
-        ("!=", Kind::NotEqual),
-        ("<=", Kind::LessEqual),
-        (">=", Kind::GreaterEqual),
-        ("&&", Kind::AndAnd),
-        ("||", Kind::OrOr),
-        ("(", Kind::OpenParen),
-        (")", Kind::CloseParen),
-        ("{", Kind::OpenBrace),
-        ("}", Kind::CloseBrace),
-        ("[", Kind::OpenBracket),
-        ("]", Kind::CloseBracket),
-        (",", Kind::Comma),
-        (";", Kind::Semicolon),
-        (":", Kind::Colon),
-        ("=", Kind::Equal),
-        ("+", Kind::Plus),
-        ("-", Kind::Minus),
-        ("*", Kind::Star),
-        ("/", Kind::Slash),
-        ("%", Kind::Percent),
-        ("<", Kind::LessThan),
-        (">", Kind::GreaterThan),
-        ("!", Kind::Not),
-    ];
+const RESERVED: [(&str, Kind); 27] = [
+    ("fn", Kind::KeywordFn),
+    ("let", Kind::KeywordLet),
+    ("if", Kind::KeywordIf),
+    ("else", Kind::KeywordElse),
+    ("true", Kind::KeywordTrue),
+    ("false", Kind::KeywordFalse),
+    ("unit", Kind::KeywordUnit),
+    ("bool", Kind::KeywordBool),
+    ("int", Kind::KeywordInt),
+    ("text", Kind::KeywordText),
+    ("chan", Kind::KeywordChan),
+    ("ref", Kind::KeywordRef),
+    ("get", Kind::KeywordGet),
+    ("set", Kind::KeywordSet),
+    ("send", Kind::KeywordSend),
+    ("recv", Kind::KeywordRecv),
+    ("pick", Kind::KeywordPick),
+    ("spawn", Kind::KeywordSpawn),
+    ("stable", Kind::KeywordStable),
+    ("stabilize", Kind::KeywordStabilize),
+    ("cut", Kind::KeywordCut),
+    ("print", Kind::KeywordPrint),
+    ("probe", Kind::KeywordProbe),
+    ("fst", Kind::KeywordFst),
+    ("snd", Kind::KeywordSnd),
+    ("pin", Kind::KeywordPin),
+    ("attempt", Kind::KeywordAttempt),
+];
+
+const MARKS: [(&str, Kind); 24] = [
+    ("==", Kind::EqualEqual),
+    ("!=", Kind::NotEqual),
+    ("<=", Kind::LessEqual),
+    (">=", Kind::GreaterEqual),
+    ("&&", Kind::AndAnd),
+    ("||", Kind::OrOr),
+    ("(", Kind::OpenParen),
+    (")", Kind::CloseParen),
+    ("{", Kind::OpenBrace),
+    ("}", Kind::CloseBrace),
+    ("[", Kind::OpenBracket),
+    ("]", Kind::CloseBracket),
+    (",", Kind::Comma),
+    (";", Kind::Semicolon),
+    (":", Kind::Colon),
+    ("=", Kind::Equal),
+    ("+", Kind::Plus),
+    ("-", Kind::Minus),
+    ("*", Kind::Star),
+    ("/", Kind::Slash),
+    ("%", Kind::Percent),
+    ("<", Kind::LessThan),
+    (">", Kind::GreaterThan),
+    ("!", Kind::Not),
+];
+
+// Each spelling of the table is one token of its kind.
+fn assert_one_token_each(
+    rt: &impl Abort,
+    alloc: Global,
+    table: &[(&str, Kind)],
+) -> Result<(), LexFault> {
     for (spelling, kind) in table {
-        let tokens = lex_short(rt.alloc(), spelling.as_bytes())?;
+        let tokens = lexed(rt, alloc, spelling.as_bytes())?;
         assert_eq!(rt; tokens.len(), 1, "{spelling}");
-        assert_eq!(rt; tokens[0].kind, kind, "{spelling}");
+        assert_eq!(rt; tokens[0].kind, *kind, "{spelling}");
         assert_eq!(rt; tokens[0].start, 0);
         assert_eq!(rt; tokens[0].end as usize, spelling.len());
     }
@@ -83,8 +92,19 @@ fn reserved_names_and_marks(rt: HostRuntime) -> Result<(), Fail> {
 }
 
 #[test]
+fn reserved_names_and_marks(rt: HostRuntime) -> Result<(), Fail> {
+    assert_one_token_each(&rt, rt.alloc(), &RESERVED)?;
+    assert_one_token_each(&rt, rt.alloc(), &MARKS)?;
+    Ok(())
+}
+
+#[test]
 fn a_program(rt: HostRuntime) -> Result<(), Fail> {
-    let tokens = lex_short(rt.alloc(), b"fn main(): unit { print(1 + 2) } // the sum")?;
+    let tokens = lexed(
+        &rt,
+        rt.alloc(),
+        b"fn main(): unit { print(1 + 2) } // the sum",
+    )?;
     let expected = [
         token(Kind::KeywordFn, 0, 2),
         token(Kind::Name, 3, 7),
@@ -107,7 +127,7 @@ fn a_program(rt: HostRuntime) -> Result<(), Fail> {
 
 #[test]
 fn names_of_three_scripts(rt: HostRuntime) -> Result<(), Fail> {
-    let tokens = lex_short(rt.alloc(), "αβγ\tимя_2\r\n名前 fnx".as_bytes())?;
+    let tokens = lexed(&rt, rt.alloc(), "αβγ\tимя_2\r\n名前 fnx".as_bytes())?;
     let expected = [
         token(Kind::Name, 0, 6),
         token(Kind::Name, 7, 15),
@@ -120,7 +140,7 @@ fn names_of_three_scripts(rt: HostRuntime) -> Result<(), Fail> {
 
 #[test]
 fn marks_are_the_longest(rt: HostRuntime) -> Result<(), Fail> {
-    let tokens = lex_short(rt.alloc(), b"=== <== !!= / //= x\n-9")?;
+    let tokens = lexed(&rt, rt.alloc(), b"=== <== !!= / //= x\n-9")?;
     let expected = [
         token(Kind::EqualEqual, 0, 2),
         token(Kind::Equal, 2, 3),
@@ -138,18 +158,22 @@ fn marks_are_the_longest(rt: HostRuntime) -> Result<(), Fail> {
 
 #[test]
 fn numbers(rt: HostRuntime) -> Result<(), Fail> {
-    let tokens = lex_short(rt.alloc(), b"9223372036854775808 007x")?;
+    let tokens = lexed(&rt, rt.alloc(), b"9223372036854775808 007x")?;
     let expected = [
         token(Kind::Number(9_223_372_036_854_775_808), 0, 19),
         token(Kind::Number(7), 20, 23),
         token(Kind::Name, 23, 24),
     ];
     assert_eq!(rt; tokens.as_slice(), expected.as_slice());
-    let long = fault_of(rt.alloc(), b"1 100000000000000000000000000000000000000000");
+    let long = fault_of(
+        &rt,
+        rt.alloc(),
+        b"1 100000000000000000000000000000000000000000",
+    );
     assert_eq!(rt; long, Some(LexFault::BigNumber(2)));
     let million = vec![in rt.alloc(); b'9'; 1_000_000]?;
     assert_eq!(rt;
-        lex(rt.alloc(), &million).err(),
+        fault_of(&rt, rt.alloc(), &million),
         Some(LexFault::BigNumber(0))
     );
     Ok(())
@@ -157,7 +181,7 @@ fn numbers(rt: HostRuntime) -> Result<(), Fail> {
 
 #[test]
 fn faults(rt: HostRuntime) {
-    let table: [(&[u8], LexFault); 19] = [
+    let table: [(&[u8], LexFault); 20] = [
         (b"fn main(): unit { print(1 & 2) }", LexFault::BadChar(26)),
         (b"fn main(): unit { print(\"a) }", LexFault::OpenText(24)),
         (b"fn main(): unit { print(\xFF", LexFault::NotUtf8(24)),
@@ -169,6 +193,7 @@ fn faults(rt: HostRuntime) {
         (b"a|", LexFault::BadChar(1)),
         (b"\0", LexFault::BadChar(0)),
         (b"\xEF\xBB\xBFfn", LexFault::BadChar(0)),
+        (b"\xD9\xA3", LexFault::BadChar(0)),
         (b"& \xC0\x80", LexFault::NotUtf8(2)),
         (b"ab\xED\xA0\x80", LexFault::NotUtf8(2)),
         (b"x \"\\q\"", LexFault::BadChar(3)),
@@ -182,13 +207,13 @@ fn faults(rt: HostRuntime) {
         (b"& 9223372036854775809", LexFault::BadChar(0)),
     ];
     for (text, fault) in table {
-        assert_eq!(rt; fault_of(rt.alloc(), text), Some(fault));
+        assert_eq!(rt; fault_of(&rt, rt.alloc(), text), Some(fault));
     }
 }
 
 #[test]
 fn texts(rt: HostRuntime) -> Result<(), Fail> {
-    let tokens = lex_short(rt.alloc(), b"\"\" \"a\\\"\\\\\"//\"\n")?;
+    let tokens = lexed(&rt, rt.alloc(), b"\"\" \"a\\\"\\\\\"//\"\n")?;
     let expected = [token(Kind::Text, 0, 2), token(Kind::Text, 3, 10)];
     assert_eq!(rt; tokens.as_slice(), expected.as_slice());
     Ok(())
@@ -196,19 +221,36 @@ fn texts(rt: HostRuntime) -> Result<(), Fail> {
 
 #[test]
 fn nothing_to_read(rt: HostRuntime) -> Result<(), Fail> {
-    assert_eq!(rt; lex_short(rt.alloc(), b"")?.len(), 0);
+    assert_eq!(rt; lexed(&rt, rt.alloc(), b"")?.len(), 0);
     assert_eq!(rt;
-        lex_short(rt.alloc(), b" \t\r\n// \xC3\xA9 & \"\n//")?.len(),
+        lexed(&rt, rt.alloc(), b" \t\r\n// \xC3\xA9 & \"\n//")?.len(),
         0
     );
     Ok(())
 }
 
+// The characters of the first text of a program.
+fn first_text(alloc: Global, program: &[u8]) -> Result<Option<String>, LexFault>
+    requires { length program.now ≤ 1048576 }
+{
+    let tokens = lex(alloc, program)?;
+    texts_are_quoted();
+    for token in &tokens {
+        if let Kind::Text = token.kind {
+            let literal = &program[token.start as usize..token.end as usize];
+            return Ok(Some(characters(alloc, literal)?));
+        }
+    }
+    Ok(None)
+}
+
 #[test]
 fn characters_of_texts(rt: HostRuntime) -> Result<(), Fail> {
-    let plain = characters(rt.alloc(), b"\"\"")?;
-    assert_eq!(rt; plain.as_str(), "");
-    let escapes = characters(rt.alloc(), "\"é\\\\n\\\"//\"".as_bytes())?;
-    assert_eq!(rt; escapes.as_str(), "é\\n\"//");
+    let none = first_text(rt.alloc(), b"text // \"a\"")?;
+    assert!(rt; none.is_none());
+    let empty = first_text(rt.alloc(), b"\"\" \"a\"")?.ok_or("no text")?;
+    assert_eq!(rt; empty.as_str(), "");
+    let escapes = first_text(rt.alloc(), "é(\"é\\\\n\\\"//\t\");".as_bytes())?.ok_or("no text")?;
+    assert_eq!(rt; escapes.as_str(), "é\\n\"//\t");
     Ok(())
 }

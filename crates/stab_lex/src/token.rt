@@ -2,7 +2,7 @@ ghost use Rattle.std.specs.Prelude.{◌≡◌};
 ghost use Rattle.stab_lex.specs.declared.token.LexFault.TheVariants.{NoMemory};
 
 use crate::kind::Kind;
-use std::alloc::AllocFailed;
+use std::alloc::{AllocError, AllocFailed};
 
 /// A token of a text: the bytes from `start` to `end`, both counted from 0.
 #[derive(Clone, Copy, Debug, PartialEq, Eq)]
@@ -24,8 +24,16 @@ pub enum LexFault {
     BigNumber(u32),
     /// The opening quote of a text that its line doesn't close.
     OpenText(u32),
-    /// There was no memory for the tokens.
+    /// There was no memory for the answer.
     NoMemory,
+}
+
+impl From<AllocError> for LexFault {
+    ghost from_gives = { λ _ fault. fault ≡ NoMemory };
+
+    fn from(_refused: AllocError) -> LexFault {
+        LexFault::NoMemory
+    }
 }
 
 impl<T: Drop> From<AllocFailed<T>> for LexFault {
