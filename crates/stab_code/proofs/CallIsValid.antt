@@ -9,7 +9,7 @@ use Rattle.stab_code.specs.declared.samples.Blanks.{Blanks}
 use Rattle.stab_code.specs.FormDepth.{depths_of}
 use Rattle.stab_code.specs.Parts.{parts_of, call_of}
 use Rattle.stab_code.specs.ProgramParts.{FunctionParts, function_of, arity_of}
-use Rattle.stab_code.specs.Samples.{call_printed, node}
+use Rattle.stab_code.specs.Samples.{NamesSeenSlots, call_printed, node}
 use Rattle.stab_code.specs.Scope.{lets_of, named_by}
 use Rattle.stab_code.specs.Valid.{PartsAreBelow, BodiesAreThere, FunctionsAreThere, ArgumentsFit, TextsAreThere, SlotsAreThere, SlotsAreInOrder, VariablesAreSeen, BlocksHaveItems, DepthsAreWithin, IsValid}
 use Rattle.stab_code.specs.Walk.{value_at}
@@ -105,3 +105,15 @@ call_is_valid b arguments fit seen ordered =
     let one = (fitting_arguments b arguments).0 fit in
     subst (λ n. IsValid (call_printed b n)) (sym one)
     (one_argument_is_valid b (subst (λ n. VariablesAreSeen (call_printed b n)) one seen) (subst (λ n. SlotsAreInOrder (call_printed b n)) one ordered))
+
+pub valid_calls : (b : Blanks) (arguments : ℕ) → IsValid (call_printed b arguments) ↔ (arguments ≡ 1) × (b.first_let ≡ 1) × (b.second_let ≡ 2) × NamesSeenSlots b
+valid_calls b arguments = (
+  λ valid.
+      let one = (fitting_arguments b arguments).0 valid.arguments_fit in
+      let same : IsValid (call_printed b 1) = subst (λ n. IsValid (call_printed b n)) one valid in
+      let lets = (ordered_slots b).0 same.slots_in_order in
+      (one, lets.0, lets.1, (seen_variables b).0 same.variables_seen),
+  λ parts.
+      subst (λ n. IsValid (call_printed b n)) (sym parts.0)
+      (one_argument_is_valid b ((seen_variables b).1 parts.3) ((ordered_slots b).1 (parts.1, parts.2))),
+)

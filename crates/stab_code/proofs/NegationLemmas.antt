@@ -136,3 +136,6 @@ module _ (times : ℕ) (few : times < max_form_depth) where
         main_there = refl;
         counts_within = (lit< tt, omega arith, lit< tt);
       }
+
+pub valid_negations : (times : ℕ) → IsValid (negations times) ↔ (times < max_form_depth)
+valid_negations times = (λ valid. (depth_of_negations times).0 valid.depths_within, negations_are_valid times)

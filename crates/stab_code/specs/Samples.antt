@@ -36,7 +36,7 @@ call_printed b arguments =
     ∷ Block (Let 0 (node 8) ∷ []) (node 11) ∷ [])
     [] (record { 0 = 1 })
 
--- each variable of it names a slot that is seen there: n, or k or m inside the inner block, or m behind it, or x in main
+-- each variable names a slot that is seen where it stands: n's in all of plus, m's behind its let, k's in its block, x's in main
 pub record NamesSeenSlots (b : Blanks) : Type 0 where
   pub own : b.own ≡ 0
   pub inside : (b.inside ≡ 0) ⊎ ((b.inside ≡ b.first_let) ⊎ (b.inside ≡ b.second_let))

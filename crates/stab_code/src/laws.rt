@@ -1,4 +1,4 @@
-//! That the constants are the limits, what each valid program keeps, and exactly when the samples do.
+//! That the constants are the limits, exactly when the samples are valid, and what no valid program has.
 ghost use Rattle.std.specs.Prelude.{◌≡◌, ◌≢◌, ◌↔◌, ℕ, ◌<◌, [], slice_get, Some};
 ghost use Rattle.stab_code.specs.declared.job.TheConstants.{MAX_FUEL, MAX_QUANTUM, MAX_SCRIPT};
 ghost use Rattle.stab_code.specs.declared.node.NodeId.{NodeId};
@@ -8,7 +8,7 @@ ghost use Rattle.stab_code.specs.declared.samples.Blanks.{Blanks};
 ghost use Rattle.stab_code.specs.Limits.{max_form_depth, max_fuel, max_quantum, max_script};
 ghost use Rattle.stab_code.specs.ProgramParts.{FunctionParts, ProgramParts};
 ghost use Rattle.stab_code.specs.Samples.{NamesSeenSlots, call_printed, negations};
-ghost use Rattle.stab_code.specs.Valid.{ArgumentsFit, BlocksHaveItems, DepthsAreWithin, MainIsThere, SlotsAreInOrder, VariablesAreSeen};
+ghost use Rattle.stab_code.specs.Valid.{ArgumentsFit, BlocksHaveItems, DepthsAreWithin, IsValid, MainIsThere, SlotsAreInOrder, VariablesAreSeen};
 
 /// The constants are the limits of the definitions. The call does nothing, as each of these.
 pub fn limits()
@@ -18,24 +18,31 @@ pub fn limits()
     ensures script { MAX_SCRIPT ≡ max_script }
 {}
 
-/// The variables of the sample with a call are seen exactly where each names a slot that is seen there.
+/// The variables of `call_printed` are seen exactly where each names a slot that is seen there.
 pub fn seen_variables()
     ensures { (b : Blanks) → VariablesAreSeen (call_printed b 1) ↔ NamesSeenSlots b }
 {}
 
-/// Its slots are in order exactly where its lets have the slots 1 and 2.
+/// The slots of `call_printed` are in order exactly where its lets have the slots 1 and 2.
 pub fn ordered_slots()
     ensures { (b : Blanks) → SlotsAreInOrder (call_printed b 1) ↔ (b.first_let ≡ 1) × (b.second_let ≡ 2) }
 {}
 
-/// Its arguments fit exactly where there is one.
+/// The arguments of `call_printed` fit exactly where there is one.
 pub fn fitting_arguments()
     ensures { (b : Blanks) (arguments : ℕ) → ArgumentsFit (call_printed b arguments) ↔ (arguments ≡ 1) }
 {}
 
-/// A number that is negated n times is within the limit of depth exactly where n is below it.
-pub fn depth_of_negations()
-    ensures { (times : ℕ) → DepthsAreWithin (negations times) ↔ (times < max_form_depth) }
+/// `call_printed` is valid exactly where its variables, its slots and its arguments are as the three laws above say.
+pub fn valid_calls()
+    ensures { (b : Blanks) (arguments : ℕ) → IsValid (call_printed b arguments)
+        ↔ (arguments ≡ 1) × (b.first_let ≡ 1) × (b.second_let ≡ 2) × NamesSeenSlots b }
+{}
+
+/// A number that is negated n times is within the limit of depth, and valid, exactly where n is below the limit.
+pub fn valid_negations()
+    ensures within { (times : ℕ) → DepthsAreWithin (negations times) ↔ (times < max_form_depth) }
+    ensures valid { (times : ℕ) → IsValid (negations times) ↔ (times < max_form_depth) }
 {}
 
 /// Where blocks have items, no block is empty.

@@ -15,8 +15,8 @@ mod ty;
 pub use function::Function;
 pub use job::{Job, MAX_FUEL, MAX_QUANTUM, MAX_SCRIPT};
 pub use laws::{
-    depth_of_negations, fitting_arguments, limits, main_takes_nothing, no_empty_block,
-    ordered_slots, seen_variables,
+    fitting_arguments, limits, main_takes_nothing, no_empty_block, ordered_slots, seen_variables,
+    valid_calls, valid_negations,
 };
 pub use node::{Args, Item, Items, MAX_FORM_DEPTH, Node, NodeId, Op};
 pub use program::Program;

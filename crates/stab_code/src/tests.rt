@@ -1,7 +1,7 @@
 //! The samples read back, and the jobs that run them.
 ghost use Rattle.std.specs.Prelude.{◌≤◌, length};
 
-use crate::samples::{deepest, negate, print_a_call, print_a_sum};
+use crate::samples::{deepest, negate, pin_alone, print_a_call, print_a_sum};
 use crate::{Item, Job, MAX_FUEL, MAX_QUANTUM, MAX_SCRIPT, Node, NodeId, TyForm};
 use stab_base::{FnId, NoMemory};
 use std::alloc::Global;
@@ -21,6 +21,20 @@ fn reads_a_sum_back(rt: HostRuntime) -> Result<(), Fail> {
     assert!(rt; program.node(NodeId(4)).is_none());
     assert!(rt; program.function(FnId(1)).is_none());
     assert!(rt; program.body(FnId(1)).is_none() && program.arity(FnId(u32::MAX)).is_none());
+    Ok(())
+}
+
+#[test]
+fn reads_a_block_back(rt: HostRuntime) -> Result<(), Fail> {
+    let program = pin_alone(rt.alloc())?;
+    assert_eq!(rt; program.body(FnId(0)), Some(NodeId(2)));
+    assert!(rt; matches!(program.node(NodeId(0)), Some(Node::Pin)));
+    match program.node(NodeId(2)) {
+        Some(Node::Block(items, NodeId(1))) => {
+            assert_eq!(rt; items.all(), [Item::Do(NodeId(0))].as_slice())
+        }
+        _ => panic!(rt; "the body is a block"),
+    }
     Ok(())
 }
 
