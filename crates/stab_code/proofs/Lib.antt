@@ -1,4 +1,6 @@
+pub mod CallIsValid
 pub mod FormLemmas
-pub mod TwiceIsValid
+pub mod NegationLemmas
+pub mod SeenLemmas
 pub mod ValidLemmas
 pub mod WalkLemmas

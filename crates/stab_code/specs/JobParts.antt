@@ -1,6 +1,6 @@
 -- What a run is given.
 use Rattle.std.specs.Prelude.{ℕ, ◌≤◌, ℤ, List, length}
-use Rattle.stab_code.specs.declared.job.TheConstants.{MAX_FUEL, MAX_QUANTUM, MAX_SCRIPT}
+use Rattle.stab_code.specs.Limits.{max_fuel, max_quantum, max_script}
 use Rattle.stab_code.specs.ProgramParts.{ProgramParts}
 
 -- a job: a program, the numbers that its probes get, its fuel, and the most steps that a thread makes at a time
@@ -16,7 +16,7 @@ job_of program script fuel quantum = record { program = program; script = script
 -- a job that keeps its limits
 pub record IsWithinLimits (job : JobParts) : Type 0 where
   pub some_fuel : 1 ≤ job.fuel
-  pub fuel_within : job.fuel ≤ MAX_FUEL
+  pub fuel_within : job.fuel ≤ max_fuel
   pub some_quantum : 1 ≤ job.quantum
-  pub quantum_within : job.quantum ≤ MAX_QUANTUM
-  pub script_within : length job.script ≤ MAX_SCRIPT
+  pub quantum_within : job.quantum ≤ max_quantum
+  pub script_within : length job.script ≤ max_script

@@ -1,7 +1,9 @@
 pub mod FormDepth
 pub mod JobParts
+pub mod Limits
 pub mod Parts
 pub mod ProgramParts
+pub mod Samples
 pub mod Scope
 pub mod Valid
 pub mod Walk

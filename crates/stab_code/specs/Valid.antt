@@ -3,8 +3,8 @@ use Rattle.std.specs.Prelude.{◌≡◌, ℕ, ◌<◌, ◌≤◌, ◌^◌, [], �
 use Rattle.std.specs.List.{All, range_with_len}
 use Rattle.stab_code.specs.declared.node.Node.{Node}
 use Rattle.stab_code.specs.declared.node.Node.TheVariants.{Text, Block}
-use Rattle.stab_code.specs.declared.node.TheConstants.{MAX_FORM_DEPTH}
 use Rattle.stab_code.specs.FormDepth.{depths_of}
+use Rattle.stab_code.specs.Limits.{max_form_depth}
 use Rattle.stab_code.specs.Parts.{parts_of, call_of}
 use Rattle.stab_code.specs.ProgramParts.{arity_of, ProgramParts}
 use Rattle.stab_code.specs.Scope.{lets_of, named_by, open_in}
@@ -58,7 +58,7 @@ BlocksHaveItems p = All HasItems p.nodes
 
 -- no form is deeper than the limit
 abbrev pub DepthsAreWithin : ProgramParts → Type 0
-DepthsAreWithin p = All (λ depth. depth ≤ MAX_FORM_DEPTH) (depths_of p.nodes)
+DepthsAreWithin p = All (λ depth. depth ≤ max_form_depth) (depths_of p.nodes)
 
 -- main is there and takes nothing
 abbrev pub MainIsThere : ProgramParts → Type 0

@@ -3,15 +3,21 @@
 
 mod function;
 mod job;
+mod laws;
 mod node;
 mod program;
 mod same;
+pub mod samples;
 #[cfg(test)]
 mod tests;
 mod ty;
 
 pub use function::Function;
 pub use job::{Job, MAX_FUEL, MAX_QUANTUM, MAX_SCRIPT};
+pub use laws::{
+    fitting_arguments, limits, main_takes_nothing, no_empty_block, ordered_slots, seen_variables,
+    valid_calls, valid_negations,
+};
 pub use node::{Args, Item, Items, MAX_FORM_DEPTH, Node, NodeId, Op};
 pub use program::Program;
 pub use ty::{Ty, TyForm};

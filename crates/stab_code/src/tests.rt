@@ -1,45 +1,12 @@
-//! Two small programs, made by hand and read back, and the jobs that run them.
+//! The samples read back, and the jobs that run them.
 ghost use Rattle.std.specs.Prelude.{◌≤◌, length};
 
-use crate::{
-    Args, Function, Item, Items, Job, MAX_FUEL, MAX_QUANTUM, MAX_SCRIPT, Node, NodeId, Op, Program,
-    Ty, TyForm,
-};
-use stab_base::{FnId, NoMemory, Texts};
+use crate::samples::{deepest, negate, pin_alone, print_a_call, print_a_sum};
+use crate::{Item, Job, MAX_FUEL, MAX_QUANTUM, MAX_SCRIPT, Node, NodeId, TyForm};
+use stab_base::{FnId, NoMemory};
 use std::alloc::Global;
 use std::sync::Arc;
 use std::test::Fail;
-
-/// `fn main(): unit { print(1 + 2) }`
-fn print_a_sum(alloc: Global) -> Result<Program, Fail> {
-    let sum = Node::Two(Op::Add, NodeId(0), NodeId(1));
-    let nodes = vec![in alloc; Node::Int(1), Node::Int(2), sum, Node::Print(NodeId(2))]?;
-    let main = Function::new(Vec::new(alloc), Ty::new(TyForm::Unit), 0, NodeId(3));
-    let functions = vec![in alloc; main]?;
-    Ok(Program::new(functions, nodes, Texts::new(Vec::new(alloc)), FnId(0)))
-}
-
-/// `fn twice(n: int): int { pin(); let m = n + n; m } fn main(): unit { print(twice(4)) }`
-fn print_twice(alloc: Global) -> Result<Program, Fail> {
-    let items = vec![in alloc; Item::Do(NodeId(0)), Item::Let(1, NodeId(3))]?;
-    let args = vec![in alloc; NodeId(6)]?;
-    let nodes = vec![in alloc;
-        Node::Pin,
-        Node::Var(0),
-        Node::Var(0),
-        Node::Two(Op::Add, NodeId(1), NodeId(2)),
-        Node::Var(1),
-        Node::Block(Items::new(items), NodeId(4)),
-        Node::Int(4),
-        Node::Call(FnId(0), Args::new(args)),
-        Node::Print(NodeId(7)),
-    ]?;
-    let takes = vec![in alloc; Ty::new(TyForm::Int)]?;
-    let twice = Function::new(takes, Ty::new(TyForm::Int), 2, NodeId(5));
-    let main = Function::new(Vec::new(alloc), Ty::new(TyForm::Unit), 0, NodeId(8));
-    let functions = vec![in alloc; twice, main]?;
-    Ok(Program::new(functions, nodes, Texts::new(Vec::new(alloc)), FnId(1)))
-}
 
 #[test]
 fn reads_a_sum_back(rt: HostRuntime) -> Result<(), Fail> {
@@ -58,31 +25,59 @@ fn reads_a_sum_back(rt: HostRuntime) -> Result<(), Fail> {
 }
 
 #[test]
+fn reads_a_block_back(rt: HostRuntime) -> Result<(), Fail> {
+    let program = pin_alone(rt.alloc())?;
+    assert_eq!(rt; program.body(FnId(0)), Some(NodeId(2)));
+    assert!(rt; matches!(program.node(NodeId(0)), Some(Node::Pin)));
+    match program.node(NodeId(2)) {
+        Some(Node::Block(items, NodeId(1))) => {
+            assert_eq!(rt; items.all(), [Item::Do(NodeId(0))].as_slice())
+        }
+        _ => panic!(rt; "the body is a block"),
+    }
+    Ok(())
+}
+
+#[test]
 fn reads_calls_and_lets_back(rt: HostRuntime) -> Result<(), Fail> {
-    let program = print_twice(rt.alloc())?;
+    let program = print_a_call(rt.alloc())?;
     assert_eq!(rt; program.main(), FnId(1));
     assert_eq!(rt; program.functions(), 2);
     assert_eq!(rt; program.arity(FnId(0)), Some(1));
-    assert_eq!(rt; program.body(FnId(0)), Some(NodeId(5)));
+    assert_eq!(rt; program.body(FnId(0)), Some(NodeId(7)));
     match program.function(FnId(0)) {
-        Some(twice) => {
-            assert_eq!(rt; (twice.slots(), twice.body()), (2, NodeId(5)));
-            assert!(rt; matches!(twice.takes(), [ty] if matches!(ty.form(), TyForm::Int)));
-            assert!(rt; matches!(twice.gives().form(), TyForm::Int));
+        Some(plus) => {
+            assert_eq!(rt; (plus.slots(), plus.body()), (3, NodeId(7)));
+            assert!(rt; matches!(plus.takes(), [ty] if matches!(ty.form(), TyForm::Int)));
+            assert!(rt; matches!(plus.gives().form(), TyForm::Int));
         }
         None => panic!(rt; "the first function is there"),
     }
-    match program.node(NodeId(5)) {
-        Some(Node::Block(items, NodeId(4))) => assert_eq!(rt;
+    match program.node(NodeId(7)) {
+        Some(Node::Block(items, NodeId(6))) => assert_eq!(rt;
             items.all(),
-            [Item::Do(NodeId(0)), Item::Let(1, NodeId(3))].as_slice()
+            [Item::Do(NodeId(0)), Item::Let(1, NodeId(1))].as_slice()
         ),
         _ => panic!(rt; "the body is a block"),
     }
-    match program.node(NodeId(7)) {
-        Some(Node::Call(FnId(0), args)) => assert_eq!(rt; args.all(), [NodeId(6)].as_slice()),
+    match program.node(NodeId(10)) {
+        Some(Node::Call(FnId(0), args)) => assert_eq!(rt; args.all(), [NodeId(9)].as_slice()),
         _ => panic!(rt; "a call is printed"),
     }
+    Ok(())
+}
+
+#[test]
+fn reads_negations_back(rt: HostRuntime) -> Result<(), Fail> {
+    let program = negate(rt.alloc(), 2)?;
+    assert_eq!(rt; program.body(FnId(0)), Some(NodeId(2)));
+    assert!(rt; matches!(program.node(NodeId(0)), Some(Node::Int(1))));
+    assert!(rt; matches!(program.node(NodeId(1)), Some(Node::Neg(NodeId(0)))));
+    assert!(rt; matches!(program.node(NodeId(2)), Some(Node::Neg(NodeId(1)))));
+    assert!(rt; program.node(NodeId(3)).is_none());
+    let deepest = deepest(rt.alloc())?;
+    assert_eq!(rt; deepest.body(FnId(0)), Some(NodeId(199)));
+    assert!(rt; deepest.node(NodeId(200)).is_none());
     Ok(())
 }
 
@@ -90,9 +85,10 @@ fn reads_calls_and_lets_back(rt: HostRuntime) -> Result<(), Fail> {
 fn tells_programs_apart(rt: HostRuntime) -> Result<(), Fail> {
     let alloc = rt.alloc();
     let sum = print_a_sum(alloc)?;
-    let twice = print_twice(alloc)?;
-    assert!(rt; sum.same(&print_a_sum(alloc)?) && twice.same(&print_twice(alloc)?));
-    assert!(rt; !sum.same(&twice) && !twice.same(&sum));
+    let call = print_a_call(alloc)?;
+    assert!(rt; sum.same(&print_a_sum(alloc)?) && call.same(&print_a_call(alloc)?));
+    assert!(rt; !sum.same(&call) && !call.same(&sum));
+    assert!(rt; !deepest(alloc)?.same(&negate(alloc, 198)?));
     Ok(())
 }
 
@@ -133,7 +129,7 @@ fn tells_jobs_apart(rt: HostRuntime) -> Result<(), Fail> {
     assert!(rt; !job.same(&job_of(alloc, &[6], 1000, 10)?));
     assert!(rt; !job.same(&job_of(alloc, &[5], 1001, 10)?));
     assert!(rt; !job.same(&job_of(alloc, &[5], 1000, 11)?));
-    let program = Arc::new(alloc, print_twice(alloc)?)?;
+    let program = Arc::new(alloc, print_a_call(alloc)?)?;
     let other = Job::new(program, vec![in alloc; 5]?, 1000, 10);
     assert!(rt; !job.same(&other));
     Ok(())
