@@ -1,10 +1,8 @@
 -- How a ring of links changes, over its two functions and the list of those that wait.
-use Rattle.std.proofs.Common.{◌≡◌, ◌≢◌, ℕ, zero, suc, ◌+◌, ◌≤◌, ◌<◌, Bool, true, false, cond, not, ◌&&◌, ◌||◌, nat_eq, List, [], ◌∷◌, ◌++◌, length, refl, sym, ap, ◌∙◌, subst, arith}
+use Rattle.std.proofs.Common.{◌≡◌, ◌≢◌, ℕ, zero, suc, ◌+◌, ◌≤◌, ◌<◌, Bool, true, false, cond, not, ◌&&◌, ◌||◌, nat_eq, List, [], ◌∷◌, length, refl, sym, ap, ◌∙◌, subst, arith}
 use Rattle.std.specs.List.{IsDistinct, AllByRecursion}
-use Rattle.std.specs.Cmp.{nat_eq_equiv}
 use Rattle.std.proofs.lemmas.Bool.Decides.{nat_tests}
-use Rattle.std.proofs.lemmas.List.Folds.{list_any-append}
-use Rattle.std.proofs.lemmas.Map.Keys.{IsDistinct-head, IsDistinct-tail, IsDistinct-push}
+use Rattle.std.proofs.lemmas.Map.Keys.{IsDistinct-head, IsDistinct-tail}
 use Rattle.thread_slots.specs.Queue.{is_queued, without, put_before}
 use Rattle.thread_slots.specs.Ring.{walk, IsPath, IsRing}
 use Rattle.thread_slots.proofs.Queues.{is_queued-without, without-absent, IsDistinct-filter, is_queued-put, IsDistinct-put}
@@ -146,7 +144,7 @@ put_apart : (t x : ℕ) (b c : Bool) → c ≡ (nat_eq x t || b) → (nat_eq x 0
 put_apart t x b c is none = (λ e. grind (arith, nat_tests), grind (arith, nat_tests))
 
 true_false : (b : Bool) → b ≡ true → b ≡ false → ⊥
-true_false b yes no = cc
+true_false b is off = cc
 
 put_end : (t : ℕ) (b : Bool) → t ≢ 0 → b ≡ false → (nat_eq 0 t || b) ≡ false
 put_end t b positive none = grind (arith, nat_tests)

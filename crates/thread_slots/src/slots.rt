@@ -325,7 +325,7 @@ fn enter(queue: &mut Queue, t: ThreadId, state: State)
     ensures capacity { queue.new.capacity ≡ queue.old.capacity }
 {
     if state == State::Ready {
-        queue.insert(t, END);
+        queue.insert(t, END)
     }
 }
 
@@ -349,6 +349,5 @@ fn rejoin(queue: &mut Queue, t: ThreadId)
     ensures capacity { queue.new.capacity ≡ queue.old.capacity }
 {
     queue.leave(t);
-    let next = END;
-    queue.insert(t, next);
+    queue.insert(t, END);
 }

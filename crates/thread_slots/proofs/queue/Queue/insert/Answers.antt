@@ -1,17 +1,17 @@
-use Rattle.std.proofs.Common.{◌≡◌, ◌+◌, ◌≤◌, ◌<◌, true, false, [], ◌∷◌, ◌++◌, length, ap, ◌∙◌, arith}
+use Rattle.std.proofs.Common.{◌≡◌, ◌≤◌, [], ◌∷◌, ◌++◌, length, ap, ◌∙◌, arith}
 use Rattle.thread_slots.specs.Queue.{is_queued, put_before}
 use Rattle.thread_slots.specs.Ring.{after, before, waiting, IsRing}
 use Rattle.thread_slots.proofs.Queues.{put_before-end}
 use Rattle.thread_slots.proofs.Links.{before-within, queued-within, IsRing-inserted, waiting-is, IsRing-waiting}
 use Rattle.thread_slots.proofs.queue.Queue.insert.Goals as goal
 
-pub link-requires : goal.link-requires
-link-requires c = queued-within c.self.inside.ring.end c.self.inside.ring.links.items _ c.args.next c.self.invariant (ap (λ s. is_queued c.args.next (0 ∷ s.waiting)) c.self.view_is ∙ c.requires.next)
+pub link-before-requires : goal.link-before-requires
+link-before-requires c = queued-within c.self.inside.ring.end c.self.inside.ring.links.items _ c.args.next c.self.invariant (ap (λ s. is_queued c.args.next (0 ∷ s.waiting)) c.self.view_is ∙ c.requires.next)
 
 pub insert-requires : goal.insert-requires
 insert-requires c =
     let places : length c.self.inside.ring.links.items ≡ c.args.self.now.places = ap (λ s. s.places) c.self.view_is in
-    let within = link-requires c in
+    let within = queued-within c.self.inside.ring.end c.self.inside.ring.links.items _ c.args.next c.self.invariant (ap (λ s. is_queued c.args.next (0 ∷ s.waiting)) c.self.view_is ∙ c.requires.next) in
     let low : before (c.self.inside.ring.end ∷ c.self.inside.ring.links.items) c.args.next ≤ length c.self.inside.ring.links.items = before-within c.self.inside.ring.end c.self.inside.ring.links.items _ c.args.next c.self.invariant within in
     let is : c.link-before.result.before ≡ before (c.self.inside.ring.end ∷ c.self.inside.ring.links.items) c.args.next = ap (λ l. l.before) c.link-before.ensures in
     record { place = omega (arith, c.requires.place.1); before = omega arith; after = within }

@@ -1,4 +1,4 @@
-use Rattle.std.proofs.Common.{◌≡◌, ◌+◌, ◌≤◌, cond, [], ◌∷◌, ◌++◌, length, ap, ◌∙◌, arith}
+use Rattle.std.proofs.Common.{◌≡◌, ◌+◌, cond, [], ◌∷◌, ◌++◌, length, ap, ◌∙◌, arith}
 use Rattle.std.specs.FinMap.{insert}
 use Rattle.thread_slots.specs.Queue.{is_queued}
 use Rattle.thread_slots.specs.Slot.{is_ready}
@@ -7,8 +7,8 @@ use Rattle.thread_slots.proofs.Entries.{IsSound-from_layout, none_past}
 use Rattle.thread_slots.proofs.Layouts.{IsLaidOut-added}
 use Rattle.thread_slots.proofs.slots.Slots.add.Goals as goal
 
-pub open_place-requires : goal.open_place-requires
-open_place-requires g c =
+pub open_place-t-requires : goal.open_place-t-requires
+open_place-t-requires g c =
     let room : c.self.inside.room ≡ c.args.self.now.room = ap (λ s. s.room) c.self.view_is in
     let next : length c.self.inside.entries.items + 1 ≡ c.args.self.now.next = ap (λ s. s.next) c.self.view_is in
     record {
@@ -36,7 +36,7 @@ invariant_of-self g c =
     let next : length c.self.inside.entries.items + 1 ≡ c.args.self.now.next = ap (λ s. s.next) c.self.view_is in
     let more = c.fill.ensures.length ∙ c.open_place-t.ensures.length in (
       IsLaidOut-added _ _ _ _ _ _ t _ c.self.invariant.0
-          (c.fill.ensures.threads ∙ ap (λ m. insert m t _) c.open_place-t.ensures.threads)
+          (c.fill.ensures.threads ∙ ap (λ m. insert m t (record { control = c.args.control; generation = 0; state = c.first_state-state.result })) c.open_place-t.ensures.threads)
           (c.enter.ensures.waiting ∙ ap (λ q. q ++ cond (is_ready c.first_state-state.result) (t ∷ []) []) c.open_place-t.ensures.waiting)
           more (omega (arith, more, c.requires.numbers)) (omega arith) (c.fill.ensures.capacity ∙ c.open_place-t.ensures.capacity) (c.enter.ensures.capacity ∙ c.open_place-t.ensures.queue_capacity)
           (none_past c.self.inside.entries.items t (length c.self.inside.entries.items) c.open_place-t.ensures.number (omega arith)),
@@ -47,7 +47,7 @@ pub returns-clause-threads : goal.returns-clause-threads
 returns-clause-threads g c =
     let t = c.open_place-t.result.0 in
     c.fill.ensures.threads
-    ∙ ap (λ m. insert m t _) (c.open_place-t.ensures.threads ∙ ap (λ s. s.threads) c.self.view_is)
+    ∙ ap (λ m. insert m t (record { control = c.args.control; generation = 0; state = c.first_state-state.result })) (c.open_place-t.ensures.threads ∙ ap (λ s. s.threads) c.self.view_is)
     ∙ ap (λ s. insert c.args.self.now.threads t (record { control = c.args.control; generation = 0; state = s })) c.first_state-state.ensures
 
 pub returns-clause-sound : goal.returns-clause-sound
