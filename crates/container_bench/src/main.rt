@@ -3,6 +3,7 @@
 //! With the word `counts` it prints, for few entries, how many calls found what they were for.
 #![tactic(auto)]
 
+mod events;
 mod offers;
 mod saved;
 mod scatter;

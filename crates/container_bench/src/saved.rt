@@ -6,12 +6,13 @@ use checkpoint_store::Store;
 use stab_base::{NoMemory, Seq, ThreadId};
 use std::alloc::Global;
 
-/// How many controls were taken out: each second one.
+/// How many controls were taken out: those under even numbers.
 pub fn run(alloc: Global, n: u32) -> Result<u32, NoMemory> {
     let mut store = Store::new(alloc);
     save_all(&mut store, n)?;
     let taken = take_half(&mut store, n);
-    drop_all(&mut store, n);
+    drop_lower(&mut store, n);
+    drop_upper(&mut store, n);
     Ok(taken)
 }
 
@@ -36,9 +37,16 @@ fn take_half(store: &mut Store<u32>, n: u32) -> u32 {
     taken
 }
 
-fn drop_all(store: &mut Store<u32>, n: u32) {
-    for q in 0..n {
+// Drops what is left of the lower half, the controls under odd numbers, one with each call.
+fn drop_lower(store: &mut Store<u32>, n: u32) {
+    for q in (1..n / 2).step_by(2) {
         store.drop_at(Seq(u64::from(q)));
-        store.drop_before(Seq(u64::from(q)));
+    }
+}
+
+// Drops what is left of the upper half from below, up to five controls with each call.
+fn drop_upper(store: &mut Store<u32>, n: u32) {
+    for q in (n / 2..n).step_by(10) {
+        store.drop_before(Seq(u64::from(q) + 10));
     }
 }

@@ -1,7 +1,7 @@
 //! What is printed.
 ghost use Rattle.std.specs.Prelude.{◌<◌, ◌≤◌, ◌+◌};
 
-use crate::{offers, saved, threads, writes};
+use crate::{events, offers, saved, threads, writes};
 use stab_base::NoMemory;
 use std::alloc::Global;
 use std::io;
@@ -14,13 +14,15 @@ enum Container {
     Rendezvous,
     RefLog,
     CheckpointStore,
+    StabJournal,
 }
 
-const ALL: [Container; 4] = [
+const ALL: [Container; 5] = [
     Container::ThreadSlots,
     Container::Rendezvous,
     Container::RefLog,
     Container::CheckpointStore,
+    Container::StabJournal,
 ];
 
 const FEW: [u32; 3] = [10, 20, 40];
@@ -34,6 +36,7 @@ impl Container {
             Container::Rendezvous => "rendezvous",
             Container::RefLog => "ref_log",
             Container::CheckpointStore => "checkpoint_store",
+            Container::StabJournal => "stab_journal",
         }
     }
 
@@ -45,6 +48,7 @@ impl Container {
             Container::Rendezvous => offers::run(alloc, n),
             Container::RefLog => writes::run(alloc, n),
             Container::CheckpointStore => saved::run(alloc, n),
+            Container::StabJournal => events::run(alloc, n),
         }
     }
 }

@@ -1,18 +1,21 @@
 -- The writes of a reference in a map of all of them, after a change at one reference.
-use Rattle.std.proofs.Common.{◌≡◌, ℕ, Bool, true, false, cond, nat_eq, List, [], ◌∷◌, Option, Some, None, Result, Ok, Err, OnOk, OnErr, IfSome, unwrap_or, map, option_map, sym, refl, ap, ◌∙◌}
+use Rattle.std.proofs.Common.{◌≡◌, ◌≢◌, ℕ, Bool, true, false, cond, nat_eq, List, [], ◌∷◌, drop, Option, Some, None, Result, Ok, Err, OnOk, OnErr, IfSome, unwrap_or, map, option_map, sym, refl, ap, ◌∙◌}
 use Rattle.std.specs.declared.cmp.Ordering.{Ordering}
 use Rattle.std.specs.Option.{option_map_or, is_some}
 use Rattle.std.specs.Result.{is_err}
 use Rattle.std.specs.Ordering.{nat_cmp}
 use Rattle.std.specs.Cmp.{nat_cmp_total, unsigned_tied}
-use Rattle.std.specs.FinMap.{find, from_entries, get-from_entries, get-empty}
+use Rattle.std.specs.FinMap.{find, from_entries, get, get-from_entries, get-empty}
 use Rattle.std.specs.BTreeMap.{is_at}
 use Rattle.std.specs.Map.{lookup, set_value}
-use Rattle.std.proofs.lemmas.Bool.{eqb-true}
+use Rattle.std.proofs.lemmas.Bool.{eqb-true, eqb-false}
+use Rattle.stab_base.specs.Datum.{Datum}
 use Rattle.stab_base.specs.declared.numbers.RefId.{RefId}
-use Rattle.ref_log.specs.Log.{Write, last_of}
+use Rattle.ref_log.specs.Log.{Write, last_of, has_write}
+use Rattle.ref_log.specs.Calls.{written}
+use Rattle.ref_log.specs.Index.{successors_in}
 use Rattle.ref_log.proofs.WriteLemmas.{none_from_last}
-use Rattle.ref_log.specs.Layout.{Writes, writes_in, by_reference, held}
+use Rattle.ref_log.specs.Layout.{Writes, writes_in, by_reference, held, HasWrites}
 
 -- the order of references
 abbrev pub ref_cmp : RefId → RefId → Ordering
@@ -22,26 +25,37 @@ ref_cmp a b = nat_cmp a.0 b.0
 abbrev pub found : List (RefId × Writes) → RefId → Option Writes
 found es q = lookup (is_at (ref_cmp q)) es
 
+-- the writes that callers see there
+abbrev pub seen : Option Writes → Option (List Write)
+seen o = option_map (λ m. writes_in m.entries) o
+
 listed : Option Writes → List Write
 listed o = option_map_or (λ m. writes_in m.entries) o []
 
 entry : RefId × Writes → ℕ × List Write
 entry e = (e.0.0, writes_in e.1.entries)
 
-one_entry : (b : Bool) (x : List Write) (m : Writes) (o : Option (List Write)) (p : Option Writes) → x ≡ writes_in m.entries → unwrap_or o [] ≡ listed p → unwrap_or (cond b (Some x) o) [] ≡ listed (cond b (Some m) p)
-unfolding listed
-one_entry true x m o p h more = h
-one_entry false x m o p h more = more
+one_entry : (b : Bool) (m : Writes) (o : Option (List Write)) (p : Option Writes) → o ≡ seen p → cond b (Some (writes_in m.entries)) o ≡ seen (cond b (Some m) p)
+one_entry true m o p more = refl
+one_entry false m o p more = more
 
-find_entry : (es : List (RefId × Writes)) (r : RefId) → unwrap_or (find nat_cmp r.0 (map entry es)) [] ≡ listed (found es r)
-unfolding listed entry
-find_entry [] r = refl
-find_entry (e ∷ es) r = one_entry (is_at (nat_cmp r.0) e.0.0) (writes_in e.1.entries) e.1 (find nat_cmp r.0 (map entry es)) (found es r) refl (find_entry es r)
-
--- what is held under a reference is what the map has there
-held_is : (es : List (RefId × Writes)) (r : RefId) → held es r.0 ≡ listed (found es r)
+find_entry : (es : List (RefId × Writes)) (r : RefId) → find nat_cmp r.0 (map entry es) ≡ seen (found es r)
 unfolding entry
-held_is es r = ap (λ o. unwrap_or o []) (get-from_entries nat_cmp_total (map entry es) r.0) ∙ find_entry es r
+find_entry [] r = refl
+find_entry (e ∷ es) r = one_entry (is_at (nat_cmp r.0) e.0.0) e.1 (find nat_cmp r.0 (map entry es)) (found es r) (find_entry es r)
+
+-- what callers see under a reference is what the map has there
+get_is : (es : List (RefId × Writes)) (r : RefId) → get (by_reference es) r.0 ≡ seen (found es r)
+unfolding entry
+get_is es r = get-from_entries nat_cmp_total (map entry es) r.0 ∙ find_entry es r
+
+seen-listed : (o : Option Writes) → unwrap_or (seen o) [] ≡ listed o
+unfolding listed
+seen-listed None = refl
+seen-listed (Some m) = refl
+
+held_is : (es : List (RefId × Writes)) (r : RefId) → held es r.0 ≡ listed (found es r)
+held_is es r = ap (λ o. unwrap_or o []) (get_is es r) ∙ seen-listed (found es r)
 
 listed-cond : (b : Bool) (o p : Option Writes) → listed (cond b o p) ≡ cond b (listed o) (listed p)
 listed-cond true o p = refl
@@ -128,3 +142,41 @@ none_exactly f o ws h = (no_last f o ws h, λ e. no_result f o (h ∙ ap last_of
 pub is_ok_so : {T E : Type 0} (r : Result T E) (P : Type 0) → OnOk r P → false ≡ is_err r → P
 is_ok_so (Ok x) P p h = p
 is_ok_so (Err e) P p h = absurd (cc)
+
+-- ---- a reference that is there has a write
+-- so it is after a change at r, if what is put there has one
+pub has_writes_after : (es fs : List (RefId × Writes)) (r : RefId) (new : Option Writes) → ((q : RefId) → found fs q ≡ cond (is_at (ref_cmp r) q) new (found es q))
+    → (s : ℕ) → (s ≡ r.0 → seen new ≢ Some []) → (s ≢ r.0 → HasWrites es s) → HasWrites fs s
+has_writes_after es fs r new updates s here others empty =
+    let q : RefId = record { 0 = s } in
+    elim (nat_eq r.0 s) as (λ b. nat_eq r.0 s ≡ b → seen (cond b new (found es q)) ≡ Some [] → ⊥) [
+      | true ↦ λ same. here (sym (eqb-true r.0 s same))
+      | false ↦ λ other none. others (λ same. eqb-false r.0 s other (sym same)) (get_is es q ∙ none)
+    ] refl (ap (λ b. seen (cond b new (found es q))) (sym (unsigned_tied r.0 s)) ∙ ap seen (sym (updates q)) ∙ sym (get_is fs q) ∙ empty)
+
+pub has_one : (ws : List Write) → ws ≢ [] → Some ws ≢ Some []
+has_one ws some h = some (cc)
+
+pub written_some : (q : ℕ) (v : Datum) (ws : List Write) → written ws q v ≢ []
+written_some q v [] h = cc
+written_some q v (w ∷ ws) h = cc
+
+-- no reference without writes is left where the one at r has some
+pub has_writes_here : (es : List (RefId × Writes)) (r s : ℕ) → held es r ≢ [] → (s ≢ r → HasWrites es s) → HasWrites es s
+has_writes_here es r s some others empty =
+    elim (nat_eq s r) as (λ b. nat_eq s r ≡ b → ⊥) [
+      | true ↦ λ same. some (ap (held es) (sym (eqb-true s r same)) ∙ ap (λ o. unwrap_or o []) empty)
+      | false ↦ λ other. others (eqb-false s r other) empty
+    ] refl
+
+some_last : (ws : List Write) → last_of ws ≢ None → ws ≢ []
+some_last ws h e = h (ap last_of e)
+
+-- where there is a last write there is one
+pub held_something : {T : Type 0} (f : T → Write) (o : Option T) (ws : List Write) → option_map f o ≡ last_of ws → is_some o ≡ true → ws ≢ []
+held_something f None ws h e = absurd (cc)
+held_something f (Some x) ws h e = some_last ws (λ none. let k : Some (f x) ≡ None = h ∙ none in cc)
+
+-- a reference with a successor has one write more
+pub has_more : (p : ℕ) (ws : List Write) → has_write p (successors_in ws) ≡ true → drop 1 ws ≢ []
+has_more p ws h e = let never : false ≡ true = ap (has_write p) (sym e) ∙ h in cc

@@ -1,11 +1,13 @@
--- What holds of every log that calls made from an empty one.
+-- What holds of every log after calls that are allowed.
 use Rattle.std.proofs.Common.{◌≡◌, ℕ, ◌<◌, ◌≤◌, Bool, true, false, not, cond, ◌||◌, nat_eq, nat_lt, List, [], ◌∷◌, drop, refl, sym, ap, ◌∙◌, subst, arith}
 use Rattle.std.specs.List.{AllByRecursion}
 use Rattle.std.proofs.lemmas.Bool.{eqb-true, ltb-false, or_parts, and_parts, or_right}
 use Rattle.std.proofs.lemmas.List.Elements.{recursion_from_All}
 use Rattle.stab_base.specs.Datum.{Datum}
-use Rattle.ref_log.specs.Log.{Write, Log, IsRising, IsSound, writes_of, has_write, has_below, without, kept}
-use Rattle.ref_log.specs.Calls.{Call, made, wrote, struck, cut, written, after_call, IsAfter, IsAllowed, Leads, none, one_more}
+use Rattle.stab_base.specs.declared.numbers.RefId.{RefId}
+use Rattle.ref_log.specs.Log.{Write, Log, IsRising, IsInOrder, IsSound, writes_of, has_write, has_below, without, kept}
+use Rattle.ref_log.specs.Calls.{Call, made, wrote, struck, cut, written, after_call, cut_after, IsAfter, IsAllowed, Leads, none, one_more}
+use Rattle.ref_log.specs.Layout.{Writes, held, HasWrites, log_of}
 use Rattle.ref_log.proofs.WriteLemmas.{has_write-without}
 
 all_written : (n q : ℕ) (v : Datum) (ws : List Write) → AllByRecursion (λ w. n < w.number) ws → n < q → AllByRecursion (λ w. n < w.number) (written ws q v)
@@ -141,19 +143,26 @@ recent_after (cut q) old new r p allowed after recent there =
     let off : p ≡ q → ⊥ = apart p q ws (has_kept p q ws (has_dropped p (kept q ws) there)) (allowed.0 r) in
     omega arith
 
--- one call keeps a log sound
-sound_after : (call : Call) (old new : Log) → IsAllowed call old → IsAfter call old new → IsSound old → IsSound new
-sound_after call old new allowed after sound = record {
-  rising = λ r. subst IsRising (sym (after.writes r)) (rising_after call old r allowed (sound.rising r));
-  recent = λ r p h. recent_after call old new r p allowed after (sound.recent r p) (ap (λ ws. has_write p (drop 1 ws)) (sym (after.writes r)) ∙ h);
+-- one call keeps a log in order
+pub order_after : (call : Call) (old new : Log) → IsAllowed call old → IsAfter call old new → IsInOrder old → IsInOrder new
+order_after call old new allowed after order = record {
+  rising = λ r. subst IsRising (sym (after.writes r)) (rising_after call old r allowed (order.rising r));
+  recent = λ r p h. recent_after call old new r p allowed after (order.recent r p) (ap (λ ws. has_write p (drop 1 ws)) (sym (after.writes r)) ∙ h);
 }
 
-pub sound_always : (calls : List Call) (old new : Log) → Leads calls old new → IsSound old → IsSound new
-sound_always [] old new (none _) sound = sound
-sound_always (call ∷ calls) old new (one_more _ _ _ next _ allowed after more) sound = sound_always calls next new more (sound_after call old next allowed after sound)
+pub order_always : (calls : List Call) (old new : Log) → Leads calls old new → IsInOrder old → IsInOrder new
+order_always [] old new (none _) order = order
+order_always (call ∷ calls) old new (one_more _ _ _ next _ allowed after more) order = order_always calls next new more (order_after call old next allowed after order)
 
-pub sound_fresh : (fresh : Log) → ((r : ℕ) → writes_of fresh r ≡ []) → IsSound fresh
-sound_fresh fresh empty = record {
+pub order_fresh : (fresh : Log) → ((r : ℕ) → writes_of fresh r ≡ []) → IsInOrder fresh
+order_fresh fresh empty = record {
   rising = λ r. subst IsRising (sym (empty r)) tt;
   recent = λ r p h. let never : false ≡ true = ap (λ ws. has_write p (drop 1 ws)) (sym (empty r)) ∙ h in absurd (cc);
+}
+
+-- one call on the log that is kept leaves a sound one
+pub sound_after : (call : Call) (n m : ℕ) (es fs : List (RefId × Writes)) (now : Log) → log_of n es ≡ now → IsAllowed call now → m ≡ cut_after call n → ((r : ℕ) → held fs r ≡ after_call call r (held es r)) → ((r : ℕ) → HasWrites es r → HasWrites fs r) → IsSound (log_of n es) → IsSound (log_of m fs)
+sound_after call n m es fs now is allowed at writes there sound = record {
+  order = order_after call (log_of n es) (log_of m fs) (subst (IsAllowed call) (sym is) allowed) (record { last_cut = at; writes = writes }) sound.order;
+  there = λ r. there r (sound.there r);
 }

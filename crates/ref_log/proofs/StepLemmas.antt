@@ -1,5 +1,5 @@
 -- What a call leaves of the successors.
-use Rattle.std.proofs.Common.{◌≡◌, ◌≢◌, ℕ, ◌<◌, ◌≤◌, Bool, true, false, not, cond, ◌&&◌, ◌||◌, nat_eq, nat_lt, List, [], ◌∷◌, drop, unwrap_or, eq-eqb, refl, sym, ap, ◌∙◌, subst, arith}
+use Rattle.std.proofs.Common.{◌≡◌, ◌≢◌, ℕ, ◌<◌, ◌≤◌, Bool, true, false, not, cond, ◌&&◌, ◌||◌, nat_eq, nat_lt, List, [], ◌∷◌, drop, Option, unwrap_or, eq-eqb, refl, sym, ap, ◌∙◌, subst, arith}
 use Rattle.std.specs.List.{All, AllByRecursion}
 use Rattle.std.specs.FinMap.{get}
 use Rattle.std.specs.Cmp.{nat_eq_equiv}
@@ -7,11 +7,12 @@ use Rattle.std.proofs.lemmas.Bool.{eqb-true, ne_eqb, lt-ltb, le-ltb}
 use Rattle.std.proofs.lemmas.List.Elements.{recursion_from_All}
 use Rattle.stab_base.specs.Datum.{Datum}
 use Rattle.stab_base.specs.declared.numbers.RefId.{RefId}
+use Rattle.stab_base.specs.declared.numbers.Seq.{Seq}
 use Rattle.ref_log.specs.declared.successors.Successor.{Successor}
-use Rattle.ref_log.specs.Log.{Write, IsRising, has_write, has_below, kept}
+use Rattle.ref_log.specs.Log.{Write, IsRising, has_write, has_below, without, kept}
 use Rattle.ref_log.specs.Calls.{written}
 use Rattle.ref_log.specs.Layout.{Writes, by_reference, held}
-use Rattle.ref_log.specs.Index.{successors_in, is_among, IsIndex}
+use Rattle.ref_log.specs.Index.{successors_in, is_number, IsFreed, is_among, IsIndex}
 use Rattle.ref_log.proofs.WriteLemmas.{has_write-tail}
 
 or_false : (b : Bool) → (b || false) ≡ b
@@ -101,6 +102,21 @@ index_refused ks ls ms es fs r q index above added taken same = record {
       ∙ ap (λ n. has_write q (successors_in (held es n))) (sym (eqb-true r s both.1))
       ∙ none_above_tail q (held es r) (recursion_from_All (λ w. w.number < q) (held es r) above))
       ∙ ap (λ m. has_write p (successors_in (unwrap_or (get m s) []))) (sym same);
+}
+
+struck_by : (b x : Bool) (ws vs us : List Write) (p : ℕ) → (b ≡ true → has_write p (successors_in us) ≡ (has_write p (successors_in ws) && not x)) → us ≡ cond b vs ws → (has_write p (successors_in ws) && not (x && b)) ≡ has_write p (successors_in us)
+struck_by true x ws vs us p freed e = ap (λ b. has_write p (successors_in ws) && not b) (and_true x) ∙ sym (freed refl)
+struck_by false x ws vs us p freed e = ap (λ b. has_write p (successors_in ws) && not b) (and_false x) ∙ and_true (has_write p (successors_in ws)) ∙ ap (λ xs. has_write p (successors_in xs)) (sym e)
+
+-- the successors after a write was struck, without the one that has no earlier one any more
+pub index_struck : (ks ls : List Successor) (es fs : List (RefId × Writes)) (r q : ℕ) (freed : Option Seq) → IsIndex ks es → ((s : ℕ) → held fs s ≡ cond (nat_eq r s) (without q (held es s)) (held es s)) → IsFreed freed (held es r) (held fs r)
+    → ((p s : ℕ) → is_among ls p s ≡ (is_among ks p s && not (is_number p freed && nat_eq r s))) → IsIndex ls fs
+index_struck ks ls es fs r q freed index new is left = record {
+  exact = λ p s.
+      left p s ∙ ap (λ b. b && not (is_number p freed && nat_eq r s)) (index.exact p s)
+      ∙ struck_by (nat_eq r s) (is_number p freed) (held es s) (without q (held es s)) (held fs s) p
+      (λ e. let P : ℕ → Type 0 = λ t. has_write p (successors_in (held fs t)) ≡ (has_write p (successors_in (held es t)) && not (is_number p freed)) in subst P (eqb-true r s e) (is p))
+      (new s);
 }
 
 -- ---- a cut

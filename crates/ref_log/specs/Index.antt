@@ -4,8 +4,8 @@ use Rattle.std.specs.List.{list_any}
 use Rattle.std.specs.Ordering.{nat_cmp, is_eq, ordering_then}
 use Rattle.stab_base.specs.declared.numbers.RefId.{RefId}
 use Rattle.stab_base.specs.declared.numbers.Seq.{Seq}
-use Rattle.ref_log.specs.Log.{Write, has_write}
-use Rattle.ref_log.specs.Layout.{Writes, held}
+use Rattle.ref_log.specs.Log.{Write, has_write, IsSound}
+use Rattle.ref_log.specs.Layout.{Writes, held, log_of}
 use Rattle.ref_log.specs.declared.successors.Successor.{Successor}
 
 -- the writes that have an earlier one
@@ -27,3 +27,8 @@ is_among ks p s = list_any (λ k. is_eq (ordering_then (nat_cmp p k.number.0) (n
 -- the successors are those of all references
 pub record IsIndex (ks : List Successor) (es : List (RefId × Writes)) : Type 0 where
   pub exact : (p s : ℕ) → is_among ks p s ≡ has_write p (successors_in (held es s))
+
+-- the log that is kept is sound, and its successors are those of its references
+pub record IsKept (last_cut : ℕ) (es : List (RefId × Writes)) (ks : List Successor) : Type 0 where
+  pub sound : IsSound (log_of last_cut es)
+  pub index : IsIndex ks es

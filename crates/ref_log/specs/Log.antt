@@ -1,5 +1,5 @@
 -- A log of writes, as callers see it.
-use Rattle.std.specs.Prelude.{◌<◌, IsTrue, drop, ℕ, Bool, not, List, [], Option, None, unwrap_or, refl, nat_eq, nat_lt, cond, ◌∷◌, filter}
+use Rattle.std.specs.Prelude.{◌≢◌, ◌<◌, IsTrue, drop, ℕ, Bool, not, List, [], Option, Some, None, unwrap_or, refl, nat_eq, nat_lt, cond, ◌∷◌, filter}
 use Rattle.std.specs.List.{AllByRecursion, list_any, last_or}
 use Rattle.std.specs.Ordering.{nat_cmp}
 use Rattle.std.specs.Coded.{Coded, code_by, coded×, coded_ℕ, coded_list}
@@ -56,6 +56,11 @@ IsRising [] = Unit {0}
 IsRising (w ∷ ws) = AllByRecursion (λ v. w.number < v.number) ws × IsRising ws
 
 -- the writes of each reference rise, and all but the first are above the last cut
-pub record IsSound (log : Log) : Type 0 where
+pub record IsInOrder (log : Log) : Type 0 where
   pub rising : (r : ℕ) → IsRising (writes_of log r)
   pub recent : (r p : ℕ) → IsTrue (has_write p (drop 1 (writes_of log r))) → log.last_cut < p
+
+-- what holds of every log: its writes are in order, and a reference that is there has a write
+pub record IsSound (log : Log) : Type 0 where
+  pub order : IsInOrder log
+  pub there : (r : ℕ) → map.get log.references r ≢ Some []

@@ -1,6 +1,6 @@
 //! What a list of calls means for a reference.
 ghost use Rattle.std.specs.Prelude.{◌≡◌, ℕ, [], List};
-ghost use Rattle.ref_log.specs.Log.{Log, IsSound, writes_of, last_of};
+ghost use Rattle.ref_log.specs.Log.{Log, IsInOrder, writes_of, last_of};
 ghost use Rattle.ref_log.specs.Calls.{Call, Leads, surviving};
 
 /// A law of lists of calls on a log: after any that are each allowed in their turn, the last write
@@ -14,5 +14,5 @@ pub fn last_write_law()
 /// last cut.
 pub fn sound_law()
     ensures { (calls : List Call) (fresh log : Log) → ((r : ℕ) → writes_of fresh r ≡ [])
-        → Leads calls fresh log → IsSound log }
+        → Leads calls fresh log → IsInOrder log }
 {}

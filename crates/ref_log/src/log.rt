@@ -1,6 +1,6 @@
 //! The log of the writes of references.
 ghost use Rattle.std.specs.Prelude.{◌≡◌, ℕ, [], Option, option_map, OnOk, OnErr, IfErr, IfNone, ◌↔◌};
-ghost use Rattle.ref_log.specs.Log.{writes_of, last_of};
+ghost use Rattle.ref_log.specs.Log.{writes_of, last_of, IsSound};
 ghost use Rattle.ref_log.specs.Calls.{made, wrote, struck, cut, IsAllowed, IsAfter};
 
 use crate::cut;
@@ -28,12 +28,12 @@ impl Model for RefLog {
 
     ghost coded = { coded_log };
 
-    ghost use Rattle.ref_log.specs.Layout.{by_reference};
-    ghost use Rattle.ref_log.specs.Index.{IsIndex};
+    ghost use Rattle.ref_log.specs.Layout.{log_of};
+    ghost use Rattle.ref_log.specs.Index.{IsKept};
 
-    ghost view = { λ a. record { last_cut = a.last_cut.0; references = by_reference a.references.entries } };
+    ghost view = { λ a. log_of a.last_cut.0 a.references.entries };
 
-    ghost invariant = { λ a. IsIndex a.successors.keys a.references.entries };
+    ghost invariant = { λ a. IsKept a.last_cut.0 a.references.entries a.successors.keys };
 }
 
 /// There is no memory for a write, whose value comes back.
@@ -91,6 +91,7 @@ impl RefLog {
     /// The last write of a reference: its value, and the number of its event.
     pub fn read(&self, r: RefId) -> Option<(&Value, Seq)>
         ensures last { option_map (λ p. record { number = p.1.0; value = p.0.now }) result ≡ last_of (writes_of self.now r.0) }
+        ensures sound { IsSound self.now }
         ensures absent { (result ≡ Option.None) ↔ (writes_of self.now r.0 ≡ []) }
     {
         references::last(&self.references, r)
@@ -101,10 +102,8 @@ impl RefLog {
         requires { IsAllowed (struck r.0 q.0) self.old }
         ensures { IsAfter (struck r.0 q.0) self.old self.new }
     {
-        if let Some(freed) = references::strike(&mut self.references, r, q) {
-            successors::forget(&mut self.successors, freed, r);
-        }
-        references::forget_empty(&mut self.references, r);
+        let freed = references::strike(&mut self.references, r, q);
+        successors::forget_freed(&mut self.successors, freed, r);
     }
 
     /// Drops of each reference the writes before the last one below `q`.

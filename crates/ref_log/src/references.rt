@@ -4,7 +4,7 @@ ghost use Rattle.std.specs.List.{All};
 ghost use Rattle.ref_log.specs.Log.{last_of, has_write, without, IsRising};
 ghost use Rattle.ref_log.specs.Index.{IsFreed};
 ghost use Rattle.ref_log.specs.Calls.{written};
-ghost use Rattle.ref_log.specs.Layout.{by_reference, held};
+ghost use Rattle.ref_log.specs.Layout.{by_reference, held, HasWrites};
 
 use crate::writes::{self, Writes};
 use stab_base::{RefId, Seq, Value};
@@ -25,6 +25,7 @@ pub fn begin(
     requires { held references.old.entries r.0 ≡ [] }
     ensures ok { OnOk result ((s : ℕ) → held references.new.entries s
         ≡ (if nat_eq r.0 s then written (held references.old.entries s) q.0 v else held references.old.entries s)) }
+    ensures there { OnOk result ((s : ℕ) → HasWrites references.old.entries s → HasWrites references.new.entries s) }
     ensures err { OnErr result (by_reference references.new.entries ≡ by_reference references.old.entries) }
     ensures back { IfErr result (λ value. value ≡ v) }
 {
@@ -42,6 +43,7 @@ pub fn append(references: &mut References, r: RefId, q: Seq, v: Value) -> Result
     requires above { All (λ w. w.number < q.0) (held references.old.entries r.0) }
     ensures ok { OnOk result ((s : ℕ) → held references.new.entries s
         ≡ (if nat_eq r.0 s then written (held references.old.entries s) q.0 v else held references.old.entries s)) }
+    ensures there { OnOk result ((s : ℕ) → HasWrites references.old.entries s → HasWrites references.new.entries s) }
     ensures err { OnErr result (by_reference references.new.entries ≡ by_reference references.old.entries) }
     ensures back { IfErr result (λ value. value ≡ v) }
 {
@@ -61,11 +63,25 @@ pub fn last(references: &References, r: RefId) -> Option<(&Value, Seq)>
     }
 }
 
-/// Takes a write out, and says which one has no earlier one any more.
+/// Takes a write out, and says which one has no earlier one any more. A reference without writes
+/// is gone.
 pub fn strike(references: &mut References, r: RefId, q: Seq) -> Option<Seq>
     requires { IsTrue (has_write q.0 (held references.old.entries r.0)) }
     ensures writes { (s : ℕ) → held references.new.entries s
         ≡ (if nat_eq r.0 s then without q.0 (held references.old.entries s) else held references.old.entries s) }
+    ensures there { (s : ℕ) → HasWrites references.old.entries s → HasWrites references.new.entries s }
+    ensures freed { IsFreed result (held references.old.entries r.0) (held references.new.entries r.0) }
+{
+    let freed = take_out(references, r, q);
+    forget_empty(references, r);
+    freed
+}
+
+fn take_out(references: &mut References, r: RefId, q: Seq) -> Option<Seq>
+    requires { IsTrue (has_write q.0 (held references.old.entries r.0)) }
+    ensures writes { (s : ℕ) → held references.new.entries s
+        ≡ (if nat_eq r.0 s then without q.0 (held references.old.entries s) else held references.old.entries s) }
+    ensures there { (s : ℕ) → s ≢ r.0 → HasWrites references.old.entries s → HasWrites references.new.entries s }
     ensures freed { IsFreed result (held references.old.entries r.0) (held references.new.entries r.0) }
 {
     match references.get_mut(&r) {
@@ -74,9 +90,10 @@ pub fn strike(references: &mut References, r: RefId, q: Seq) -> Option<Seq>
     }
 }
 
-/// Forgets a reference that has no writes.
-pub fn forget_empty(references: &mut References, r: RefId)
-    ensures { (s : ℕ) → held references.new.entries s ≡ held references.old.entries s }
+// Forgets a reference that has no writes.
+fn forget_empty(references: &mut References, r: RefId)
+    ensures writes { (s : ℕ) → held references.new.entries s ≡ held references.old.entries s }
+    ensures there { (s : ℕ) → (s ≢ r.0 → HasWrites references.old.entries s) → HasWrites references.new.entries s }
 {
     if last(references, r).is_none() {
         let _empty = references.remove(&r);
@@ -88,6 +105,8 @@ pub fn drop_first(references: &mut References, r: RefId)
     requires { held references.old.entries r.0 ≢ [] }
     ensures writes { (s : ℕ) → held references.new.entries s
         ≡ (if nat_eq r.0 s then drop 1 (held references.old.entries s) else held references.old.entries s) }
+    ensures there { (s : ℕ) → (s ≡ r.0 → drop 1 (held references.old.entries s) ≢ [])
+        → HasWrites references.old.entries s → HasWrites references.new.entries s }
     ensures rising { IsRising (held references.new.entries r.0) }
 {
     match references.get_mut(&r) {

@@ -1,6 +1,6 @@
 //! The writes that have an earlier one of their reference, in the order of their numbers.
 ghost use Rattle.std.specs.Prelude.{◌≡◌, ◌<◌, ◌≤◌, ◌+◌, ℕ, true, not, nat_eq, length, ◌&&◌, ◌||◌, IfSome, IfNone, OnSome, OnOk, OnErr};
-ghost use Rattle.ref_log.specs.Index.{is_among};
+ghost use Rattle.ref_log.specs.Index.{is_among, is_number};
 
 use stab_base::{NoMemory, RefId, Seq};
 use std::collections::BTreeSet;
@@ -31,6 +31,16 @@ pub fn forget(successors: &mut Successors, number: Seq, reference: RefId)
         ≡ (is_among successors.old.keys p s && not (nat_eq number.0 p && nat_eq reference.0 s)) }
 {
     let _was = successors.remove(&Successor { number, reference });
+}
+
+/// Takes out the one that has no earlier one any more, where there is one.
+pub fn forget_freed(successors: &mut Successors, freed: Option<Seq>, reference: RefId)
+    ensures { (p s : ℕ) → is_among successors.new.keys p s
+        ≡ (is_among successors.old.keys p s && not (is_number p freed && nat_eq reference.0 s)) }
+{
+    if let Some(number) = freed {
+        forget(successors, number, reference);
+    }
 }
 
 /// Takes out the first one, if it is below `q`.

@@ -10,7 +10,7 @@ use Rattle.std.proofs.Math.ListN.{get_or-map}
 use Rattle.thread_slots.specs.declared.slots.Entry.{Entry}
 use Rattle.thread_slots.specs.Slot.{Slot, is_ready, is_ready_at, changed, put_changed, IsSound}
 use Rattle.thread_slots.specs.Layout.{by_number, slot_of, places, IsLaidOut}
-use Rattle.thread_slots.proofs.Numbered.{get-by_number, by_number-set, by_number-clear, by_number-push, get-by_number-0, number_of}
+use Rattle.thread_slots.proofs.Numbered.{get-by_number, by_number-set, by_number-clear, by_number-open, get-by_number-0, number_of}
 
 IsDistinct-nil : IsDistinct nat_eq []
 unfolding IsDistinct
@@ -72,12 +72,9 @@ module _ {C : Type 0} where
   pub none_past : (es : List (Option (Entry C))) (t i : ℕ) → t ≡ i + 1 → length es ≤ i → get (by_number (places es)) t ≡ None
   none_past es t i at high = get-places es t i at ∙ ap (option_map slot_of) (get_or_past es i None high)
 
-  -- a new thread comes behind all others
-  pub by_number-add : (es : List (Option (Entry C))) (t : ℕ) (e : Entry C) → t ≡ length es + 1 → by_number (places (es ++ Some e ∷ [])) ≡ insert (by_number (places es)) t (slot_of e)
-  by_number-add es t e at =
-      ap by_number (map-append (option_map slot_of) es (Some e ∷ []))
-      ∙ by_number-push (places es) (slot_of e)
-      ∙ ap (λ n. insert (by_number (places es)) n (slot_of e)) (ap (λ n. n + 1) (length-map es (option_map slot_of)) ∙ sym at)
+  -- no thread is at a new place
+  pub threads-open : (es : List (Option (Entry C))) → by_number (places (es ++ None ∷ [])) ≡ by_number (places es)
+  threads-open es = ap by_number (map-append (option_map slot_of) es (None ∷ [])) ∙ by_number-open (places es)
 
   -- what holds of slots that are laid out
   pub IsSound-from_layout : (es : List (Option (Entry C))) (queue : List ℕ) (room capacity queue_capacity : ℕ) → IsLaidOut (by_number (places es)) queue (length es) room capacity queue_capacity → IsSound (record { threads = by_number (places es); queue = queue; next = length es + 1; room = room })

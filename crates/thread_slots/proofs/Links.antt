@@ -1,14 +1,14 @@
 -- The queue that a list of links holds.
-use Rattle.std.proofs.Common.{◌≡◌, ◌≢◌, ℕ, zero, suc, ◌+◌, ◌≤◌, ◌<◌, Bool, true, false, cond, nat_eq, nat_lt, List, [], ◌∷◌, ◌++◌, length, get_or, set, refl, sym, ap, ◌∙◌, subst, arith}
+use Rattle.std.proofs.Common.{◌≡◌, ◌≢◌, ℕ, zero, suc, ◌+◌, ◌≤◌, ◌<◌, Bool, true, false, cond, ◌||◌, nat_eq, nat_lt, List, [], ◌∷◌, ◌++◌, length, get_or, set, refl, sym, ap, ◌∙◌, subst, arith}
 use Rattle.std.specs.List.{IsDistinct}
 use Rattle.std.proofs.lemmas.Bool.Decides.{nat_tests}
 use Rattle.std.proofs.lemmas.List.{get_or-set_same, get_or-set_other, get_or_past}
 use Rattle.thread_slots.specs.declared.ring.Link.{Link}
-use Rattle.thread_slots.specs.Queue.{is_queued, without}
+use Rattle.thread_slots.specs.Queue.{is_queued, without, put_before}
 use Rattle.thread_slots.specs.Ring.{alone, after, before, waiting, IsRing}
 use Rattle.thread_slots.proofs.Queues.{length-IsQueueOf}
 use Rattle.thread_slots.proofs.Numbered.{cases_eq, apart, alike, absurd_bool}
-use Rattle.thread_slots.proofs.Rings.{walk-path, path-below, twice, IsRing-same, IsRing-leave, IsRing-join}
+use Rattle.thread_slots.proofs.Rings.{walk-path, path-below, twice, IsRing-same, IsRing-leave, IsRing-insert}
 
 at_set : (ring : List Link) (n x : ℕ) (l : Link) → n < length ring → get_or (set ring n l) x (alone x) ≡ cond (nat_eq x n) l (get_or ring x (alone x))
 at_set ring n x l low =
@@ -91,24 +91,25 @@ module _ (old mid new : List Link) (t : ℕ) (l : Link) where
   before-leave m last link same change is by low x =
       ap (λ r. before r x) is ∙ before-set last t x m low ∙ ap (λ k. cond (nat_eq x t) k.before (before last x)) by ∙ ap (cond (nat_eq x t) t) (change x ∙ ap (cond (nat_eq x l.after) l.before) (same x) ∙ ap (λ l. cond (nat_eq x l.after) l.before (before old x)) link)
 
-  -- what comes after each place, once t comes between the last one and the end
-  after-join : (first : List Link) → l ≡ get_or old 0 (alone 0) → first ≡ set old t (record { before = l.before; after = 0 }) → t < length old → ((x : ℕ) → after mid x ≡ cond (nat_eq x l.before) t (after first x)) → ((x : ℕ) → after new x ≡ after mid x) → (x : ℕ) → after new x ≡ twice (after old) (before old 0) t t 0 x
-  after-join first link is low change same x =
-      same x ∙ change x ∙ ap (cond (nat_eq x l.before) t) (ap (λ r. after r x) is ∙ after-set old t x _ low) ∙ ap (λ l. cond (nat_eq x l.before) t (cond (nat_eq x t) 0 (after old x))) link
-
-  before-join : (first : List Link) → l ≡ get_or old 0 (alone 0) → first ≡ set old t (record { before = l.before; after = 0 }) → t < length old → ((x : ℕ) → before mid x ≡ before first x) → ((x : ℕ) → before new x ≡ cond (nat_eq x 0) t (before mid x)) → (x : ℕ) → before new x ≡ twice (before old) 0 t t (before old 0) x
-  before-join first link is low same change x =
-      change x ∙ ap (cond (nat_eq x 0) t) (same x ∙ ap (λ r. before r x) is ∙ before-set old t x _ low) ∙ ap (λ l. cond (nat_eq x 0) t (cond (nat_eq x t) l.before (before old x))) link
-
 -- t leaves the queue
 pub IsRing-left : (old mid last new : List Link) (t : ℕ) (l m : Link) (queue : List ℕ) → 1 ≤ t → t < length last → l ≡ get_or old t (alone t) → ((x : ℕ) → after mid x ≡ cond (nat_eq x l.before) l.after (after old x)) → ((x : ℕ) → before mid x ≡ before old x) → ((x : ℕ) → after last x ≡ after mid x) → ((x : ℕ) → before last x ≡ cond (nat_eq x l.after) l.before (before mid x)) → new ≡ set last t m → m ≡ alone t → IsRing (after old) (before old) queue → IsRing (after new) (before new) (without t queue)
 IsRing-left old mid last new t l m queue positive low link ahead same same' behind is by ring =
     IsRing-leave (after old) (before old) (after new) (before new) t queue (λ e. omega arith) (after-leave old mid new t l m last link ahead same' is by low) (before-leave old mid new t l m last link same behind is by low) ring
 
--- t comes to the tail
-pub IsRing-joined : (old first mid new : List Link) (t : ℕ) (l : Link) (queue : List ℕ) → 1 ≤ t → t < length old → is_queued t queue ≡ false → l ≡ get_or old 0 (alone 0) → first ≡ set old t (record { before = l.before; after = 0 }) → ((x : ℕ) → after mid x ≡ cond (nat_eq x l.before) t (after first x)) → ((x : ℕ) → before mid x ≡ before first x) → ((x : ℕ) → after new x ≡ after mid x) → ((x : ℕ) → before new x ≡ cond (nat_eq x 0) t (before mid x)) → IsRing (after old) (before old) queue → IsRing (after new) (before new) (queue ++ t ∷ [])
-IsRing-joined old first mid new t l queue positive low none link is ahead same same' behind ring =
-    IsRing-join (after old) (before old) (after new) (before new) t queue (λ e. omega arith) none (after-join old mid new t l first link is low ahead same') (before-join old mid new t l first link is low same behind) ring
+-- t comes directly before n
+pub IsRing-inserted : (old new : List Link) (t n : ℕ) (l : Link) (queue : List ℕ) → 1 ≤ t → is_queued t queue ≡ false → is_queued n (0 ∷ queue) ≡ true → l ≡ get_or old n (alone n) → ((x : ℕ) → after new x ≡ twice (after old) l.before t t n x) → ((x : ℕ) → before new x ≡ twice (before old) n t t l.before x) → IsRing (after old) (before old) queue → IsRing (after new) (before new) (put_before n t queue)
+IsRing-inserted old new t n l queue positive none there link ahead behind ring =
+    let at : l.before ≡ before old n = ap (λ l. l.before) link in
+    IsRing-insert (after old) (before old) (after new) (before new) t n queue (λ e. omega arith) none there (λ x. ahead x ∙ ap (λ e. twice (after old) e t t n x) at) (λ x. behind x ∙ ap (λ e. twice (before old) n t t e x) at) ring
+
+-- a place that waits is there
+pub queued-within : (e : Link) (links : List Link) (queue : List ℕ) (n : ℕ) → IsRing (after (e ∷ links)) (before (e ∷ links)) queue → is_queued n (0 ∷ queue) ≡ true → n ≤ length links
+queued-within e links queue n is there =
+    cases_eq n 0
+    (λ same. omega arith)
+    (λ other.
+    let below : n < suc (length links) = path-below (after (e ∷ links)) (before (e ∷ links)) (suc (length links)) 0 n queue (λ x low. after-below (e ∷ links) queue x is low) (omega arith) is.path (sym (ap (λ b. b || is_queued n queue) (apart n 0 other)) ∙ there) in
+    omega arith)
 
 get_or_at : (ring : List Link) (x : ℕ) (l d : Link) → x ≡ length ring → get_or (ring ++ l ∷ []) x d ≡ l
 get_or_at [] zero l d at = refl

@@ -4,7 +4,7 @@ use Rattle.std.specs.Ordering.{nat_cmp, eq_by_cmp}
 use Rattle.std.specs.Cmp.{nat_cmp_total, unsigned_tied}
 use Rattle.std.specs.FinMap.{FinMap, find, get, insert, remove, same_map, nat_cmp-IsAntisymmetric, get-from_entries, get-insert, get-remove}
 use Rattle.std.proofs.lemmas.Bool.Decides.{nat_tests, Decides-eqb}
-use Rattle.std.proofs.lemmas.List.{get_or-set_same, get_or-set_other}
+use Rattle.std.proofs.lemmas.List.{get_or-set_same, get_or-set_other, get_or_past}
 use Rattle.thread_slots.specs.Layout.{numbered, by_number}
 
 pub absurd_bool : {P : Type 0} (b : Bool) → b ≡ false → b ≡ true → P
@@ -89,10 +89,12 @@ module _ {X : Type 0} where
   get_or-push (x ∷ xs) zero v w here there = sym (there (λ e. omega arith))
   get_or-push (x ∷ xs) (suc j) v w here there = get_or-push xs j v w (λ e. here (omega arith)) (λ other. there (λ e. other (omega arith)))
 
-  pub by_number-push : (xs : List (Option X)) (x : X) → by_number (xs ++ Some x ∷ []) ≡ insert (by_number xs) (length xs + 1) x
-  by_number-push xs x =
-      same_numbers _ _ (get-by_number-0 (xs ++ Some x ∷ []) ∙ sym (get-insert-beside _ (length xs + 1) 0 x (λ e. omega arith) ∙ get-by_number-0 xs))
-      (λ j. get-by_number (xs ++ Some x ∷ []) (j + 1) j refl ∙ get_or-push xs j (Some x) _ (λ same. get-insert-at _ (length xs + 1) (j + 1) x (omega arith)) (λ other. get-insert-beside _ (length xs + 1) (j + 1) x (λ e. other (omega arith)) ∙ get-by_number xs (j + 1) j refl))
+  -- an empty place at the end changes nothing
+  pub by_number-open : (xs : List (Option X)) → by_number (xs ++ None ∷ []) ≡ by_number xs
+  by_number-open xs =
+      same_numbers _ _ (get-by_number-0 (xs ++ None ∷ []) ∙ sym (get-by_number-0 xs))
+      (λ j. get-by_number (xs ++ None ∷ []) (j + 1) j refl
+      ∙ get_or-push xs j None _ (λ same. get-by_number xs (j + 1) j refl ∙ get_or_past xs j None (omega arith)) (λ other. get-by_number xs (j + 1) j refl))
 
   not_there : {P : Type 0} → (o : Option X) → o ≡ None → IsSome o → P
   not_there o e is = absurd_bool (is_some o) (ap is_some e) is

@@ -8,7 +8,7 @@ use Rattle.std.proofs.lemmas.List.Folds.{list_any-append}
 use Rattle.std.proofs.lemmas.Map.Views.{any-filter_same}
 use Rattle.std.proofs.lemmas.Map.Keys.{IsDistinct-head, IsDistinct-tail, IsDistinct-cons, IsDistinct-push}
 use Rattle.std.proofs.lemmas.Map.Steps.{length-le_from_distinct_below}
-use Rattle.thread_slots.specs.Queue.{is_queued, without, IsQueueOf}
+use Rattle.thread_slots.specs.Queue.{is_queued, without, put_before, IsQueueOf}
 
 alike : (t u k : ℕ) → nat_eq u k ≡ true → not (nat_eq t k) ≡ not (nat_eq t u)
 alike t u k same = grind (arith, nat_tests)
@@ -94,3 +94,47 @@ without-absent t [] out = refl
 without-absent t (u ∷ queue) out =
     let parts : (nat_eq t u ≡ false) × (is_queued t queue ≡ false) = absent_head (nat_eq t u) (is_queued t queue) out in
     ap (λ b. cond (not b) (u ∷ without t queue) (without t queue)) parts.0 ∙ ap (λ q. u ∷ q) (without-absent t queue parts.1)
+
+-- ---- t comes directly before n
+turned : (x t u : ℕ) (b c : Bool) → c ≡ (nat_eq x t || b) → (nat_eq x u || c) ≡ (nat_eq x t || (nat_eq x u || b))
+turned x t u b c is = grind (arith, nat_tests)
+
+pub is_queued-put : (x n t : ℕ) (queue : List ℕ) → is_queued x (put_before n t queue) ≡ (nat_eq x t || is_queued x queue)
+is_queued-put x n t [] = refl
+is_queued-put x n t (u ∷ queue) =
+    elim (nat_eq n u) as (λ b. is_queued x (cond b (t ∷ u ∷ queue) (u ∷ put_before n t queue)) ≡ (nat_eq x t || (nat_eq x u || is_queued x queue))) [
+      | true ↦ refl
+      | false ↦ turned x t u _ _ (is_queued-put x n t queue)
+    ]
+
+ByRecursion-put : (P : ℕ → Type 0) (n t : ℕ) (queue : List ℕ) → P t → AllByRecursion P queue → AllByRecursion P (put_before n t queue)
+ByRecursion-put P n t [] here h = (here, tt)
+ByRecursion-put P n t (u ∷ queue) here h =
+    elim (nat_eq n u) as (λ b. AllByRecursion P (cond b (t ∷ u ∷ queue) (u ∷ put_before n t queue))) [
+      | true ↦ (here, h)
+      | false ↦ (h.0, ByRecursion-put P n t queue here h.1)
+    ]
+
+differ_from : (t : ℕ) (queue : List ℕ) → is_queued t queue ≡ false → AllByRecursion (λ y. nat_eq t y ≡ false) queue
+differ_from t [] out = tt
+differ_from t (u ∷ queue) out =
+    let parts : (nat_eq t u ≡ false) × (is_queued t queue ≡ false) = absent_head (nat_eq t u) (is_queued t queue) out in
+    (parts.0, differ_from t queue parts.1)
+
+pub IsDistinct-put : (n t : ℕ) (queue : List ℕ) → is_queued t queue ≡ false → IsDistinct nat_eq queue → IsDistinct nat_eq (put_before n t queue)
+IsDistinct-put n t [] out once = IsDistinct-cons nat_eq t [] tt once
+IsDistinct-put n t (u ∷ queue) out once =
+    let parts : (nat_eq t u ≡ false) × (is_queued t queue ≡ false) = absent_head (nat_eq t u) (is_queued t queue) out in
+    elim (nat_eq n u) as (λ b. IsDistinct nat_eq (cond b (t ∷ u ∷ queue) (u ∷ put_before n t queue))) [
+      | true ↦ IsDistinct-cons nat_eq t (u ∷ queue) (differ_from t (u ∷ queue) out) once
+      | false ↦ IsDistinct-cons nat_eq u (put_before n t queue)
+          (ByRecursion-put (λ y. nat_eq u y ≡ false) n t queue (nat_eq_equiv.symm u t ∙ parts.0) (IsDistinct-head nat_eq u queue once))
+          (IsDistinct-put n t queue parts.1 (IsDistinct-tail nat_eq u queue once))
+    ]
+
+-- before the end is at the tail
+pub put_before-end : (n t : ℕ) (queue : List ℕ) → is_queued 0 queue ≡ false → n ≡ 0 → put_before n t queue ≡ queue ++ t ∷ []
+put_before-end n t [] end is = refl
+put_before-end n t (u ∷ queue) end is =
+    let parts : (nat_eq 0 u ≡ false) × (is_queued 0 queue ≡ false) = absent_head (nat_eq 0 u) (is_queued 0 queue) end in
+    ap (λ b. cond b (t ∷ u ∷ queue) (u ∷ put_before n t queue)) (ap (λ k. nat_eq k u) is ∙ parts.0) ∙ ap (λ q. u ∷ q) (put_before-end n t queue parts.1 is)

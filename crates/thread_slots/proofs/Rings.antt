@@ -1,13 +1,11 @@
 -- How a ring of links changes, over its two functions and the list of those that wait.
-use Rattle.std.proofs.Common.{◌≡◌, ◌≢◌, ℕ, zero, suc, ◌+◌, ◌≤◌, ◌<◌, Bool, true, false, cond, not, ◌&&◌, ◌||◌, nat_eq, List, [], ◌∷◌, ◌++◌, length, refl, sym, ap, ◌∙◌, subst, arith}
+use Rattle.std.proofs.Common.{◌≡◌, ◌≢◌, ℕ, zero, suc, ◌+◌, ◌≤◌, ◌<◌, Bool, true, false, cond, not, ◌&&◌, ◌||◌, nat_eq, List, [], ◌∷◌, length, refl, sym, ap, ◌∙◌, subst, arith}
 use Rattle.std.specs.List.{IsDistinct, AllByRecursion}
-use Rattle.std.specs.Cmp.{nat_eq_equiv}
 use Rattle.std.proofs.lemmas.Bool.Decides.{nat_tests}
-use Rattle.std.proofs.lemmas.List.Folds.{list_any-append}
-use Rattle.std.proofs.lemmas.Map.Keys.{IsDistinct-head, IsDistinct-tail, IsDistinct-push}
-use Rattle.thread_slots.specs.Queue.{is_queued, without}
+use Rattle.std.proofs.lemmas.Map.Keys.{IsDistinct-head, IsDistinct-tail}
+use Rattle.thread_slots.specs.Queue.{is_queued, without, put_before}
 use Rattle.thread_slots.specs.Ring.{walk, IsPath, IsRing}
-use Rattle.thread_slots.proofs.Queues.{is_queued-without, without-absent, IsDistinct-filter}
+use Rattle.thread_slots.proofs.Queues.{is_queued-without, without-absent, IsDistinct-filter, is_queued-put, IsDistinct-put}
 use Rattle.thread_slots.proofs.Numbered.{cases_eq, apart, alike}
 
 -- f is changed at s, and else at t
@@ -22,6 +20,12 @@ at_second f s u t v x other same = ap (λ b. cond b u (cond (nat_eq x t) v (f x)
 
 at_none : (f : ℕ → ℕ) (s u t v x : ℕ) → x ≢ s → x ≢ t → twice f s u t v x ≡ f x
 at_none f s u t v x other away = ap (λ b. cond b u (cond (nat_eq x t) v (f x))) (apart x s other) ∙ ap (λ b. cond b v (f x)) (apart x t away)
+
+only_end : (n : ℕ) → (nat_eq n 0 || false) ≡ true → n ≡ 0
+only_end n there = grind (arith, nat_tests)
+
+further : (n u : ℕ) (b : Bool) → n ≢ u → (nat_eq n 0 || (nat_eq n u || b)) ≡ true → (nat_eq n 0 || b) ≡ true
+further n u b away there = grind (arith, nat_tests)
 
 false_true : {P : Type 0} → false ≡ true → P
 false_true e = cc
@@ -83,13 +87,31 @@ module _ (f g : ℕ → ℕ) where
       (λ away. subst (IsPath (twice f t t (g t) (f t)) s) (sym (ap (λ b. cond (not b) (u ∷ without t queue) (without t queue)) (apart t u away)))
       (step-leave t s u back other (λ e. away (sym e)) path.0, path-leave t u queue forth back positive (λ e. away (sym e)) (IsDistinct-tail nat_eq u queue once) path.1))
 
-  path-join : (t s : ℕ) (queue : List ℕ) → ((x : ℕ) → g (f x) ≡ x) → f (g 0) ≡ 0 → t ≢ 0 → s ≢ t → is_queued t queue ≡ false → is_queued 0 queue ≡ false → IsPath f s queue → IsPath (twice f (g 0) t t 0) s (queue ++ t ∷ [])
-  path-join t s [] forth back positive other none end path =
-      (at_first f (g 0) t t 0 s (sym (forth s) ∙ ap g path), at_second f (g 0) t t 0 t (λ e. other (sym (forth s) ∙ ap g path ∙ sym e)) refl)
-  path-join t s (u ∷ queue) forth back positive other none end path =
+  -- t comes directly before n, which isn't on the path: the path stays
+  path-beyond : (t n s : ℕ) (queue : List ℕ) → f (g n) ≡ n → n ≢ 0 → is_queued n queue ≡ false → s ≢ t → is_queued t queue ≡ false → IsPath f s queue → IsPath (twice f (g n) t t n) s queue
+  path-beyond t n s [] back positive off other none path = at_none f (g n) t t n s (λ e. positive (sym back ∙ ap f (sym e) ∙ path)) other ∙ path
+  path-beyond t n s (u ∷ queue) back positive off other none path =
+      let parts : (u ≢ t) × (is_queued t queue ≡ false) = unequal t u _ none in
+      let offs : (u ≢ n) × (is_queued n queue ≡ false) = unequal n u _ off in
+      (at_none f (g n) t t n s (λ e. offs.0 (sym path.0 ∙ ap f e ∙ back)) other ∙ path.0, path-beyond t n u queue back positive offs.1 parts.0 parts.1 path.1)
+
+  -- t comes directly before n, which is on the path or the end of it
+  path-insert : (t n s : ℕ) (queue : List ℕ) → ((x : ℕ) → g (f x) ≡ x) → f (g n) ≡ n → s ≢ t → is_queued t queue ≡ false → IsDistinct nat_eq queue → is_queued 0 queue ≡ false → is_queued n (0 ∷ queue) ≡ true → IsPath f s queue → IsPath (twice f (g n) t t n) s (put_before n t queue)
+  path-insert t n s [] forth back other none once end there path =
+      let last : n ≡ 0 = only_end n there in
+      let from : s ≡ g n = sym (forth s) ∙ ap g (path ∙ sym last) in
+      (at_first f (g n) t t n s from, at_second f (g n) t t n t (λ e. other (from ∙ sym e)) refl ∙ last)
+  path-insert t n s (u ∷ queue) forth back other none once end there path =
       let parts : (u ≢ t) × (is_queued t queue ≡ false) = unequal t u _ none in
       let ends : (u ≢ 0) × (is_queued 0 queue ≡ false) = unequal 0 u _ end in
-      (at_none f (g 0) t t 0 s (λ e. ends.0 (sym path.0 ∙ ap f e ∙ back)) other ∙ path.0, path-join t u queue forth back positive parts.0 parts.1 ends.1 path.1)
+      cases_eq n u
+      (λ same.
+      let from : s ≡ g n = sym (forth s) ∙ ap g (path.0 ∙ sym same) in
+      let off : is_queued n queue ≡ false = absent n queue (subst (λ k. AllByRecursion (λ y. nat_eq k y ≡ false) queue) (sym same) (IsDistinct-head nat_eq u queue once)) in
+      subst (IsPath (twice f (g n) t t n) s) (sym (ap (λ b. cond b (t ∷ u ∷ queue) (u ∷ put_before n t queue)) (alike n u same)))
+      (at_first f (g n) t t n s from, (at_second f (g n) t t n t (λ e. other (from ∙ sym e)) refl ∙ same, path-beyond t n u queue back (λ e. ends.0 (sym same ∙ e)) off parts.0 parts.1 path.1)))
+      (λ away. subst (IsPath (twice f (g n) t t n) s) (sym (ap (λ b. cond b (t ∷ u ∷ queue) (u ∷ put_before n t queue)) (apart n u away)))
+      (at_none f (g n) t t n s (λ e. away (sym back ∙ ap f (sym e) ∙ path.0)) other ∙ path.0, path-insert t n u queue forth back parts.0 parts.1 (IsDistinct-tail nat_eq u queue once) ends.1 (further n u _ away there) path.1))
 
   -- a walk along the path gives what stands on it
   pub walk-path : (k s : ℕ) (queue : List ℕ) → length queue ≤ k → is_queued 0 queue ≡ false → IsPath f s queue → walk k f (f s) ≡ queue
@@ -118,14 +140,14 @@ not_queued t queue end = is_queued-without t 0 queue ∙ ap (λ b. not (nat_eq t
 left_apart : (t x : ℕ) (b : Bool) → x ≢ t → (nat_eq x 0 || (not (nat_eq t x) && b)) ≡ false → (nat_eq x 0 || b) ≡ false
 left_apart t x b other none = grind (arith, nat_tests)
 
-joined_apart : (t x : ℕ) (b c : Bool) → c ≡ (b || (nat_eq x t || false)) → (nat_eq x 0 || c) ≡ false → (x ≢ t) × ((nat_eq x 0 || b) ≡ false)
-joined_apart t x b c is none = (λ e. grind (arith, nat_tests), grind (arith, nat_tests))
+put_apart : (t x : ℕ) (b c : Bool) → c ≡ (nat_eq x t || b) → (nat_eq x 0 || c) ≡ false → (x ≢ t) × ((nat_eq x 0 || b) ≡ false)
+put_apart t x b c is none = (λ e. grind (arith, nat_tests), grind (arith, nat_tests))
 
-not_end : (x : ℕ) (b : Bool) → (nat_eq x 0 || b) ≡ false → x ≢ 0
-not_end x b none e = grind (arith, nat_tests)
+true_false : (b : Bool) → b ≡ true → b ≡ false → ⊥
+true_false b is off = cc
 
-joined_end : (t : ℕ) (b : Bool) → t ≢ 0 → b ≡ false → (b || (nat_eq 0 t || false)) ≡ false
-joined_end t b positive none = grind (arith, nat_tests)
+put_end : (t : ℕ) (b : Bool) → t ≢ 0 → b ≡ false → (nat_eq 0 t || b) ≡ false
+put_end t b positive none = grind (arith, nat_tests)
 
 module _ (f g f' g' : ℕ → ℕ) where
   inverse-same : (h h' : ℕ → ℕ) → ((x : ℕ) → f' x ≡ h x) → ((x : ℕ) → g' x ≡ h' x) → (x : ℕ) → h' (h x) ≡ x → g' (f' x) ≡ x
@@ -157,19 +179,22 @@ module _ (f g f' g' : ℕ → ℕ) where
         step-leave f g t x x (ring.back t) other other alone);
   }
 
-  -- t, which doesn't wait, comes to the tail
-  pub IsRing-join : (t : ℕ) (queue : List ℕ) → t ≢ 0 → is_queued t queue ≡ false → ((x : ℕ) → f' x ≡ twice f (g 0) t t 0 x) → ((x : ℕ) → g' x ≡ twice g 0 t t (g 0) x) → IsRing f g queue → IsRing f' g' (queue ++ t ∷ [])
-  IsRing-join t queue positive none is is' ring =
-      let ahead : f t ≡ t = ring.apart t (ap (λ b. b || is_queued t queue) (apart t 0 positive) ∙ none) in
+  -- t, which doesn't wait, comes directly before n, which waits or is the end
+  pub IsRing-insert : (t n : ℕ) (queue : List ℕ) → t ≢ 0 → is_queued t queue ≡ false → is_queued n (0 ∷ queue) ≡ true → ((x : ℕ) → f' x ≡ twice f (g n) t t n x) → ((x : ℕ) → g' x ≡ twice g n t t (g n) x) → IsRing f g queue → IsRing f' g' (put_before n t queue)
+  IsRing-insert t n queue positive none there is is' ring =
+      let off : is_queued t (0 ∷ queue) ≡ false = ap (λ b. b || is_queued t queue) (apart t 0 positive) ∙ none in
+      let ahead : f t ≡ t = ring.apart t off in
       let behind : g t ≡ t = sym (ap g ahead) ∙ ring.forth t in
+      let other : t ≢ n = λ e. true_false (is_queued n (0 ∷ queue)) there (ap (λ k. is_queued k (0 ∷ queue)) (sym e) ∙ off) in
       record {
-        forth = λ x. inverse-same (twice f (g 0) t t 0) (twice g 0 t t (g 0)) is is' x (inverse-join f g (g 0) 0 t x refl behind positive (ring.forth x));
-        back = λ x. is (g' x) ∙ ap (twice f (g 0) t t 0) (is' x) ∙ inverse-join g f 0 (g 0) t x (ring.back 0) ahead (λ e. positive (sym ahead ∙ ap f e ∙ ring.back 0)) (ring.back x);
-        path = path-same (twice f (g 0) t t 0) f' 0 (queue ++ t ∷ []) is (path-join f g t 0 queue ring.forth (ring.back 0) positive (λ e. positive (sym e)) none ring.end ring.path);
-        once = IsDistinct-push nat_eq_equiv queue t ring.once none;
-        end = list_any-append (nat_eq 0) queue (t ∷ []) ∙ joined_end t _ positive ring.end;
+        forth = λ x. inverse-same (twice f (g n) t t n) (twice g n t t (g n)) is is' x (inverse-join f g (g n) n t x refl behind other (ring.forth x));
+        back = λ x. is (g' x) ∙ ap (twice f (g n) t t n) (is' x) ∙ inverse-join g f n (g n) t x (ring.back n) ahead (λ e. other (sym ahead ∙ ap f e ∙ ring.back n)) (ring.back x);
+        path = path-same (twice f (g n) t t n) f' 0 (put_before n t queue) is (path-insert f g t n 0 queue ring.forth (ring.back n) (λ e. positive (sym e)) none ring.once ring.end there ring.path);
+        once = IsDistinct-put n t queue none ring.once;
+        end = is_queued-put 0 n t queue ∙ put_end t _ positive ring.end;
         apart = λ x away.
-            let parts : (x ≢ t) × ((nat_eq x 0 || is_queued x queue) ≡ false) = joined_apart t x (is_queued x queue) _ (list_any-append (nat_eq x) queue (t ∷ [])) away in
+            let parts : (x ≢ t) × ((nat_eq x 0 || is_queued x queue) ≡ false) = put_apart t x (is_queued x queue) _ (is_queued-put x n t queue) away in
             let alone : f x ≡ x = ring.apart x parts.1 in
-            is x ∙ at_none f (g 0) t t 0 x (λ e. not_end x _ parts.1 (sym alone ∙ ap f e ∙ ring.back 0)) parts.0 ∙ alone;
+            let beside : x ≢ g n = λ e. true_false (is_queued n (0 ∷ queue)) there (ap (λ k. is_queued k (0 ∷ queue)) (sym (ring.back n) ∙ ap f (sym e) ∙ alone) ∙ parts.1) in
+            is x ∙ at_none f (g n) t t n x beside parts.0 ∙ alone;
       }

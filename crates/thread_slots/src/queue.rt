@@ -1,12 +1,15 @@
 //! The queue of ready threads as a doubly linked list, which a thread leaves from its middle without a walk.
 
-ghost use Rattle.std.specs.Prelude.{◌≡◌, ◌+◌, ◌≤◌, ◌<◌, false, [], ◌∷◌, ◌++◌, OnOk, option_map, slice_get};
-ghost use Rattle.thread_slots.specs.Queue.{is_queued, without};
+ghost use Rattle.std.specs.Prelude.{◌≡◌, ◌+◌, ◌≤◌, ◌<◌, false, [], ◌∷◌, ◌++◌, OnOk, IfSome, true, option_map, slice_get};
+ghost use Rattle.thread_slots.specs.Queue.{is_queued, without, put_before};
 
 use crate::ring::{Link, Ring, alone};
 use stab_base::{NoMemory, ThreadId};
 use std::alloc::Global;
 use std::marker::Model;
+
+/// The place behind the last thread.
+pub(crate) const END: u32 = 0;
 
 /// Threads in the order in which they came, each at most once. Each call but `reserve` takes no memory and no walk.
 #[derive(Drop)]
@@ -73,7 +76,8 @@ impl Queue {
     }
 
     pub(crate) fn first(&self) -> Option<ThreadId>
-        ensures { option_map (λ t. t.0) result ≡ slice_get self.now.waiting 0 }
+        ensures first { option_map (λ t. t.0) result ≡ slice_get self.now.waiting 0 }
+        ensures waits { IfSome result (λ t. is_queued t.0 self.now.waiting ≡ true) }
     {
         let first = self.ring.link(0).after;
         if first == 0 {
@@ -82,24 +86,18 @@ impl Queue {
         Some(ThreadId(first))
     }
 
-    /// Puts a thread that doesn't wait at the tail.
-    pub(crate) fn join(&mut self, t: ThreadId)
+    /// Puts a thread that doesn't wait directly before a place: that of one that waits, or the end.
+    pub(crate) fn insert(&mut self, t: ThreadId, next: u32)
         requires place { (1 ≤ t.0) × (t.0 ≤ self.old.places) }
         requires apart { is_queued t.0 self.old.waiting ≡ false }
-        ensures waiting { self.new.waiting ≡ self.old.waiting ++ t.0 ∷ [] }
+        requires next { is_queued next (0 ∷ self.old.waiting) ≡ true }
+        ensures waiting { self.new.waiting ≡ put_before next t.0 self.old.waiting }
+        ensures tail { next ≡ 0 → self.new.waiting ≡ self.old.waiting ++ t.0 ∷ [] }
         ensures places { self.new.places ≡ self.old.places }
         ensures capacity { self.new.capacity ≡ self.old.capacity }
     {
-        let last = self.ring.link(0).before;
-        self.ring.write(
-            t.0,
-            Link {
-                before: last,
-                after: 0,
-            },
-        );
-        self.ring.set_after(last, t.0);
-        self.ring.set_before(0, t.0);
+        let before = self.ring.link(next).before;
+        self.ring.insert(t.0, before, next);
     }
 
     /// Takes a thread out, where it waits.

@@ -53,6 +53,23 @@ impl Ring {
         }
     }
 
+    /// Puts the place `t` between two others.
+    pub(crate) fn insert(&mut self, t: u32, before: u32, after: u32)
+        requires place { t ≤ length self.old.links.items }
+        requires before { before ≤ length self.old.links.items }
+        requires after { after ≤ length self.old.links.items }
+        ensures after { (u : ℕ) → ring_after (self.new.end ∷ self.new.links.items) u
+            ≡ (if nat_eq u before then t else if nat_eq u t then after else ring_after (self.old.end ∷ self.old.links.items) u) }
+        ensures before { (u : ℕ) → ring_before (self.new.end ∷ self.new.links.items) u
+            ≡ (if nat_eq u after then t else if nat_eq u t then before else ring_before (self.old.end ∷ self.old.links.items) u) }
+        ensures length { length self.new.links.items ≡ length self.old.links.items }
+        ensures capacity { vec_capacity self.new.links ≡ vec_capacity self.old.links }
+    {
+        self.write(t, Link { before, after });
+        self.set_after(before, t);
+        self.set_before(after, t);
+    }
+
     pub(crate) fn set_after(&mut self, n: u32, t: u32)
         requires { n ≤ length self.old.links.items }
         ensures after { (u : ℕ) → ring_after (self.new.end ∷ self.new.links.items) u

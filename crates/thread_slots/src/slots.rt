@@ -8,7 +8,7 @@ ghost use Rattle.thread_slots.specs.Queue.{is_queued, without};
 ghost use Rattle.thread_slots.specs.Slot.{is_ready, started, restored, changed, IsSound};
 ghost use Rattle.thread_slots.specs.Layout.{by_number, places, slot_of};
 
-use crate::queue::Queue;
+use crate::queue::{END, Queue};
 use crate::state::State;
 use stab_base::{Generation, NoMemory, ThreadId};
 use std::alloc::Global;
@@ -103,15 +103,19 @@ impl<C: Drop> Slots<C> {
         ensures room { self.new.room + 1 ≡ self.old.room }
         ensures sound { IsSound self.new }
     {
-        let t = ThreadId(self.entries.len() as u32 + 1);
-        let state = first_state(ended);
-        self.entries.push_reserved(Some(Entry {
-            control,
-            generation: Generation(0),
-            state,
-        }));
+        let t = open_place(&mut self.entries, &mut self.queue);
         self.room -= 1;
-        self.queue.open(t);
+        let state = first_state(ended);
+        let generation = Generation(0);
+        fill(
+            &mut self.entries,
+            t,
+            Entry {
+                control,
+                generation,
+                state,
+            },
+        );
         enter(&mut self.queue, t, state);
         t
     }
@@ -161,7 +165,7 @@ impl<C: Drop> Slots<C> {
         ensures room { self.new.room ≡ self.old.room }
         ensures sound { IsSound self.new }
     {
-        requeue(&mut self.queue, t, State::Ready);
+        rejoin(&mut self.queue, t);
         put_back(&mut self.entries, t, control);
     }
 
@@ -203,6 +207,37 @@ impl<C: Drop> Slots<C> {
         let entry = entry_of(&self.entries, t)?;
         Some(entry.state)
     }
+}
+
+// Gives the next number, under which no thread is yet.
+fn open_place<C: Drop>(entries: &mut Vec<Option<Entry<C>>>, queue: &mut Queue) -> ThreadId
+    requires room { length entries.old.items < vec_capacity entries.old }
+    requires queue_room { queue.old.places < queue.old.capacity }
+    requires places { queue.old.places ≡ length entries.old.items }
+    requires numbers { length entries.old.items + 1 ≤ 4294967294 }
+    ensures number { result.0 ≡ length entries.old.items + 1 }
+    ensures threads { by_number (places entries.new.items) ≡ by_number (places entries.old.items) }
+    ensures length { length entries.new.items ≡ length entries.old.items + 1 }
+    ensures capacity { vec_capacity entries.new ≡ vec_capacity entries.old }
+    ensures waiting { queue.new.waiting ≡ queue.old.waiting }
+    ensures places { queue.new.places ≡ queue.old.places + 1 }
+    ensures queue_capacity { queue.new.capacity ≡ queue.old.capacity }
+{
+    let t = ThreadId(entries.len() as u32 + 1);
+    entries.push_reserved(None);
+    queue.open(t);
+    t
+}
+
+// Puts a new thread into its place.
+fn fill<C: Drop>(entries: &mut Vec<Option<Entry<C>>>, t: ThreadId, entry: Entry<C>)
+    requires { (1 ≤ t.0) × (t.0 ≤ length entries.old.items) }
+    ensures threads { by_number (places entries.new.items)
+        ≡ map.insert (by_number (places entries.old.items)) t.0 (slot_of entry) }
+    ensures length { length entries.new.items ≡ length entries.old.items }
+    ensures capacity { vec_capacity entries.new ≡ vec_capacity entries.old }
+{
+    entries[place(t)] = Some(entry);
 }
 
 // What is kept of a thread, where it is live.
@@ -290,7 +325,7 @@ fn enter(queue: &mut Queue, t: ThreadId, state: State)
     ensures capacity { queue.new.capacity ≡ queue.old.capacity }
 {
     if state == State::Ready {
-        queue.join(t);
+        queue.insert(t, END)
     }
 }
 
@@ -304,4 +339,15 @@ fn requeue(queue: &mut Queue, t: ThreadId, state: State)
 {
     queue.leave(t);
     enter(queue, t, state);
+}
+
+// Takes a thread from where it is to the tail.
+fn rejoin(queue: &mut Queue, t: ThreadId)
+    requires { (1 ≤ t.0) × (t.0 ≤ queue.old.places) }
+    ensures waiting { queue.new.waiting ≡ without t.0 queue.old.waiting ++ t.0 ∷ [] }
+    ensures places { queue.new.places ≡ queue.old.places }
+    ensures capacity { queue.new.capacity ≡ queue.old.capacity }
+{
+    queue.leave(t);
+    queue.insert(t, END);
 }
