@@ -1,5 +1,4 @@
 pub mod CallIsValid
-pub mod FormLemmas
 pub mod NegationLemmas
 pub mod SeenLemmas
 pub mod ValidLemmas
