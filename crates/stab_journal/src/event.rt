@@ -2,7 +2,7 @@
 
 use stab_base::{ChanId, RefId, Seq, ThreadId};
 
-/// A step of the language. Each names the thread that makes it first.
+/// A step of the language. The thread that a label names first makes the step; a `Comm` is made by two.
 #[derive(Clone, Copy, PartialEq, Eq, Debug)]
 pub enum Label {
     /// So many pure steps.
@@ -40,7 +40,7 @@ pub enum What {
     Release(u64),
 }
 
-/// An entry of the journal, with the worker that made it.
+/// An entry of the journal, with the worker that made it, 1 to 64. Threads, channels and references in it are 1 to 4,000,000,000.
 #[derive(Clone, Copy, PartialEq, Eq, Debug)]
 pub struct Event {
     pub worker: u32,

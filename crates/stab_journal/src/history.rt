@@ -50,8 +50,8 @@ impl History {
         }
     }
 
-    /// Makes room for `n` more events, so that they can be pushed without memory. No journal is
-    /// meant to have more than 4,294,967,294.
+    /// Makes room for `n` more events, so that they can be pushed without memory. A journal has room for
+    /// 4,294,967,294 events at most.
     pub fn reserve(&mut self, n: u64) -> Result<(), NoMemory>
         requires { length self.old.events + n ≤ 4294967294 }
         ensures ok { OnOk result (n ≤ self.new.spare) }
