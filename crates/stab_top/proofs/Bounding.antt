@@ -1,4 +1,4 @@
--- A text has more bytes than its program has steps to make.
+-- A text has at least two bytes for each step that its program has to make.
 use Rattle.std.proofs.Common.{arith, ◌≡◌, ℕ, suc, ◌+◌, ◌<◌, ◌≤◌, List, [], ◌∷◌, ◌++◌, length, length-append, Option, Some, None, inl, inr, ap}
 use Rattle.sum_reader.specs.declared.token.Token.{Token}
 use Rattle.sum_reader.specs.declared.token.Token.TheVariants.{Plus, CloseParen, CloseBrace, Semicolon}
@@ -18,17 +18,17 @@ use Rattle.plain_model.specs.Expression.{Expr, Items, none, item}
 use Rattle.plain_model.specs.Program.{tree_expr, block_items, last_expr, block_of, main_expr}
 use Rattle.plain_model.specs.State.{work, item_work}
 
--- an expression is written with more tokens than it has forms to step
-tree_small : (t : Tree) → work (tree_expr t) + 1 ≤ length (tokens_of t)
+-- an expression is written with more than two tokens for each form that it has to step
+tree_small : (t : Tree) → work (tree_expr t) + work (tree_expr t) + 1 ≤ length (tokens_of t)
 tree_small (number n) = omega arith
 tree_small (plus a b) = omega (arith, tree_small a, tree_small b, length-append (tokens_of a) (Plus ∷ tokens_of b))
 tree_small (tree.print a) = omega (arith, tree_small a, length-append (tokens_of a) (CloseParen ∷ []))
 
-items_small : (ts : List Tree) → item_work (block_items ts) ≤ length (items_tokens ts)
+items_small : (ts : List Tree) → item_work (block_items ts) + item_work (block_items ts) ≤ length (items_tokens ts)
 items_small [] = omega arith
 items_small (t ∷ ts) = omega (arith, tree_small t, items_small ts, length-append (tokens_of t) (Semicolon ∷ items_tokens ts))
 
-last_small : (o : Option Tree) → work (last_expr o) ≤ length (last_tokens o)
+last_small : (o : Option Tree) → work (last_expr o) + work (last_expr o) ≤ length (last_tokens o)
 last_small None = omega arith
 last_small (Some t) = omega (arith, tree_small t)
 
@@ -36,7 +36,7 @@ block_small : (items : Items) (e : Expr) → work (block_of items e) ≤ item_wo
 block_small none e = omega arith
 block_small (item a rest) e = omega arith
 
-program_small : (b : Body) → work (main_expr b) ≤ length (program_tokens b)
+program_small : (b : Body) → work (main_expr b) + work (main_expr b) ≤ length (program_tokens b)
 program_small b =
     let its = items_tokens b.items in
     let end = last_tokens b.last in
@@ -59,7 +59,7 @@ spelled_small bytes (token ∷ tokens) h =
     let begin = h.1 in
     omega (arith, spelled_small h.0 tokens h.2, lexeme_is_some begin.lexeme h.0 token begin.is_lexeme, ap length begin.parts, length-append begin.gap (begin.lexeme ++ h.0), length-append begin.lexeme h.0)
 
-pub text_small : (bytes : List ℕ) (b : Body) → IsProgram bytes b → work (main_expr b) ≤ length bytes
+pub text_small : (bytes : List ℕ) (b : Body) → IsProgram bytes b → work (main_expr b) + work (main_expr b) ≤ length bytes
 text_small bytes b is = omega (arith, program_small b, spelled_small bytes (program_tokens b) is.spelled)
 
 weighs_step : (q worker : ℕ) (label : Label) → IsLabel label → 1 ≤ weigh (Step label)
@@ -79,5 +79,5 @@ events_long q [] h = omega arith
 events_long q (e ∷ es) h = omega (arith, events_long (suc q) es h.1, weighs_some q e h.0, sum_by-cons (λ (x : Event). weigh x.what) e es)
 
 -- a journal has no more events than it weighs
-pub journal_short : (journal : Journal) (left : ℕ) → IsValid journal → weight_of journal.events + left ≤ 1048576 → length journal.events ≤ 1048576
+pub journal_short : (journal : Journal) (left : ℕ) → IsValid journal → weight_of journal.events + left ≤ 16000000 → length journal.events ≤ 16000000
 journal_short journal left valid small = omega (arith, events_long 1 journal.events valid.in_range)

@@ -1,5 +1,5 @@
 -- What a book shows.
-use Rattle.std.specs.Prelude.{◌≡◌, ◌+◌, ◌≤◌, List}
+use Rattle.std.specs.Prelude.{◌≡◌, ◌+◌, ◌<◌, List}
 use Rattle.std.specs.List.{AllByRecursion}
 use Rattle.stab_journal.specs.declared.event.Event.{Event}
 use Rattle.stab_journal.specs.declared.event.Numbered.{Numbered}
@@ -25,8 +25,8 @@ IsShown main journal state = (run : List Numbered) × Shows main journal run sta
 abbrev pub ByOneWorker : List Event → Type 0
 ByOneWorker = AllByRecursion (λ (e : Event). e.worker ≡ 1)
 
--- what every book keeps; a text is too small for more than so much to do
+-- what every book keeps; what happened and what is left to do weigh less than the fuel, so no run is spent
 pub record IsBook (book : Book) : Type 0 where
   pub shown : IsShown (main_expr book.job.program) book.history book.state
   pub by_one : ByOneWorker book.history.events
-  pub small : weight_of book.history.events + work_left book.state ≤ 1048576
+  pub small : weight_of book.history.events + work_left book.state < book.job.fuel

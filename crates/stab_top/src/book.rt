@@ -41,7 +41,7 @@ impl Model for Book {
 impl Book {
     /// The book of a job before its first step.
     pub fn new(alloc: Global, job: Job) -> Result<Book, NoMemory>
-        requires { work (main_expr job.program) ≤ 1048576 }
+        requires { work (main_expr job.program) < job.fuel }
         ensures job { IfOk result (λ b. b.job ≡ job) }
         ensures history { IfOk result (λ b. b.history.events ≡ []) }
         ensures state { IfOk result (λ b. b.state ≡ start (main_expr job.program)) }

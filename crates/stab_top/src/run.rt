@@ -25,9 +25,9 @@ pub fn make_turn(
     quantum: u32,
 ) -> Result<bool, NoMemory>
     requires quantum { 1 ≤ quantum }
-    requires small { weight_of history.old.events + work_left state.old ≤ 1048576 }
+    requires small { weight_of history.old.events + work_left state.old ≤ 16000000 }
     ensures goes { KeepsShown history.old state.old history.new state.new }
-    ensures small { weight_of history.new.events + work_left state.new ≤ 1048576 }
+    ensures small { weight_of history.new.events + work_left state.new ≤ weight_of history.old.events + work_left state.old }
     ensures rest { IfOk result (λ went. went ≡ false → IsQuiet state.new) }
     ensures still { IfOk result (λ went. went ≡ false → (state.new ≡ state.old) × (history.new.events ≡ history.old.events)) }
     ensures turn { IfOk result (λ went. went ≡ true → Turned quantum history.old.events state.old history.new.events state.new) }

@@ -108,7 +108,7 @@ fn run_text<K: Sink>(alloc: Global, bytes: &[u8], sink: &mut K) -> Report
 
 // The book of a whole run.
 fn run_program(alloc: Global, program: Program) -> Result<Book, NoMemory>
-    requires { work (main_expr program) ≤ 1048576 }
+    requires { work (main_expr program) ≤ 524288 }
     ensures job { IfOk result (λ b. b.job ≡ default_job program) }
     ensures quiet { IfOk result (λ b. IsQuiet b.state) }
 {
