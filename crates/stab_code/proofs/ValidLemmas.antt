@@ -1,16 +1,15 @@
 -- What the facts of a valid program say of one function or node.
-use Rattle.std.proofs.Common.{◌≡◌, ℕ, zero, suc, ◌<◌, ◌≤◌, List, [], ◌∷◌, ◌++◌, map, IfSome, length, slice_get, Some, ap, subst, arith, length-append}
+use Rattle.std.proofs.Common.{◌≡◌, ℕ, zero, suc, ◌<◌, ◌≤◌, List, [], ◌∷◌, ◌++◌, map, length, slice_get, Some, ap, subst, arith, length-append}
 use Rattle.std.specs.List.{All, range_with_len}
 use Rattle.std.proofs.lemmas.List.Elements.{All-head, All-tail}
 use Rattle.std.proofs.lemmas.List.FromFn.{length-range_with_len}
 use Rattle.std.proofs.lemmas.Option.{get_or_from_slice_get, slice_get_within}
 use Rattle.stab_code.specs.declared.node.NodeId.{NodeId}
 use Rattle.stab_code.specs.declared.node.Item.{Item}
-use Rattle.stab_code.specs.declared.node.Node.{Node}
-use Rattle.stab_code.specs.Parts.{call_of, form_of_item}
+use Rattle.stab_code.specs.Parts.{form_of_item}
 use Rattle.stab_code.specs.ProgramParts.{FunctionParts, arity_of, ProgramParts}
 use Rattle.stab_code.specs.Scope.{lets_of}
-use Rattle.stab_code.specs.Valid.{ArgumentsFit, FunctionsAreThere, SlotsAreInOrder}
+use Rattle.stab_code.specs.Valid.{SlotsAreInOrder}
 use Rattle.stab_code.specs.Walk.{value_at}
 
 -- what holds of each item holds of the one that was found
@@ -26,13 +25,6 @@ pub arity_le-slots : (p : ProgramParts) → SlotsAreInOrder p → (k : ℕ) (f :
 arity_le-slots p in_order k f found =
     let here = All-at (λ g. range_with_len 0 (arity_of g) ++ value_at [] (lets_of p.nodes) g.body ≡ range_with_len 0 g.slots) p.functions k f in_order found in
     arity_from_order (arity_of f) f.slots (value_at [] (lets_of p.nodes) f.body) here
-
-pub callee_there : (p : ProgramParts) → FunctionsAreThere p → (n : ℕ) (x : Node) → slice_get p.nodes n ≡ Some x → IfSome (call_of x) (λ call. call.callee.0 < length p.functions)
-callee_there p there n x found = All-at (λ node. IfSome (call_of node) (λ call. call.callee.0 < length p.functions)) p.nodes n x there found
-
-pub arguments_at : (p : ProgramParts) → ArgumentsFit p → (n : ℕ) (x : Node) → slice_get p.nodes n ≡ Some x → IfSome (call_of x) (λ call. IfSome (slice_get p.functions call.callee.0) (λ f. length call.args ≡ arity_of f))
-arguments_at p fit n x found =
-    All-at (λ node. IfSome (call_of node) (λ call. IfSome (slice_get p.functions call.callee.0) (λ f. length call.args ≡ arity_of f))) p.nodes n x fit found
 
 abbrev IsBelow : ℕ → NodeId → Type 0
 IsBelow n part = part.0 < n

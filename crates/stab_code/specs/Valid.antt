@@ -72,7 +72,7 @@ abbrev pub SlotsAreInOrder : ProgramParts → Type 0
 SlotsAreInOrder p =
     All (λ f. range_with_len 0 (arity_of f) ++ value_at [] (lets_of p.nodes) f.body ≡ range_with_len 0 f.slots) p.functions
 
--- each variable stands where its let is seen, or its parameter, which is seen in the whole body
+-- the slots that a body leaves open are parameters', so with SlotsAreInOrder each variable stands where its let or parameter is seen
 abbrev pub VariablesAreSeen : ProgramParts → Type 0
 VariablesAreSeen p = All (λ f. All (λ slot. slot < arity_of f) (value_at [] (open_in p.nodes) f.body)) p.functions
 
