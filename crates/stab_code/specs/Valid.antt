@@ -1,8 +1,8 @@
 -- Which programs are valid. Each fact is a definition of its own.
-use Rattle.std.specs.Prelude.{◌≡◌, ℕ, ◌<◌, ◌≤◌, ◌^◌, [], ◌++◌, length, slice_get, Some, IfSome, IsSomeAnd}
+use Rattle.std.specs.Prelude.{◌≡◌, ℕ, ◌<◌, ◌≤◌, ◌^◌, ⊤, [], ◌++◌, length, slice_get, Some, IfSome, IsSomeAnd}
 use Rattle.std.specs.List.{All, range_with_len}
 use Rattle.stab_code.specs.declared.node.Node.{Node}
-use Rattle.stab_code.specs.declared.node.Node.TheVariants.{Text, Block}
+use Rattle.stab_code.specs.declared.node.Node.TheVariants.{Unit, Truth, Int, Text, Var, Block, If, Two, Not, Neg, Pair, Fst, Snd, Call, Spawn, Stable, NewChan, NewRef, Get, Set, Send, Recv, Pick, Stabilize, Cut, Pin, Print, Probe, Attempt}
 use Rattle.stab_code.specs.FormDepth.{depths_of}
 use Rattle.stab_code.specs.Limits.{max_form_depth}
 use Rattle.stab_code.specs.Parts.{parts_of, call_of}
@@ -27,9 +27,37 @@ abbrev pub ArgumentsFit : ProgramParts → Type 0
 ArgumentsFit p =
     All (λ node. IfSome (call_of node) (λ call. IfSome (slice_get p.functions call.callee.0) (λ f. length call.args ≡ arity_of f))) p.nodes
 
+-- a node that names a text names one below the count
 abbrev pub NamesTextBelow : ℕ → Node → Type 0
+NamesTextBelow count Unit = ⊤
+NamesTextBelow count (Truth truth) = ⊤
+NamesTextBelow count (Int number) = ⊤
 NamesTextBelow count (Text t) = t.0 < count
-NamesTextBelow count _ = Unit {0}
+NamesTextBelow count (Var slot) = ⊤
+NamesTextBelow count (Block items last) = ⊤
+NamesTextBelow count (If condition first second) = ⊤
+NamesTextBelow count (Two op left right) = ⊤
+NamesTextBelow count (Not operand) = ⊤
+NamesTextBelow count (Neg operand) = ⊤
+NamesTextBelow count (Pair first second) = ⊤
+NamesTextBelow count (Fst pair) = ⊤
+NamesTextBelow count (Snd pair) = ⊤
+NamesTextBelow count (Call f args) = ⊤
+NamesTextBelow count (Spawn f args) = ⊤
+NamesTextBelow count (Stable f args) = ⊤
+NamesTextBelow count (NewChan carried) = ⊤
+NamesTextBelow count (NewRef value) = ⊤
+NamesTextBelow count (Get reference) = ⊤
+NamesTextBelow count (Set reference value) = ⊤
+NamesTextBelow count (Send chan value) = ⊤
+NamesTextBelow count (Recv chan) = ⊤
+NamesTextBelow count (Pick first second) = ⊤
+NamesTextBelow count Stabilize = ⊤
+NamesTextBelow count Cut = ⊤
+NamesTextBelow count Pin = ⊤
+NamesTextBelow count (Print value) = ⊤
+NamesTextBelow count Probe = ⊤
+NamesTextBelow count Attempt = ⊤
 
 -- each text that a node names is there
 abbrev pub TextsAreThere : ProgramParts → Type 0
@@ -44,13 +72,41 @@ abbrev pub SlotsAreInOrder : ProgramParts → Type 0
 SlotsAreInOrder p =
     All (λ f. range_with_len 0 (arity_of f) ++ value_at [] (lets_of p.nodes) f.body ≡ range_with_len 0 f.slots) p.functions
 
--- each variable stands where its let is seen, or its parameter, which is seen in the whole body
+-- the slots that a body leaves open are parameters', so with SlotsAreInOrder each variable stands where its let or parameter is seen
 abbrev pub VariablesAreSeen : ProgramParts → Type 0
 VariablesAreSeen p = All (λ f. All (λ slot. slot < arity_of f) (value_at [] (open_in p.nodes) f.body)) p.functions
 
+-- a node that is a block has an item
 abbrev pub HasItems : Node → Type 0
+HasItems Unit = ⊤
+HasItems (Truth truth) = ⊤
+HasItems (Int number) = ⊤
+HasItems (Text text) = ⊤
+HasItems (Var slot) = ⊤
 HasItems (Block items last) = 0 < length items
-HasItems _ = Unit {0}
+HasItems (If condition first second) = ⊤
+HasItems (Two op left right) = ⊤
+HasItems (Not operand) = ⊤
+HasItems (Neg operand) = ⊤
+HasItems (Pair first second) = ⊤
+HasItems (Fst pair) = ⊤
+HasItems (Snd pair) = ⊤
+HasItems (Call f args) = ⊤
+HasItems (Spawn f args) = ⊤
+HasItems (Stable f args) = ⊤
+HasItems (NewChan carried) = ⊤
+HasItems (NewRef value) = ⊤
+HasItems (Get reference) = ⊤
+HasItems (Set reference value) = ⊤
+HasItems (Send chan value) = ⊤
+HasItems (Recv chan) = ⊤
+HasItems (Pick first second) = ⊤
+HasItems Stabilize = ⊤
+HasItems Cut = ⊤
+HasItems Pin = ⊤
+HasItems (Print value) = ⊤
+HasItems Probe = ⊤
+HasItems Attempt = ⊤
 
 -- each block has an item
 abbrev pub BlocksHaveItems : ProgramParts → Type 0

@@ -85,7 +85,7 @@ impl Model for Args {
 }
 
 impl Args {
-    /// The arguments of a call, as many as its function takes.
+    /// The arguments of a call.
     pub fn new(args: Vec<NodeId>) -> Args
         ensures { result ≡ args.items }
     {

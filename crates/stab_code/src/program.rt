@@ -98,7 +98,7 @@ impl Program {
         self.functions.len() as u32
     }
 
-    /// The texts that the nodes name.
+    /// The texts of the program, which nodes name by number.
     pub fn texts(&self) -> &Texts
         ensures value { result.now ≡ self.now.texts }
         ensures valid { IsValid self.now }
