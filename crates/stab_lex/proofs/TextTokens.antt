@@ -1,8 +1,8 @@
 -- A token of the kind Text is a text between its quotes.
-use Rattle.std.proofs.Common.{◌≡◌, ℕ, Bool, true, false, cond, None, Some, Option, List, [], ◌∷◌, refl, sym, ap, ◌∙◌, encode_utf8_all, IsUtf8, ⊎_elim}
+use Rattle.std.proofs.Common.{◌≡◌, ℕ, Bool, true, false, cond, None, Some, Option, List, [], ◌∷◌, drop, refl, sym, ap, ◌∙◌, encode_utf8_all, IsUtf8, ⊎_elim}
 use Rattle.std.specs.Prelude.{not, unwrap_or}
 use Rattle.std.specs.List.{list_all, slice_range}
-use Rattle.std.specs.Str.{bytes_eq}
+use Rattle.std.specs.Str.{bytes_eq, chars}
 use Rattle.std.proofs.lemmas.Bool.{false≢true, and_parts, cases_Bool}
 use Rattle.std.proofs.lemmas.Str.{chars_from_encodes}
 use Rattle.stab_lex.specs.declared.kind.Kind.{Kind}
@@ -45,4 +45,4 @@ piece_is_text (Mark cs) after literal stands kind utf8 is = absurd (no_text mark
 
 pub texts_are_quoted : (bytes : List ℕ) (token : Token) → IsSlice bytes token → token.kind ≡ Text → IsText (slice_range bytes token.start token.end)
 texts_are_quoted bytes token slice is =
-    piece_is_text slice.piece slice.after (slice_range bytes token.start token.end) slice.stands (slice.kind_is ∙ ap Some is) slice.utf8 slice.bytes_are
+    piece_is_text slice.piece (chars (drop token.end bytes)) (slice_range bytes token.start token.end) slice.stands (slice.kind_is ∙ ap Some is) slice.utf8 slice.bytes_are

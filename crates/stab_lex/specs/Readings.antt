@@ -1,5 +1,5 @@
 -- What it means that bytes are read as tokens, or have a fault.
-use Rattle.std.specs.Prelude.{◌≡◌, ℕ, ◌+◌, ◌<◌, ◌≤◌, List, [], ◌∷◌, ◌++◌, length, Option, Some, option_map, IsUtf8, encode_utf8_all}
+use Rattle.std.specs.Prelude.{◌≡◌, ℕ, ◌+◌, ◌<◌, ◌≤◌, List, [], ◌∷◌, ◌++◌, length, drop, Option, Some, option_map, IsUtf8, encode_utf8_all}
 use Rattle.std.specs.Option.{option_to_list}
 use Rattle.std.specs.List.{flat_map, slice_range}
 use Rattle.std.specs.Str.{chars, IsValidUpTo}
@@ -69,13 +69,13 @@ abbrev pub InOrder : ℕ → List Token → ℕ → Type 0
 InOrder at [] len = at ≤ len
 InOrder at (t ∷ ts) len = (at ≤ t.start) × (t.start < t.end) × InOrder t.end ts len
 
--- the bytes from the token's start to its end are those of a piece of the token's kind
+-- The bytes from the token's start to its end are those of a piece of the token's kind, and it can stand before the
+-- characters behind them.
 pub record IsSlice (bytes : List ℕ) (token : Token) : Type 0 where
   pub some : token.start < token.end
   pub inside : token.end ≤ length bytes
   pub piece : Piece
-  pub after : List ℕ
-  pub stands : Stands piece after
+  pub stands : Stands piece (chars (drop token.end bytes))
   pub kind_is : kind_of piece ≡ Some token.kind
   pub bytes_are : slice_range bytes token.start token.end ≡ encode_utf8_all (spelling piece)
   pub utf8 : IsUtf8 (slice_range bytes token.start token.end)

@@ -1,7 +1,7 @@
 ghost use Rattle.std.specs.Prelude.{◌≤◌, length};
 
 use super::*;
-use std::alloc::Global;
+use std::alloc::{AllocError, Global};
 use std::process::Abort;
 use std::test::Fail;
 
@@ -176,6 +176,46 @@ fn numbers(rt: HostRuntime) -> Result<(), Fail> {
         fault_of(&rt, rt.alloc(), &million),
         Some(LexFault::BigNumber(0))
     );
+    Ok(())
+}
+
+// A program of the greatest length: its first and its last byte, and one byte all the way between.
+fn greatest_program(
+    alloc: Global,
+    first: u8,
+    between: u8,
+    last: u8,
+) -> Result<Vec<u8>, AllocError> {
+    let mut text = vec![in alloc; between; 1_048_576]?;
+    text[0] = first;
+    text[1_048_575] = last;
+    Ok(text)
+}
+
+#[test]
+fn programs_of_the_greatest_length(rt: HostRuntime) -> Result<(), Fail> {
+    let greatest = 1_048_576;
+    let table = [
+        (
+            (b'(', b'(', b'('),
+            1_048_576,
+            Some(token(Kind::OpenParen, greatest - 1, greatest)),
+        ),
+        ((b'a', b'a', b'a'), 1, Some(token(Kind::Name, 0, greatest))),
+        ((b'"', b'a', b'"'), 1, Some(token(Kind::Text, 0, greatest))),
+        ((b'/', b'/', b'a'), 0, None),
+        (
+            (b'0', b'0', b'7'),
+            1,
+            Some(token(Kind::Number(7), 0, greatest)),
+        ),
+    ];
+    for ((first, between, last), count, last_token) in table {
+        let text = greatest_program(rt.alloc(), first, between, last)?;
+        let tokens = lexed(&rt, rt.alloc(), &text)?;
+        assert_eq!(rt; tokens.len(), count);
+        assert_eq!(rt; tokens.last().copied(), last_token);
+    }
     Ok(())
 }
 

@@ -15,7 +15,7 @@ pub struct Token {
 /// Why a text has no tokens. A place is a byte offset from 0.
 #[derive(Clone, Copy, Debug, PartialEq, Eq)]
 pub enum LexFault {
-    /// The bytes up to here are UTF-8, and with those that follow they aren't.
+    /// The bytes aren't UTF-8: the length of the longest prefix that is UTF-8.
     NotUtf8(u32),
     /// A character that begins no token, or a backslash in a text before a character that it
     /// can't stand before.
