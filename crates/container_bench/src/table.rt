@@ -29,6 +29,9 @@ const FEW: [u32; 3] = [10, 20, 40];
 
 const MANY: [u32; 3] = [1_000, 10_000, 100_000];
 
+/// How many runs of a size are timed.
+const TIMED: u32 = 5;
+
 impl Container {
     fn name(self) -> &'static str {
         match self {
@@ -63,7 +66,19 @@ fn count<R: AllocGlobal>(rt: &R, container: Container, n: u32) -> io::Result<u32
     }
 }
 
+// The least time of five runs of this size.
 fn micros<R: AllocGlobal + Clock>(rt: &R, container: Container, n: u32) -> io::Result<u64>
+    requires { n ≤ 1000000 }
+{
+    let _untimed = count(rt, container, n)?;
+    let mut least = u64::MAX;
+    for _ in 0..TIMED {
+        least = least.min(micros_of_one(rt, container, n)?);
+    }
+    Ok(least)
+}
+
+fn micros_of_one<R: AllocGlobal + Clock>(rt: &R, container: Container, n: u32) -> io::Result<u64>
     requires { n ≤ 1000000 }
 {
     let start = Instant::now(rt)?;
@@ -86,19 +101,18 @@ pub fn print_counts<R: AllocGlobal + Print>(rt: &R) -> io::Result<()> {
 
 /// The times at the three sizes in microseconds, and by how much each is more than the one before.
 ///
-/// A run that isn't timed comes first, since the first one pays for what the allocator still has to
-/// do with the memory that the container before it gave back.
+/// A time is the least of five runs, before which one of the same size isn't timed. The first run of a size
+/// pays for what the allocator does with new memory, and any run for what else the machine does meanwhile.
 pub fn print_times<R: AllocGlobal + Clock + Print>(rt: &R) -> io::Result<()> {
     for container in ALL {
         let name = container.name();
-        let _untimed = count(rt, container, MANY[0])?;
         let a = micros(rt, container, MANY[0])?;
         let b = micros(rt, container, MANY[1])?;
         let c = micros(rt, container, MANY[2])?;
         let first = hundredths(b, a);
         let second = hundredths(c, b);
         println!(rt;
-            "{name}: {a} us, {b} us, {c} us; times {}.{:02}, times {}.{:02}",
+            "{name}: {a} us, {b} us, {c} us; ratios {}.{:02}, {}.{:02}",
             first / 100,
             first % 100,
             second / 100,

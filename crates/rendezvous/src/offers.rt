@@ -39,7 +39,7 @@ impl Model for Offers {
 }
 
 impl Offers {
-    /// No channels, on which nobody waits. It takes no memory yet.
+    /// No channels yet. It takes no memory.
     pub fn new(alloc: Global) -> Offers
         ensures { result ≡ map.empty }
     {

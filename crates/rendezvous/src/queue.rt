@@ -9,14 +9,14 @@ use stab_base::NoMemory;
 use std::alloc::Global;
 use std::marker::Model;
 
-/// Threads in a line, the longest waiting first. No thread stands in it twice.
+/// Threads in a line, the longest waiting first. No thread stands in it twice, and the cache puts none out.
 #[derive(Drop)]
 pub(crate) struct Queue {
     threads: LruCache<u32, ()>,
 }
 
 impl Model for Queue {
-    ghost use Rattle.std.specs.Prelude.{ℕ, List, nat_eq};
+    ghost use Rattle.std.specs.Prelude.{◌≡◌, ◌-◌, ◌^◌, ℕ, List, nat_eq};
     ghost use Rattle.std.specs.List.{IsDistinct};
     ghost use Rattle.std.specs.Map.{keys_of};
     ghost use Rattle.std.specs.Coded.{coded_list, coded_ℕ};
@@ -27,7 +27,7 @@ impl Model for Queue {
 
     ghost view = { λ q. keys_of q.threads.entries };
 
-    ghost invariant = { λ q. IsDistinct nat_eq (keys_of q.threads.entries) };
+    ghost invariant = { λ q. IsDistinct nat_eq (keys_of q.threads.entries) × (q.threads.cap ≡ 2 ^ 64 - 1) };
 }
 
 impl Queue {
@@ -55,10 +55,8 @@ impl Queue {
         ensures ok { OnOk result (self.new ≡ self.old ++ t ∷ []) }
         ensures err { OnErr result (self.new ≡ self.old) }
     {
-        // A full cache would put the longest waiting out.
-        if self.threads.len() >= self.threads.cap().get() {
-            return Err(NoMemory);
-        }
+        // The cache is never full, so nobody is put out for the new one.
+        prove!(self.threads.len() < usize::MAX);
         if self.threads.put(t, ()).is_err() {
             return Err(NoMemory);
         }

@@ -1,6 +1,6 @@
 //! Threads by number, and the queue of those that are ready.
 
-ghost use Rattle.std.specs.Prelude.{◌≡◌, ◌+◌, ◌≤◌, ◌<◌, false, [], ◌∷◌, ◌++◌, length, IsSome, IsSomeAnd, OnOk, option_map, slice_get, if◌then◌else◌};
+ghost use Rattle.std.specs.Prelude.{◌≡◌, ◌+◌, ◌≤◌, ◌<◌, false, [], ◌∷◌, ◌++◌, length, IsOk, IsSome, IsSomeAnd, OnOk, option_map, slice_get, if◌then◌else◌};
 ghost use Rattle.std.specs.Option.{option_copied};
 ghost use Rattle.std.specs.Vec.{vec_capacity};
 ghost use Rattle.std.specs.FinMap as map;
@@ -74,6 +74,7 @@ impl<C: Drop> Slots<C> {
     /// Makes room for one thread more.
     pub fn reserve(&mut self) -> Result<(), NoMemory>
         ensures room { OnOk result (1 ≤ self.new.room) }
+        ensures enough { 1 ≤ self.old.room → IsOk result }
         ensures more { self.old.room ≤ self.new.room }
         ensures threads { self.new.threads ≡ self.old.threads }
         ensures queue { self.new.queue ≡ self.old.queue }
@@ -120,7 +121,7 @@ impl<C: Drop> Slots<C> {
         t
     }
 
-    /// The thread that is ready the longest.
+    /// The first thread of the queue.
     pub fn front(&self) -> Option<ThreadId>
         ensures first { option_map (λ t. t.0) result ≡ slice_get self.now.queue 0 }
         ensures sound { IsSound self.now }
@@ -275,17 +276,17 @@ fn write_control<C: Drop>(entries: &mut Vec<Option<Entry<C>>>, t: ThreadId, cont
     }
 }
 
-// The thread is Ready with this control and of the next generation.
-fn put_back<C: Drop>(entries: &mut Vec<Option<Entry<C>>>, t: ThreadId, control: C)
+// The thread is Ready with this earlier control and of the next generation.
+fn put_back<C: Drop>(entries: &mut Vec<Option<Entry<C>>>, t: ThreadId, earlier: C)
     requires { IsSomeAnd (map.get (by_number (places entries.old.items)) t.0)
         (λ slot. slot.generation < u64.MAX) }
     ensures threads { by_number (places entries.new.items)
-        ≡ changed (by_number (places entries.old.items)) t.0 (restored control) }
+        ≡ changed (by_number (places entries.old.items)) t.0 (restored earlier) }
     ensures length { length entries.new.items ≡ length entries.old.items }
     ensures capacity { vec_capacity entries.new ≡ vec_capacity entries.old }
 {
     if let Some(entry) = &mut entries[place(t)] {
-        entry.control = control;
+        entry.control = earlier;
         entry.generation = Generation(entry.generation.0 + 1);
         entry.state = State::Ready;
     }
