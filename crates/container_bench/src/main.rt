@@ -1,4 +1,4 @@
-//! How long the containers of a run take with many entries.
+//! How long the containers of a run take with many entries, and the lexer with long texts.
 //!
 //! With the word `counts` it prints, for few entries, how many calls found what they were for.
 #![tactic(auto)]
@@ -9,6 +9,7 @@ mod saved;
 mod scatter;
 mod table;
 mod threads;
+mod tokens;
 mod writes;
 
 use std::{env, io};

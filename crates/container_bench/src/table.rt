@@ -1,7 +1,7 @@
 //! What is printed.
 ghost use Rattle.std.specs.Prelude.{◌<◌, ◌≤◌, ◌+◌};
 
-use crate::{events, offers, saved, threads, writes};
+use crate::{events, offers, saved, threads, tokens, writes};
 use stab_base::NoMemory;
 use std::alloc::Global;
 use std::io;
@@ -15,14 +15,16 @@ enum Container {
     RefLog,
     CheckpointStore,
     StabJournal,
+    StabLex,
 }
 
-const ALL: [Container; 5] = [
+const ALL: [Container; 6] = [
     Container::ThreadSlots,
     Container::Rendezvous,
     Container::RefLog,
     Container::CheckpointStore,
     Container::StabJournal,
+    Container::StabLex,
 ];
 
 const FEW: [u32; 3] = [10, 20, 40];
@@ -40,6 +42,7 @@ impl Container {
             Container::RefLog => "ref_log",
             Container::CheckpointStore => "checkpoint_store",
             Container::StabJournal => "stab_journal",
+            Container::StabLex => "stab_lex",
         }
     }
 
@@ -52,6 +55,7 @@ impl Container {
             Container::RefLog => writes::run(alloc, n),
             Container::CheckpointStore => saved::run(alloc, n),
             Container::StabJournal => events::run(alloc, n),
+            Container::StabLex => tokens::run(alloc, n),
         }
     }
 }
