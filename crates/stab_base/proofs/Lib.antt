@@ -1,2 +1,6 @@
 pub mod GainLemmas
+pub mod Leaving
+pub mod Links
+pub mod Outcomes
+pub mod Rings
 pub mod TextLemmas

@@ -4,6 +4,10 @@
 mod fault;
 mod numbers;
 mod print;
+mod queue;
+#[cfg(test)]
+mod queue_tests;
+mod ring;
 mod shape;
 #[cfg(test)]
 mod tests;
@@ -12,6 +16,7 @@ mod value;
 
 pub use fault::Fault;
 pub use numbers::{ChanId, FnId, Generation, NoMemory, RefId, Seq, TextId, ThreadId};
+pub use queue::ThreadQueue;
 pub use shape::{MAX_DEPTH, MAX_LEAVES, Shape};
 pub use texts::Texts;
 pub use value::{PairFault, Value};
