@@ -1,5 +1,5 @@
 -- What a caller needs to know before it calls: which channels are there, and that a thread waits nowhere.
-use Rattle.std.proofs.Common.{◌≡◌, ℕ, Bool, true, false, cond, ◌&&◌, ◌||◌, nat_eq, List, [], ◌∷◌, ◌++◌, Option, Some, None, IsSome, IfSome, option_map, refl, sym, ap, ◌∙◌, subst}
+use Rattle.std.proofs.Common.{◌≡◌, ℕ, Bool, true, false, cond, ◌||◌, nat_eq, List, [], ◌∷◌, ◌++◌, Option, Some, None, IsSome, option_map, refl, sym, ap, ◌∙◌, subst}
 use Rattle.std.specs.List.{list_any}
 use Rattle.std.specs.Ordering.{nat_cmp, eq_by_cmp}
 use Rattle.std.specs.Cmp.{nat_cmp_total, unsigned_tied}
@@ -9,8 +9,7 @@ use Rattle.std.proofs.lemmas.List.Folds.{list_any-append}
 use Rattle.stab_base.specs.declared.numbers.ChanId.{ChanId}
 use Rattle.rendezvous.specs.declared.offer.Offer.{Offer}
 use Rattle.rendezvous.specs.declared.offer.Offer.TheVariants as offer
-use Rattle.rendezvous.specs.Line.{Line, Lines, nobody, joined, left, HasNoOffer, AreThere}
-use Rattle.rendezvous.proofs.Changes.{any-without}
+use Rattle.rendezvous.specs.Line.{Line, Lines, nobody, joined, Absent, HasNoOffer, AreThere}
 
 still : (o : Option Line) (f : Line → Line) → IsSome o → IsSome (option_map f o)
 still None f is = cc
@@ -51,29 +50,29 @@ AreThere-Pick m a b first second c on = split (nat_eq c a.0) (nat_eq c b.0) on (
 
 -- on no channel does anybody wait
 pub HasNoOffer-empty : (m : Lines) (t : ℕ) → m ≡ empty → HasNoOffer m t
-HasNoOffer-empty m t is c = subst (λ o. IfSome o (λ line. (list_any (nat_eq t) line.sends ≡ false) × (list_any (nat_eq t) line.receives ≡ false))) (sym (ap (λ m. get m c) is ∙ get-empty nat_cmp c)) tt
+HasNoOffer-empty m t is c = subst (λ o. Absent t o) (sym (ap (λ m. get m c) is ∙ get-empty nat_cmp c)) tt
 
-none_new : (b : Bool) (t : ℕ) (o : Option Line) → IfSome o (λ line. (list_any (nat_eq t) line.sends ≡ false) × (list_any (nat_eq t) line.receives ≡ false)) → IfSome (cond b (Some nobody) o) (λ line. (list_any (nat_eq t) line.sends ≡ false) × (list_any (nat_eq t) line.receives ≡ false))
+none_new : (b : Bool) (t : ℕ) (o : Option Line) → Absent t o → Absent t (cond b (Some nobody) o)
 none_new true t o none = (refl, refl)
 none_new false t o none = none
 
 -- nobody waits on a channel that was made
 pub HasNoOffer-made : (m n : Lines) (a t : ℕ) → n ≡ insert m a nobody → HasNoOffer m t → HasNoOffer n t
 HasNoOffer-made m n a t is none c =
-    subst (λ o. IfSome o (λ line. (list_any (nat_eq t) line.sends ≡ false) × (list_any (nat_eq t) line.receives ≡ false))) (sym (ap (λ n. get n c) is ∙ get-insert nat_cmp_total m a nobody c)) (none_new (eq_by_cmp nat_cmp c a) t (get m c) (none c))
+    subst (λ o. Absent t o) (sym (ap (λ n. get n c) is ∙ get-insert nat_cmp_total m a nobody c)) (none_new (eq_by_cmp nat_cmp c a) t (get m c) (none c))
 
 not_last : (t u : ℕ) (b : Bool) (ts : List ℕ) → nat_eq t u ≡ false → list_any (nat_eq t) ts ≡ false → list_any (nat_eq t) (ts ++ cond b (u ∷ []) []) ≡ false
 not_last t u true ts other none = list_any-append (nat_eq t) ts (u ∷ []) ∙ ap (λ b. b || (nat_eq t u || false)) none ∙ ap (λ b. b || false) other
 not_last t u false ts other none = list_any-append (nat_eq t) ts [] ∙ ap (λ b. b || false) none
 
-none_joined : (t u : ℕ) (offer : Offer) (c : ℕ) (o : Option Line) → nat_eq t u ≡ false → IfSome o (λ line. (list_any (nat_eq t) line.sends ≡ false) × (list_any (nat_eq t) line.receives ≡ false)) → IfSome (option_map (joined u offer c) o) (λ line. (list_any (nat_eq t) line.sends ≡ false) × (list_any (nat_eq t) line.receives ≡ false))
+none_joined : (t u : ℕ) (offer : Offer) (c : ℕ) (o : Option Line) → nat_eq t u ≡ false → Absent t o → Absent t (option_map (joined u offer c) o)
 none_joined t u offer c None other none = none
 none_joined t u offer c (Some line) other none = (not_last t u _ line.sends other none.0, not_last t u _ line.receives other none.1)
 
 -- another thread waits now
 pub HasNoOffer-parked : (m n : Lines) (t u : ℕ) (offer : Offer) → nat_eq t u ≡ false → ((c : ℕ) → get n c ≡ option_map (joined u offer c) (get m c)) → HasNoOffer m t → HasNoOffer n t
 HasNoOffer-parked m n t u offer other is none c =
-    subst (λ o. IfSome o (λ line. (list_any (nat_eq t) line.sends ≡ false) × (list_any (nat_eq t) line.receives ≡ false))) (sym (is c)) (none_joined t u offer c (get m c) other (none c))
+    subst (λ o. Absent t o) (sym (is c)) (none_joined t u offer c (get m c) other (none c))
 
 -- the line of a channel that was made
 pub made_line : (m n : Lines) (c : ℕ) → n ≡ insert m c nobody → get n c ≡ Some nobody
@@ -89,16 +88,3 @@ others_none m n a c is other none =
 pub unmade_none : (m n : Lines) (c : ℕ) → n ≡ remove m c → get n c ≡ None
 unmade_none m n c is =
     ap (λ n. get n c) is ∙ get-remove nat_cmp_total m c c ∙ ap (λ b. cond b None (get m c)) (unsigned_tied c c ∙ (Decides-eqb c c).1 refl)
-
-still_none : (b r : Bool) → r ≡ false → (b && r) ≡ false
-still_none true r none = none
-still_none false r none = refl
-
-none_after : (t u : ℕ) (o : Option Line) → IfSome o (λ line. (list_any (nat_eq u) line.sends ≡ false) × (list_any (nat_eq u) line.receives ≡ false)) → IfSome (option_map (left t) o) (λ line. (list_any (nat_eq u) line.sends ≡ false) × (list_any (nat_eq u) line.receives ≡ false))
-none_after t u None none = none
-none_after t u (Some line) none = (any-without t u line.sends ∙ still_none _ _ none.0, any-without t u line.receives ∙ still_none _ _ none.1)
-
--- another thread withdrew
-pub HasNoOffer-withdrawn : (m n : Lines) (t u : ℕ) → ((c : ℕ) → get n c ≡ option_map (left t) (get m c)) → HasNoOffer m u → HasNoOffer n u
-HasNoOffer-withdrawn m n t u is none c =
-    subst (λ o. IfSome o (λ line. (list_any (nat_eq u) line.sends ≡ false) × (list_any (nat_eq u) line.receives ≡ false))) (sym (is c)) (none_after t u (get m c) (none c))

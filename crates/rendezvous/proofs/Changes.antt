@@ -1,63 +1,34 @@
 -- The lines of all channels, at each change.
-use Rattle.std.proofs.Common.{◌≡◌, ℕ, Bool, true, false, cond, not, ◌&&◌, ◌||◌, nat_eq, List, [], ◌∷◌, ◌++◌, Option, Some, None, option_map, refl, sym, ap, ◌∙◌, subst, arith}
+use Rattle.std.proofs.Common.{◌≡◌, ℕ, Bool, true, false, cond, not, ◌&&◌, ◌||◌, nat_eq, List, [], ◌∷◌, ◌++◌, Option, Some, None, IsSome, option_map, refl, sym, ap, ◌∙◌, subst, arith}
 use Rattle.std.specs.List.{list_any}
 use Rattle.std.specs.Ordering.{nat_cmp}
 use Rattle.std.specs.Cmp.{nat_cmp_total, unsigned_tied, eq_by_cmp_equiv}
 use Rattle.std.specs.BTreeMap.{is_at}
 use Rattle.std.specs.FinMap.{get, insert, remove, from_entries, find, same_map, nat_cmp-IsAntisymmetric, get-from_entries, get-insert, get-remove}
 use Rattle.std.proofs.lemmas.Bool.Decides.{Decides-eqb, nat_tests}
-use Rattle.std.proofs.lemmas.Map.Views.{any-filter_same}
 use Rattle.std.proofs.lemmas.List.Folds.{list_any-append}
 use Rattle.rendezvous.specs.declared.offer.Side.TheVariants as side
 use Rattle.rendezvous.specs.declared.offer.Offer.{Offer}
 use Rattle.rendezvous.specs.Offer.{sends_on, receives_on}
-use Rattle.rendezvous.specs.Line.{Line, Lines, nobody, without, joined, left, HasNoOffer}
-use Rattle.rendezvous.specs.Layout.{found, at_channel, joined_at, left_at, left_by, Absent, LineBacked}
+use Rattle.stab_base.specs.Found.{found}
+use Rattle.stab_base.specs.Queue.{without}
+use Rattle.stab_base.proofs.Leaving.{neither, without-absent, is_queued-without, gone}
+use Rattle.rendezvous.specs.Line.{Line, Lines, nobody, joined, left, HasNoOffer, Absent}
+use Rattle.rendezvous.specs.Layout.{at_channel, joined_at, left_at, left_by, offered, LineBacked}
 
 -- ---- lists without t
 
-pub absent_head : (b rest : Bool) → (b || rest) ≡ false → (b ≡ false) × (rest ≡ false)
-absent_head true rest e = cc
-absent_head false rest e = (refl, e)
-
-pub without-absent : (t : ℕ) (ts : List ℕ) → list_any (nat_eq t) ts ≡ false → without t ts ≡ ts
-without-absent t [] out = refl
-without-absent t (u ∷ ts) out =
-    let parts : (nat_eq t u ≡ false) × (list_any (nat_eq t) ts ≡ false) = absent_head (nat_eq t u) (list_any (nat_eq t) ts) out in
-    ap (λ b. cond (not b) (u ∷ without t ts) (without t ts)) parts.0 ∙ ap (λ q. u ∷ q) (without-absent t ts parts.1)
-
-not_itself : (t : ℕ) (b : Bool) → (not (nat_eq t t) && b) ≡ false
-not_itself t b = grind (arith, nat_tests)
-
-alike : (t u k : ℕ) → nat_eq u k ≡ true → not (nat_eq t k) ≡ not (nat_eq t u)
-alike t u k same = grind (arith, nat_tests)
-
-pub any-without : (t u : ℕ) (ts : List ℕ) → list_any (nat_eq u) (without t ts) ≡ (not (nat_eq t u) && list_any (nat_eq u) ts)
-any-without t u ts = any-filter_same (nat_eq u) (λ k. not (nat_eq t k)) (not (nat_eq t u)) (λ k same. alike t u k same) ts
-
--- t itself is gone
-pub gone : (t : ℕ) (ts : List ℕ) → list_any (nat_eq t) (without t ts) ≡ false
-gone t ts = any-without t t ts ∙ not_itself t _
-
-and_false : (a b : Bool) → b ≡ false → (a && b) ≡ false
-and_false true b e = e
-and_false false b e = refl
-
--- who wasn't there isn't there then
-pub still_absent : (t u : ℕ) (ts : List ℕ) → list_any (nat_eq u) ts ≡ false → list_any (nat_eq u) (without t ts) ≡ false
-still_absent t u ts out = any-without t u ts ∙ and_false (not (nat_eq t u)) _ out
-
-pub without_twice : (t : ℕ) (ts : List ℕ) → without t (without t ts) ≡ without t ts
+without_twice : (t : ℕ) (ts : List ℕ) → without t (without t ts) ≡ without t ts
 without_twice t ts = without-absent t (without t ts) (gone t ts)
 
 pub itself : (t : ℕ) → nat_eq t t ≡ true
 itself t = (Decides-eqb t t).1 refl
 
 -- t came last and leaves
-pub came_and_left : (t : ℕ) (ts : List ℕ) → list_any (nat_eq t) ts ≡ false → without t (ts ++ t ∷ []) ≡ ts
+came_and_left : (t : ℕ) (ts : List ℕ) → list_any (nat_eq t) ts ≡ false → without t (ts ++ t ∷ []) ≡ ts
 came_and_left t [] out = ap (λ b. cond (not b) (t ∷ []) []) (itself t)
 came_and_left t (u ∷ ts) out =
-    let parts : (nat_eq t u ≡ false) × (list_any (nat_eq t) ts ≡ false) = absent_head (nat_eq t u) (list_any (nat_eq t) ts) out in
+    let parts : (nat_eq t u ≡ false) × (list_any (nat_eq t) ts ≡ false) = neither (nat_eq t u) (list_any (nat_eq t) ts) out in
     ap (λ b. cond (not b) (u ∷ without t (ts ++ t ∷ [])) (without t (ts ++ t ∷ []))) parts.0 ∙ ap (λ q. u ∷ q) (came_and_left t ts parts.1)
 
 -- ---- the map that entries make
@@ -119,12 +90,12 @@ left_both t c false false (Some l) = refl
 -- t leaves all where it leaves what it offers
 pub left_is : (c t : ℕ) (offer : Offer) (o : Option Line) → LineBacked c t (Some offer) o → option_map (left_by t offer c) o ≡ option_map (left t) o
 left_is c t offer None backed = refl
-left_is c t offer (Some l) backed = ap Some (same_line (cut (sends_on c offer) t l.sends backed.0) (cut (receives_on c offer) t l.receives backed.1))
+left_is c t offer (Some l) backed = ap Some (same_line (cut (sends_on c offer) t l.sends (λ e. backed.0 ∙ e)) (cut (receives_on c offer) t l.receives (λ e. backed.1 ∙ e)))
 
 -- who offers nothing stands nowhere
 pub nothing_left : (c t : ℕ) (o : Option Line) → LineBacked c t None o → o ≡ option_map (left t) o
 nothing_left c t None backed = refl
-nothing_left c t (Some l) backed = ap Some (same_line (cut_none t l.sends (backed.0 refl)) (cut_none t l.receives (backed.1 refl)))
+nothing_left c t (Some l) backed = ap Some (same_line (cut_none t l.sends backed.0) (cut_none t l.receives backed.1))
 
 pub cases_eq : {P : Type 0} (a b : ℕ) → (a ≡ b → P) → (nat_eq a b ≡ false → P) → P
 cases_eq {P} a b same apart =
@@ -133,51 +104,87 @@ cases_eq {P} a b same apart =
       | false ↦ λ e. apart e
     ] refl
 
+none_offered : (b : Bool) (p : Offer → Bool) (x : Option Offer) → offered p x ≡ false → offered p (cond b None x) ≡ false
+none_offered true p x e = refl
+none_offered false p x e = e
+
+-- the others stay
+stays_in : (t u : ℕ) (ts : List ℕ) → nat_eq t u ≡ false → list_any (nat_eq u) (without t ts) ≡ list_any (nat_eq u) ts
+stays_in t u ts apart = is_queued-without t u ts ∙ ap (λ b. not b && list_any (nat_eq u) ts) apart
+
 -- t has left, and its offer is gone
 pub backed_left : (c t u : ℕ) (x : Option Offer) (o : Option Line) → LineBacked c u x o → LineBacked c u (cond (is_at (nat_cmp t) u) None x) (option_map (left t) o)
-backed_left c t u x None backed = tt
+backed_left c t u x None backed = (none_offered (is_at (nat_cmp t) u) (sends_on c) x backed.0, none_offered (is_at (nat_cmp t) u) (receives_on c) x backed.1)
 backed_left c t u x (Some l) backed =
     cases_eq t u
-    (λ same. subst (λ u. LineBacked c u (cond (is_at (nat_cmp t) u) None x) (Some (left t l))) same ((λ _. gone t l.sends), (λ _. gone t l.receives)))
-    (λ apart. subst (λ b. LineBacked c u (cond b None x) (Some (left t l))) (sym (unsigned_tied t u ∙ apart)) ((λ e. still_absent t u l.sends (backed.0 e)), (λ e. still_absent t u l.receives (backed.1 e))))
+    (λ same. subst (λ u. LineBacked c u (cond (is_at (nat_cmp t) u) None x) (Some (left t l))) same
+    (subst (λ b. LineBacked c t (cond b None x) (Some (left t l))) (sym (unsigned_tied t t ∙ itself t)) (gone t l.sends, gone t l.receives)))
+    (λ apart. subst (λ b. LineBacked c u (cond b None x) (Some (left t l))) (sym (unsigned_tied t u ∙ apart))
+    (stays_in t u l.sends apart ∙ backed.0, stays_in t u l.receives apart ∙ backed.1))
 
-not_last : (u t : ℕ) (b : Bool) (ts : List ℕ) → nat_eq u t ≡ false → list_any (nat_eq u) ts ≡ false → list_any (nat_eq u) (ts ++ cond b (t ∷ []) []) ≡ false
-not_last u t true ts other none = list_any-append (nat_eq u) ts (t ∷ []) ∙ ap (λ b. b || (nat_eq u t || false)) none ∙ ap (λ b. b || false) other
-not_last u t false ts other none = list_any-append (nat_eq u) ts [] ∙ ap (λ b. b || false) none
+or_false : (b : Bool) → (b || false) ≡ b
+or_false true = refl
+or_false false = refl
 
-not_come : (t : ℕ) (b : Bool) (ts : List ℕ) → list_any (nat_eq t) ts ≡ false → b ≡ false → list_any (nat_eq t) (ts ++ cond b (t ∷ []) []) ≡ false
-not_come t true ts none e = cc
-not_come t false ts none e = list_any-append (nat_eq t) ts [] ∙ ap (λ b. b || false) none
+-- who comes is there
+comes : (t : ℕ) (b : Bool) (ts : List ℕ) → list_any (nat_eq t) ts ≡ false → list_any (nat_eq t) (ts ++ cond b (t ∷ []) []) ≡ b
+comes t true ts none = list_any-append (nat_eq t) ts (t ∷ []) ∙ ap (λ b. b || (nat_eq t t || false)) none ∙ ap (λ b. b || false) (itself t)
+comes t false ts none = list_any-append (nat_eq t) ts [] ∙ ap (λ b. b || false) none
+
+-- and so are the others
+still_there : (u t : ℕ) (b : Bool) (ts : List ℕ) → nat_eq u t ≡ false → list_any (nat_eq u) (ts ++ cond b (t ∷ []) []) ≡ list_any (nat_eq u) ts
+still_there u t true ts other = list_any-append (nat_eq u) ts (t ∷ []) ∙ ap (λ b. list_any (nat_eq u) ts || (b || false)) other ∙ or_false (list_any (nat_eq u) ts)
+still_there u t false ts other = list_any-append (nat_eq u) ts [] ∙ or_false (list_any (nat_eq u) ts)
 
 turned : (t u : ℕ) → nat_eq t u ≡ false → nat_eq u t ≡ false
 turned t u e = grind (arith, nat_tests)
 
+-- an offer is on no channel that isn't there
+on_none : (a b : Bool) → ((a || b) ≡ true → IsSome (let o : Option Line = None in o)) → (a ≡ false) × (b ≡ false)
+on_none true b there = let is = there refl in cc
+on_none false true there = let is = there refl in cc
+on_none false false there = (refl, refl)
+
 -- t has come with its offer
-pub backed_joined : (c t u : ℕ) (offer : Offer) (x : Option Offer) (o : Option Line) → Absent t o → LineBacked c u x o → LineBacked c u (cond (is_at (nat_cmp t) u) (Some offer) x) (option_map (joined t offer c) o)
-backed_joined c t u offer x None none backed = tt
-backed_joined c t u offer x (Some l) none backed =
+pub backed_joined : (c t u : ℕ) (offer : Offer) (x : Option Offer) (o : Option Line) → Absent t o → ((sends_on c offer || receives_on c offer) ≡ true → IsSome o) → LineBacked c u x o → LineBacked c u (cond (is_at (nat_cmp t) u) (Some offer) x) (option_map (joined t offer c) o)
+backed_joined c t u offer x None none there backed =
+    elim (is_at (nat_cmp t) u) as (λ b. LineBacked c u (cond b (Some offer) x) None) [
+      | true ↦ on_none (sends_on c offer) (receives_on c offer) there
+      | false ↦ backed
+    ]
+backed_joined c t u offer x (Some l) none there backed =
     cases_eq t u
     (λ same. subst (λ u. LineBacked c u (cond (is_at (nat_cmp t) u) (Some offer) x) (Some (joined t offer c l))) same
     (subst (λ b. LineBacked c t (cond b (Some offer) x) (Some (joined t offer c l))) (sym (unsigned_tied t t ∙ itself t))
-    ((λ e. not_come t (sends_on c offer) l.sends none.0 e), (λ e. not_come t (receives_on c offer) l.receives none.1 e))))
+    (comes t (sends_on c offer) l.sends none.0, comes t (receives_on c offer) l.receives none.1)))
     (λ apart. subst (λ b. LineBacked c u (cond b (Some offer) x) (Some (joined t offer c l))) (sym (unsigned_tied t u ∙ apart))
-    ((λ e. not_last u t (sends_on c offer) l.sends (turned t u apart) (backed.0 e)), (λ e. not_last u t (receives_on c offer) l.receives (turned t u apart) (backed.1 e))))
+    (still_there u t (sends_on c offer) l.sends (turned t u apart) ∙ backed.0, still_there u t (receives_on c offer) l.receives (turned t u apart) ∙ backed.1))
+
+backed_none : (c t : ℕ) (o : Option Line) → Absent t o → LineBacked c t None o
+backed_none c t None none = (refl, refl)
+backed_none c t (Some l) none = none
 
 -- t, which stands nowhere, offers nothing any more
 pub backed_undone : (c t u : ℕ) (offer : Offer) (x : Option Offer) (o : Option Line) → Absent t o → LineBacked c u x o → LineBacked c u (cond (is_at (nat_cmp t) u) None (cond (is_at (nat_cmp t) u) (Some offer) x)) o
-backed_undone c t u offer x None none backed = tt
-backed_undone c t u offer x (Some l) none backed =
+backed_undone c t u offer x o none backed =
     cases_eq t u
-    (λ same. subst (λ u. LineBacked c u (cond (is_at (nat_cmp t) u) None (cond (is_at (nat_cmp t) u) (Some offer) x)) (Some l)) same ((λ _. none.0), (λ _. none.1)))
-    (λ apart. subst (λ b. LineBacked c u (cond b None (cond b (Some offer) x)) (Some l)) (sym (unsigned_tied t u ∙ apart)) backed)
+    (λ same. subst (λ u. LineBacked c u (cond (is_at (nat_cmp t) u) None (cond (is_at (nat_cmp t) u) (Some offer) x)) o) same
+    (subst (λ b. LineBacked c t (cond b None (cond b (Some offer) x)) o) (sym (unsigned_tied t t ∙ itself t)) (backed_none c t o none)))
+    (λ apart. subst (λ b. LineBacked c u (cond b None (cond b (Some offer) x)) o) (sym (unsigned_tied t u ∙ apart)) backed)
 
-pub backed_made : (c t : ℕ) (b : Bool) (x : Option Offer) (o : Option Line) → LineBacked c t x o → LineBacked c t x (cond b (Some nobody) o)
-backed_made c t true x o backed = ((λ _. refl), (λ _. refl))
-backed_made c t false x o backed = backed
+-- a channel comes on which nobody waits
+pub backed_made : (c t : ℕ) (b : Bool) (x : Option Offer) (o : Option Line) → (b ≡ true → o ≡ None) → LineBacked c t x o → LineBacked c t x (cond b (Some nobody) o)
+backed_made c t true x o was backed = let none : LineBacked c t x None = subst (LineBacked c t x) (was refl) backed in (sym none.0, sym none.1)
+backed_made c t false x o was backed = backed
 
-pub backed_unmade : (c t : ℕ) (b : Bool) (x : Option Offer) (o : Option Line) → LineBacked c t x o → LineBacked c t x (cond b None o)
-backed_unmade c t true x o backed = tt
-backed_unmade c t false x o backed = backed
+-- a channel goes on which nobody waits
+pub backed_unmade : (c t : ℕ) (b : Bool) (x : Option Offer) (o : Option Line) → (b ≡ true → o ≡ Some nobody) → LineBacked c t x o → LineBacked c t x (cond b None o)
+backed_unmade c t true x o was backed = let empty : LineBacked c t x (Some nobody) = subst (LineBacked c t x) (was refl) backed in (sym empty.0, sym empty.1)
+backed_unmade c t false x o was backed = backed
+
+-- what the entries have at a channel, by what callers see
+pub at_entry : (es : List (ℕ × Line)) (m : Lines) (c d : ℕ) (o : Option Line) → from_entries {R = nat_cmp} es ≡ m → get m c ≡ o → is_at (nat_cmp c) d ≡ true → found es d ≡ o
+at_entry es m c d o is at same = ap (found es) (sym ((Decides-eqb c d).0 (sym (unsigned_tied c d) ∙ same))) ∙ sym (get_found es c) ∙ ap (λ m. get m c) is ∙ at
 
 -- ---- what a caller sees
 

@@ -1,5 +1,5 @@
 -- Who waits on a channel.
-use Rattle.std.specs.Prelude.{◌≡◌, ℕ, ◌||◌, true, false, not, nat_eq, List, [], ◌∷◌, ◌++◌, filter, IfSome, IsSome, refl, if◌then◌else◌}
+use Rattle.std.specs.Prelude.{◌≡◌, ℕ, ◌||◌, true, false, nat_eq, List, [], ◌∷◌, ◌++◌, Option, IfSome, IsSome, refl, if◌then◌else◌}
 use Rattle.std.specs.List.{list_any}
 use Rattle.std.specs.Ordering.{nat_cmp}
 use Rattle.std.specs.FinMap as map
@@ -9,12 +9,14 @@ use Rattle.rendezvous.specs.declared.offer.Side.{Side}
 use Rattle.rendezvous.specs.declared.offer.Side.TheVariants as side
 use Rattle.rendezvous.specs.declared.offer.Offer.{Offer}
 use Rattle.rendezvous.specs.Offer.{sends_on, receives_on}
+use Rattle.stab_base.specs.Queue.{without}
 
 -- the threads that wait on a channel to send and those that wait to receive, each the longest waiting first
 pub record Line : Type 0 where
   pub sends : List ℕ
   pub receives : List ℕ
 
+-- a line and the lines are stored as the tuples of their fields
 abbrev pub line_code : Coded Line
 line_code = code_by (List ℕ × List ℕ) (coded× (coded_list coded_ℕ) (coded_list coded_ℕ)) (λ l. (l.sends, l.receives)) (λ p. record { sends = p.0; receives = p.1 }) (λ _. refl)
 
@@ -34,10 +36,6 @@ abbrev pub waiting : Side → Line → List ℕ
 waiting side.Send line = line.sends
 waiting side.Recv line = line.receives
 
--- the threads without t
-abbrev pub without : ℕ → List ℕ → List ℕ
-without t threads = filter (λ u. not (nat_eq t u)) threads
-
 -- the line of the channel c once t waits there with its offer, where the offer is on c
 abbrev pub joined : ℕ → Offer → ℕ → Line → Line
 joined t offer c line = record { sends = line.sends ++ (if sends_on c offer then t ∷ [] else []); receives = line.receives ++ (if receives_on c offer then t ∷ [] else []) }
@@ -46,9 +44,13 @@ joined t offer c line = record { sends = line.sends ++ (if sends_on c offer then
 abbrev pub left : ℕ → Line → Line
 left t line = record { sends = without t line.sends; receives = without t line.receives }
 
+-- t isn't in the line, where there is one
+abbrev pub Absent : ℕ → Option Line → Type 0
+Absent t line = IfSome line (λ l. (list_any (nat_eq t) l.sends ≡ false) × (list_any (nat_eq t) l.receives ≡ false))
+
 -- t waits nowhere
 abbrev pub HasNoOffer : Lines → ℕ → Type 0
-HasNoOffer lines t = (c : ℕ) → IfSome (map.get lines c) (λ line. (list_any (nat_eq t) line.sends ≡ false) × (list_any (nat_eq t) line.receives ≡ false))
+HasNoOffer lines t = (c : ℕ) → Absent t (map.get lines c)
 
 -- each channel of the offer is there
 abbrev pub AreThere : Lines → Offer → Type 0

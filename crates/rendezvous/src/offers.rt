@@ -1,6 +1,7 @@
 //! The waiting offers of all channels.
 
-ghost use Rattle.std.specs.Prelude.{◌≡◌, IsSome, OnOk, OnErr, Some, None, ℕ, option_map, option_and_then, slice_get, true};
+ghost use Rattle.std.specs.Prelude.{◌≡◌, IsSome, IfSome, OnOk, OnErr, Some, None, ℕ, nat_eq, option_map, option_and_then, slice_get, true};
+ghost use Rattle.std.specs.List.{IsDistinct};
 ghost use Rattle.std.specs.FinMap as map;
 ghost use Rattle.rendezvous.specs.Offer.{opposite};
 ghost use Rattle.rendezvous.specs.Line.{nobody, waiting, joined, left, HasNoOffer, AreThere};
@@ -56,18 +57,20 @@ impl Offers {
         ensures ok { OnOk result (self.new ≡ map.insert self.old c.0 nobody) }
         ensures err { OnErr result (self.new ≡ self.old) }
     {
-        let line = Queues::new(self.alloc)?;
+        let line = Queues::new(self.alloc);
         if self.lines.insert(c.0, line).is_err() {
             return Err(NoMemory);
         }
         Ok(())
     }
 
-    /// The thread of the longest waiting offer that meets a thread which acts at this side.
+    /// The thread of the longest waiting offer that meets a thread which acts at this side. No thread
+    /// waits twice there.
     pub fn meet(&self, c: ChanId, side: Side) -> Option<ThreadId>
         requires { IsSome (map.get self.now c.0) }
-        ensures { option_map (λ t. t.0) result
+        ensures met { option_map (λ t. t.0) result
             ≡ option_and_then (λ line. slice_get (waiting (opposite side) line) 0) (map.get self.now c.0) }
+        ensures once { IfSome (map.get self.now c.0) (λ line. IsDistinct nat_eq (waiting (opposite side) line)) }
     {
         let thread = self.lines.get(&c.0)?.first(opposite_of(side))?;
         Some(ThreadId(thread))

@@ -1,50 +1,48 @@
 //! Threads in a line.
 
-ghost use Rattle.std.specs.Prelude.{◌≡◌, ℕ, [], ◌∷◌, ◌++◌, false, nat_eq, IfOk, OnOk, OnErr, slice_get};
-ghost use Rattle.std.specs.List.{list_any};
-ghost use Rattle.rendezvous.specs.Line.{without};
+ghost use Rattle.std.specs.Prelude.{◌≡◌, ℕ, [], ◌∷◌, ◌++◌, false, nat_eq, OnOk, OnErr, slice_get};
+ghost use Rattle.std.specs.List.{IsDistinct, list_any};
+ghost use Rattle.stab_base.specs.Queue.{without};
 
-use lru::LruCache;
-use stab_base::NoMemory;
+use stab_base::{NoMemory, ThreadId, ThreadQueue};
 use std::alloc::Global;
 use std::marker::Model;
 
-/// Threads in a line, the longest waiting first. No thread stands in it twice, and the cache puts none out.
+/// Threads in a line, the longest waiting first. No thread stands in it twice.
 #[derive(Drop)]
 pub(crate) struct Queue {
-    threads: LruCache<u32, ()>,
+    threads: ThreadQueue,
 }
 
 impl Model for Queue {
-    ghost use Rattle.std.specs.Prelude.{◌≡◌, ◌-◌, ◌^◌, ℕ, List, nat_eq};
-    ghost use Rattle.std.specs.List.{IsDistinct};
-    ghost use Rattle.std.specs.Map.{keys_of};
+    ghost use Rattle.std.specs.Prelude.{ℕ, List};
     ghost use Rattle.std.specs.Coded.{coded_list, coded_ℕ};
+    ghost use Rattle.rendezvous.specs.Layout.{EachWaits};
 
     ghost Value = { List ℕ };
 
     ghost coded = { coded_list coded_ℕ };
 
-    ghost view = { λ q. keys_of q.threads.entries };
+    ghost view = { λ q. q.threads.waiting };
 
-    ghost invariant = { λ q. IsDistinct nat_eq (keys_of q.threads.entries) × (q.threads.cap ≡ 2 ^ 64 - 1) };
+    ghost invariant = { λ q. EachWaits q.threads };
 }
 
 impl Queue {
-    pub(crate) fn new(alloc: Global) -> Result<Queue, NoMemory>
-        ensures { IfOk result (λ q. q ≡ []) }
+    pub(crate) fn new(alloc: Global) -> Queue
+        ensures { result ≡ [] }
     {
-        match LruCache::unbounded(alloc) {
-            Ok(threads) => Ok(Queue { threads }),
-            Err(_) => Err(NoMemory),
+        Queue {
+            threads: ThreadQueue::new(alloc),
         }
     }
 
     pub(crate) fn first(&self) -> Option<u32>
-        ensures { result ≡ slice_get self.now 0 }
+        ensures first { result ≡ slice_get self.now 0 }
+        ensures once { IsDistinct nat_eq self.now }
     {
-        match self.threads.peek_mru() {
-            Some((thread, _)) => Some(*thread),
+        match self.threads.first() {
+            Some(thread) => Some(thread.0),
             None => None,
         }
     }
@@ -55,18 +53,14 @@ impl Queue {
         ensures ok { OnOk result (self.new ≡ self.old ++ t ∷ []) }
         ensures err { OnErr result (self.new ≡ self.old) }
     {
-        // The cache is never full, so nobody is put out for the new one.
-        prove!(self.threads.len() < usize::MAX);
-        if self.threads.put(t, ()).is_err() {
-            return Err(NoMemory);
-        }
-        self.threads.demote(&t);
+        self.threads.open(ThreadId(t))?;
+        self.threads.join(ThreadId(t));
         Ok(())
     }
 
     pub(crate) fn remove(&mut self, t: u32)
         ensures { self.new ≡ without t self.old }
     {
-        let _there = self.threads.pop(&t);
+        self.threads.close(ThreadId(t));
     }
 }

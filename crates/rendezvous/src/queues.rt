@@ -1,7 +1,7 @@
 //! Who waits on one channel.
 
-ghost use Rattle.std.specs.Prelude.{◌≡◌, ℕ, false, nat_eq, IfOk, OnOk, OnErr, slice_get};
-ghost use Rattle.std.specs.List.{list_any};
+ghost use Rattle.std.specs.Prelude.{◌≡◌, ℕ, false, nat_eq, OnOk, OnErr, slice_get};
+ghost use Rattle.std.specs.List.{IsDistinct, list_any};
 ghost use Rattle.rendezvous.specs.Line.{nobody, waiting};
 ghost use Rattle.rendezvous.specs.Layout.{joined_at, left_at};
 
@@ -29,18 +29,19 @@ impl Model for Queues {
 }
 
 impl Queues {
-    pub(crate) fn new(alloc: Global) -> Result<Queues, NoMemory>
-        ensures { IfOk result (λ q. q ≡ nobody) }
+    pub(crate) fn new(alloc: Global) -> Queues
+        ensures { result ≡ nobody }
     {
-        Ok(Queues {
-            sends: Queue::new(alloc)?,
-            receives: Queue::new(alloc)?,
-        })
+        Queues {
+            sends: Queue::new(alloc),
+            receives: Queue::new(alloc),
+        }
     }
 
     /// The longest waiting thread.
     pub(crate) fn first(&self, side: Side) -> Option<u32>
-        ensures { result ≡ slice_get (waiting side self.now) 0 }
+        ensures first { result ≡ slice_get (waiting side self.now) 0 }
+        ensures once { IsDistinct nat_eq (waiting side self.now) }
     {
         match side {
             Side::Send => self.sends.first(),

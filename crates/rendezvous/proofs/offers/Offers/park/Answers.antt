@@ -1,11 +1,12 @@
-use Rattle.std.proofs.Common.{cond, None, option_map, sym, ap, ◌∙◌, subst}
+use Rattle.std.proofs.Common.{cond, None, IsSome, option_map, sym, ap, ◌∙◌, subst}
 use Rattle.std.specs.Ordering.{nat_cmp}
 use Rattle.std.specs.BTreeMap.{is_at}
 use Rattle.std.specs.FinMap as map
 use Rattle.rendezvous.specs.Line.{joined}
-use Rattle.rendezvous.specs.Layout.{found, Backed}
+use Rattle.rendezvous.specs.Layout.{Backed}
+use Rattle.stab_base.specs.Found.{found}
 use Rattle.rendezvous.proofs.Changes.{get_found, same_lines, absent_at, backed_by, backed_joined, backed_undone}
-use Rattle.rendezvous.proofs.InLine.{on_ok, on_err}
+use Rattle.stab_base.proofs.Outcomes.{on_ok, on_err}
 use Rattle.rendezvous.proofs.offers.Offers.park.Goals as goal
 
 pub invariant_of-self : goal.invariant_of-self
@@ -38,7 +39,9 @@ invariant_of-self-else-is_err-2 c d u =
     let entered = on_ok c.enter_all.result _ (sym c.is_err-2.ensures.value ∙ c.if-is_err-2.false) c.enter_all.ensures.ok in
     backed_by d u (inserted.0 u) (entered d)
     (backed_joined d t u c.args.offer (found c.self.inside.offers.entries u) (found c.self.inside.lines.entries d)
-    (absent_at c.self.inside.lines.entries c.args.self.now t c.self.view_is c.requires.none d) (c.self.invariant d u))
+    (absent_at c.self.inside.lines.entries c.args.self.now t c.self.view_is c.requires.none d)
+    (λ on. subst (λ o. IsSome o) (sym (ap (λ m. map.get m d) c.self.view_is) ∙ get_found c.self.inside.lines.entries d) (c.requires.there d on))
+    (c.self.invariant d u))
 
 pub returns-clause-ok : goal.returns-clause-ok
 returns-clause-ok c d =
