@@ -1,16 +1,16 @@
 -- What holds of all slots stays true at each change.
 use Rattle.std.proofs.Common.{◌≡◌, ℕ, Bool, true, false, cond, nat_eq, List, [], ◌∷◌, ◌++◌, Option, Some, None, IsSome, refl, sym, ap, ◌∙◌, subst, arith}
 use Rattle.std.specs.Option.{option_map_or}
-use Rattle.std.specs.Ordering.{nat_cmp, eq_by_cmp}
-use Rattle.std.specs.Cmp.{nat_cmp_total, unsigned_tied}
+use Rattle.std.specs.Ordering.{nat_cmp}
+use Rattle.std.specs.Cmp.{nat_cmp_total}
 use Rattle.std.specs.FinMap.{FinMap, get, insert, remove, get-insert, get-remove}
 use Rattle.std.proofs.lemmas.Bool.Decides.{nat_tests}
-use Rattle.thread_slots.specs.Queue.{is_queued, without, IsQueueOf}
+use Rattle.stab_base.specs.Queue.{is_queued, without}
+use Rattle.thread_slots.specs.Ready.{IsQueueOf}
 use Rattle.thread_slots.specs.Slot.{Slot, is_ready, is_ready_at, changed, put_changed}
-use Rattle.thread_slots.proofs.Queues.{IsQueueOf-requeued, IsQueueOf-without, gone, without-absent}
-
-pub flipped : (t u : ℕ) → eq_by_cmp nat_cmp u t ≡ nat_eq t u
-flipped t u = unsigned_tied u t ∙ grind (arith, nat_tests)
+use Rattle.thread_slots.proofs.Numbers.{flipped}
+use Rattle.stab_base.proofs.Leaving.{without-absent}
+use Rattle.thread_slots.proofs.Queues.{IsQueueOf-requeued, IsQueueOf-without, unless}
 
 same_ready : (t u : ℕ) (b r r' : Bool) → r' ≡ cond (nat_eq t u) b r → (t ≡ u → r ≡ b) → r' ≡ r
 same_ready t u b r r' is same = grind (arith, nat_tests)
@@ -20,20 +20,20 @@ module _ {C : Type 0} where
   chosen true x y = refl
   chosen false x y = refl
 
-  pub is_ready_at-insert : (threads : FinMap nat_cmp (Slot C)) (t u : ℕ) (slot : Slot C) → is_ready_at (insert threads t slot) u ≡ cond (nat_eq t u) (is_ready slot.state) (is_ready_at threads u)
+  is_ready_at-insert : (threads : FinMap nat_cmp (Slot C)) (t u : ℕ) (slot : Slot C) → is_ready_at (insert threads t slot) u ≡ cond (nat_eq t u) (is_ready slot.state) (is_ready_at threads u)
   is_ready_at-insert threads t u slot =
       ap (λ o. option_map_or (λ slot. is_ready slot.state) o false) (get-insert nat_cmp_total threads t slot u ∙ ap (λ b. cond b (Some slot) (get threads u)) (flipped t u)) ∙ chosen (nat_eq t u) (Some slot) (get threads u)
 
-  pub is_ready_at-remove : (threads : FinMap nat_cmp (Slot C)) (t u : ℕ) → is_ready_at (remove threads t) u ≡ cond (nat_eq t u) false (is_ready_at threads u)
+  is_ready_at-remove : (threads : FinMap nat_cmp (Slot C)) (t u : ℕ) → is_ready_at (remove threads t) u ≡ cond (nat_eq t u) false (is_ready_at threads u)
   is_ready_at-remove threads t u =
       ap (λ o. option_map_or (λ slot. is_ready slot.state) o false) (get-remove nat_cmp_total threads t u ∙ ap (λ b. cond b None (get threads u)) (flipped t u)) ∙ chosen (nat_eq t u) None (get threads u)
 
   -- the thread's slot is another, and it leaves its place
-  pub IsQueueOf-insert : (threads : FinMap nat_cmp (Slot C)) (queue : List ℕ) (t : ℕ) (slot : Slot C) → IsQueueOf (is_ready_at threads) queue → IsQueueOf (is_ready_at (insert threads t slot)) (without t queue ++ cond (is_ready slot.state) (t ∷ []) [])
+  IsQueueOf-insert : (threads : FinMap nat_cmp (Slot C)) (queue : List ℕ) (t : ℕ) (slot : Slot C) → IsQueueOf (is_ready_at threads) queue → IsQueueOf (is_ready_at (insert threads t slot)) (without t queue ++ cond (is_ready slot.state) (t ∷ []) [])
   IsQueueOf-insert threads queue t slot is = IsQueueOf-requeued _ t (is_ready slot.state) queue (λ u. is_ready_at-insert threads t u slot) is
 
   pub IsQueueOf-remove : (threads : FinMap nat_cmp (Slot C)) (queue : List ℕ) (t : ℕ) → IsQueueOf (is_ready_at threads) queue → IsQueueOf (is_ready_at (remove threads t)) (without t queue)
-  IsQueueOf-remove threads queue t is = IsQueueOf-without _ t queue (λ u. gone t u _ _ (is_ready_at-remove threads t u)) is
+  IsQueueOf-remove threads queue t is = IsQueueOf-without _ t queue (λ u. unless t u _ _ (is_ready_at-remove threads t u)) is
 
   -- the slot of a live thread is changed, and it leaves its place
   pub IsQueueOf-changed : (threads : FinMap nat_cmp (Slot C)) (queue : List ℕ) (t : ℕ) (f : Slot C → Slot C) (b : Bool) → IsSome (get threads t) → ((slot : Slot C) → is_ready (f slot).state ≡ b) → IsQueueOf (is_ready_at threads) queue → IsQueueOf (is_ready_at (changed threads t f)) (without t queue ++ cond b (t ∷ []) [])
@@ -55,7 +55,7 @@ module _ {C : Type 0} where
   IsQueueOf-same threads queue t f gives is = IsQueueOf-put threads queue t f (get threads t) refl gives is
 
   -- a number that isn't live doesn't stand in the queue
-  pub not_queued-fresh : (threads : FinMap nat_cmp (Slot C)) (queue : List ℕ) (t : ℕ) → get threads t ≡ None → IsQueueOf (is_ready_at threads) queue → is_queued t queue ≡ false
+  not_queued-fresh : (threads : FinMap nat_cmp (Slot C)) (queue : List ℕ) (t : ℕ) → get threads t ≡ None → IsQueueOf (is_ready_at threads) queue → is_queued t queue ≡ false
   not_queued-fresh threads queue t out is = is.ready t ∙ ap (λ o. option_map_or (λ slot. is_ready slot.state) o false) out
 
   -- a new thread comes to the tail where it is ready

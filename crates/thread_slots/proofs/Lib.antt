@@ -1,8 +1,6 @@
+pub mod Numbers
+pub mod Places
 pub mod Queues
-pub mod Numbered
-pub mod Rings
-pub mod Links
 pub mod Kept
-pub mod Entries
-pub mod Layouts
 pub mod CallerLemmas
+pub mod Layouts

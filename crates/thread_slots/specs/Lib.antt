@@ -1,5 +1,3 @@
-pub mod Queue
-pub mod Ring
-pub mod Line
+pub mod Ready
 pub mod Slot
 pub mod Layout

@@ -7,7 +7,7 @@ use Rattle.std.specs.FinMap.{FinMap}
 use Rattle.std.specs.Coded.{Coded, code_by, coded×, coded_ℕ, coded_list}
 use Rattle.thread_slots.specs.declared.state.State.{State}
 use Rattle.thread_slots.specs.declared.state.State.TheVariants.{Ready, Leased, Parked, Ended}
-use Rattle.thread_slots.specs.Queue.{IsQueueOf}
+use Rattle.thread_slots.specs.Ready.{IsQueueOf}
 
 -- a live thread: what it runs, how often it was put back, and what it is doing
 pub record Slot (C : Type 0) : Type 0 where

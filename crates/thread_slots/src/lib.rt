@@ -1,8 +1,6 @@
 //! The threads of a run with what each of them is, and the queue of those that are ready.
 #![tactic(auto)]
 
-mod queue;
-mod ring;
 mod slots;
 mod state;
 #[cfg(test)]

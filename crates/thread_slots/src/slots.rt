@@ -1,17 +1,18 @@
 //! Threads by number, and the queue of those that are ready.
 
-ghost use Rattle.std.specs.Prelude.{◌≡◌, ◌+◌, ◌≤◌, ◌<◌, false, [], ◌∷◌, ◌++◌, length, IsOk, IsSome, IsSomeAnd, OnOk, option_map, slice_get, if◌then◌else◌};
+ghost use Rattle.std.specs.Prelude.{◌≡◌, ℕ, ◌+◌, ◌≤◌, ◌<◌, true, false, [], ◌∷◌, ◌++◌, IsOk, IsSome, IsSomeAnd, OnOk, OnErr, is_some, option_map, slice_get, if◌then◌else◌};
 ghost use Rattle.std.specs.Option.{option_copied};
-ghost use Rattle.std.specs.Vec.{vec_capacity};
 ghost use Rattle.std.specs.FinMap as map;
-ghost use Rattle.thread_slots.specs.Queue.{is_queued, without};
+ghost use Rattle.std.specs.FinSet as set;
+ghost use Rattle.stab_base.specs.Queue.{is_queued, without};
 ghost use Rattle.thread_slots.specs.Slot.{is_ready, started, restored, changed, IsSound};
-ghost use Rattle.thread_slots.specs.Layout.{by_number, places, slot_of};
+ghost use Rattle.stab_base.specs.Found.{found};
+ghost use Rattle.thread_slots.specs.Layout.{live, slot_of};
 
-use crate::queue::{END, Queue};
 use crate::state::State;
-use stab_base::{Generation, NoMemory, ThreadId};
+use stab_base::{Generation, NoMemory, ThreadId, ThreadQueue};
 use std::alloc::Global;
+use std::collections::BTreeMap;
 use std::marker::Model;
 
 #[derive(Drop)]
@@ -21,39 +22,38 @@ struct Entry<C> {
     state: State,
 }
 
+// The places of threads by number. A place is empty until its thread comes.
+type Entries<C> = BTreeMap<u32, Option<Entry<C>>>;
+
 /// The live threads of a run, each with a control of the type `C`, and the queue of the ready ones.
+/// Each call takes time that grows at most with the logarithm of the number of threads.
 #[derive(Drop)]
 pub struct Slots<C> {
-    /// The thread n at the place n - 1. A removed thread leaves its place empty.
-    entries: Vec<Option<Entry<C>>>,
-    /// The ready threads, the longest ready first, with a place for each number given.
-    queue: Queue,
-    /// How many threads more fit without memory.
-    room: usize,
+    /// By number. The next number has an empty place where there is room for it.
+    entries: Entries<C>,
+    /// The ready threads, the longest ready first, with a place for each number that has one above.
+    queue: ThreadQueue,
+    /// The number that the next thread gets.
+    next: u32,
 }
 
 impl<C> Model for Slots<C> {
-    ghost use Rattle.std.specs.Prelude.{◌≡◌, ◌+◌, length};
-    ghost use Rattle.std.specs.Vec.{vec_capacity};
     ghost use Rattle.thread_slots.specs.Slot.{Seen, seen_code};
     ghost use Rattle.thread_slots.specs.contracts.state.State as state_row;
-    ghost use Rattle.thread_slots.specs.Layout.{by_number, places, IsLaidOut};
+    ghost use Rattle.thread_slots.specs.Layout.{live, room_at, IsLaidOut};
 
     ghost Value = { Seen C };
 
     ghost coded = { seen_code C.code state_row.the_row.coded };
 
     ghost view = { λ s. record {
-      threads = by_number (places s.entries.items);
+      threads = live s.entries.entries;
       queue = s.queue.waiting;
-      next = length s.entries.items + 1;
-      room = s.room;
+      next = s.next;
+      room = room_at s.entries.entries s.next;
     } };
 
-    ghost invariant = { λ s.
-        IsLaidOut (by_number (places s.entries.items)) s.queue.waiting
-        (length s.entries.items) s.room (vec_capacity s.entries) s.queue.capacity
-        × (s.queue.places ≡ length s.entries.items) };
+    ghost invariant = { λ s. IsLaidOut s.entries.entries s.queue s.next };
 }
 
 impl<C: Drop> Slots<C> {
@@ -65,29 +65,32 @@ impl<C: Drop> Slots<C> {
         ensures sound { IsSound result }
     {
         Slots {
-            entries: Vec::new(alloc),
-            queue: Queue::new(alloc),
-            room: 0,
+            entries: BTreeMap::new(alloc),
+            queue: ThreadQueue::new(alloc),
+            next: 1,
         }
     }
 
-    /// Makes room for one thread more.
+    /// Makes room for one thread more. Without memory all stays as it was.
     pub fn reserve(&mut self) -> Result<(), NoMemory>
         ensures room { OnOk result (1 ≤ self.new.room) }
         ensures enough { 1 ≤ self.old.room → IsOk result }
+        ensures err { OnErr result (self.new ≡ self.old) }
         ensures more { self.old.room ≤ self.new.room }
         ensures threads { self.new.threads ≡ self.old.threads }
         ensures queue { self.new.queue ≡ self.old.queue }
         ensures next { self.new.next ≡ self.old.next }
     {
-        if self.room > 0 {
+        if self.entries.contains_key(&self.next) {
             return Ok(());
         }
-        if self.entries.reserve(1).is_err() {
+        if self.entries.insert(self.next, None).is_err() {
             return Err(NoMemory);
         }
-        self.queue.reserve()?;
-        self.room = 1;
+        if self.queue.open(ThreadId(self.next)).is_err() {
+            let _place = self.entries.remove(&self.next);
+            return Err(NoMemory);
+        }
         Ok(())
     }
 
@@ -104,8 +107,7 @@ impl<C: Drop> Slots<C> {
         ensures room { self.new.room + 1 ≡ self.old.room }
         ensures sound { IsSound self.new }
     {
-        let t = open_place(&mut self.entries, &mut self.queue);
-        self.room -= 1;
+        let t = ThreadId(self.next);
         let state = first_state(ended);
         let generation = Generation(0);
         fill(
@@ -118,6 +120,7 @@ impl<C: Drop> Slots<C> {
             },
         );
         enter(&mut self.queue, t, state);
+        self.next += 1;
         t
     }
 
@@ -129,7 +132,8 @@ impl<C: Drop> Slots<C> {
         self.queue.first()
     }
 
-    /// Gives a thread another state. It leaves the queue, and comes to the tail of it where the state is Ready.
+    /// Gives a thread another state. It leaves the queue, and comes to the tail of it where the state
+    /// is Ready.
     pub fn set_state(&mut self, t: ThreadId, state: State)
         requires { IsSome (map.get self.old.threads t.0) }
         ensures threads { self.new.threads
@@ -166,7 +170,7 @@ impl<C: Drop> Slots<C> {
         ensures room { self.new.room ≡ self.old.room }
         ensures sound { IsSound self.new }
     {
-        rejoin(&mut self.queue, t);
+        requeue(&mut self.queue, t, State::Ready);
         put_back(&mut self.entries, t, control);
     }
 
@@ -179,8 +183,8 @@ impl<C: Drop> Slots<C> {
         ensures room { self.new.room ≡ self.old.room }
         ensures sound { IsSound self.new }
     {
-        self.queue.leave(t);
-        clear(&mut self.entries, t);
+        self.queue.close(t);
+        let _entry = self.entries.remove(&t.0);
     }
 
     /// What a thread runs, where it is there.
@@ -210,96 +214,71 @@ impl<C: Drop> Slots<C> {
     }
 }
 
-// Gives the next number, under which no thread is yet.
-fn open_place<C: Drop>(entries: &mut Vec<Option<Entry<C>>>, queue: &mut Queue) -> ThreadId
-    requires room { length entries.old.items < vec_capacity entries.old }
-    requires queue_room { queue.old.places < queue.old.capacity }
-    requires places { queue.old.places ≡ length entries.old.items }
-    requires numbers { length entries.old.items + 1 ≤ 4294967294 }
-    ensures number { result.0 ≡ length entries.old.items + 1 }
-    ensures threads { by_number (places entries.new.items) ≡ by_number (places entries.old.items) }
-    ensures length { length entries.new.items ≡ length entries.old.items + 1 }
-    ensures capacity { vec_capacity entries.new ≡ vec_capacity entries.old }
-    ensures waiting { queue.new.waiting ≡ queue.old.waiting }
-    ensures places { queue.new.places ≡ queue.old.places + 1 }
-    ensures queue_capacity { queue.new.capacity ≡ queue.old.capacity }
-{
-    let t = ThreadId(entries.len() as u32 + 1);
-    entries.push_reserved(None);
-    queue.open(t);
-    t
-}
-
 // Puts a new thread into its place.
-fn fill<C: Drop>(entries: &mut Vec<Option<Entry<C>>>, t: ThreadId, entry: Entry<C>)
-    requires { (1 ≤ t.0) × (t.0 ≤ length entries.old.items) }
-    ensures threads { by_number (places entries.new.items)
-        ≡ map.insert (by_number (places entries.old.items)) t.0 (slot_of entry) }
-    ensures length { length entries.new.items ≡ length entries.old.items }
-    ensures capacity { vec_capacity entries.new ≡ vec_capacity entries.old }
+fn fill<C: Drop>(entries: &mut Entries<C>, t: ThreadId, entry: Entry<C>)
+    requires { IsSome (found entries.old.entries t.0) }
+    ensures threads { live entries.new.entries
+        ≡ map.insert (live entries.old.entries) t.0 (slot_of entry) }
+    ensures places { (u : ℕ) →
+        is_some (found entries.new.entries u) ≡ is_some (found entries.old.entries u) }
 {
-    entries[place(t)] = Some(entry);
+    if let Some(place) = entries.get_mut(&t.0) {
+        *place = Some(entry);
+    }
 }
 
 // What is kept of a thread, where it is live.
-fn entry_of<C>(entries: &Vec<Option<Entry<C>>>, t: ThreadId) -> Option<&Entry<C>>
-    ensures { option_map slot_of (option_copied result)
-        ≡ map.get (by_number (places entries.now.items)) t.0 }
+fn entry_of<C>(entries: &Entries<C>, t: ThreadId) -> Option<&Entry<C>>
+    ensures { option_map slot_of (option_copied result) ≡ map.get (live entries.now.entries) t.0 }
 {
-    if t.0 == 0 || t.0 as usize > entries.len() {
-        return None;
-    }
-    entries[place(t)].as_ref()
+    entries.get(&t.0)?.as_ref()
 }
 
-fn write_state<C>(entries: &mut Vec<Option<Entry<C>>>, t: ThreadId, state: State)
-    requires { IsSome (map.get (by_number (places entries.old.items)) t.0) }
-    ensures threads { by_number (places entries.new.items)
-        ≡ changed (by_number (places entries.old.items)) t.0 (λ slot. record slot { state = state }) }
-    ensures length { length entries.new.items ≡ length entries.old.items }
-    ensures capacity { vec_capacity entries.new ≡ vec_capacity entries.old }
+fn write_state<C>(entries: &mut Entries<C>, t: ThreadId, state: State)
+    ensures threads { live entries.new.entries
+        ≡ changed (live entries.old.entries) t.0 (λ slot. record slot { state = state }) }
+    ensures places { (u : ℕ) →
+        is_some (found entries.new.entries u) ≡ is_some (found entries.old.entries u) }
 {
-    if let Some(entry) = &mut entries[place(t)] {
+    let Some(place) = entries.get_mut(&t.0) else {
+        return;
+    };
+    if let Some(entry) = place {
         entry.state = state;
     }
 }
 
-fn write_control<C: Drop>(entries: &mut Vec<Option<Entry<C>>>, t: ThreadId, control: C)
-    requires { IsSome (map.get (by_number (places entries.old.items)) t.0) }
-    ensures threads { by_number (places entries.new.items)
-        ≡ changed (by_number (places entries.old.items)) t.0 (λ slot. record slot { control = control }) }
-    ensures length { length entries.new.items ≡ length entries.old.items }
-    ensures capacity { vec_capacity entries.new ≡ vec_capacity entries.old }
+fn write_control<C: Drop>(entries: &mut Entries<C>, t: ThreadId, control: C)
+    ensures threads { live entries.new.entries
+        ≡ changed (live entries.old.entries) t.0 (λ slot. record slot { control = control }) }
+    ensures places { (u : ℕ) →
+        is_some (found entries.new.entries u) ≡ is_some (found entries.old.entries u) }
 {
-    if let Some(entry) = &mut entries[place(t)] {
+    let Some(place) = entries.get_mut(&t.0) else {
+        return;
+    };
+    if let Some(entry) = place {
         entry.control = control;
     }
 }
 
 // The thread is Ready with this earlier control and of the next generation.
-fn put_back<C: Drop>(entries: &mut Vec<Option<Entry<C>>>, t: ThreadId, earlier: C)
-    requires { IsSomeAnd (map.get (by_number (places entries.old.items)) t.0)
+fn put_back<C: Drop>(entries: &mut Entries<C>, t: ThreadId, earlier: C)
+    requires { IsSomeAnd (map.get (live entries.old.entries) t.0)
         (λ slot. slot.generation < u64.MAX) }
-    ensures threads { by_number (places entries.new.items)
-        ≡ changed (by_number (places entries.old.items)) t.0 (restored earlier) }
-    ensures length { length entries.new.items ≡ length entries.old.items }
-    ensures capacity { vec_capacity entries.new ≡ vec_capacity entries.old }
+    ensures threads { live entries.new.entries
+        ≡ changed (live entries.old.entries) t.0 (restored earlier) }
+    ensures places { (u : ℕ) →
+        is_some (found entries.new.entries u) ≡ is_some (found entries.old.entries u) }
 {
-    if let Some(entry) = &mut entries[place(t)] {
+    let Some(place) = entries.get_mut(&t.0) else {
+        return;
+    };
+    if let Some(entry) = place {
         entry.control = earlier;
         entry.generation = Generation(entry.generation.0 + 1);
         entry.state = State::Ready;
     }
-}
-
-fn clear<C: Drop>(entries: &mut Vec<Option<Entry<C>>>, t: ThreadId)
-    requires { IsSome (map.get (by_number (places entries.old.items)) t.0) }
-    ensures threads { by_number (places entries.new.items)
-        ≡ map.remove (by_number (places entries.old.items)) t.0 }
-    ensures length { length entries.new.items ≡ length entries.old.items }
-    ensures capacity { vec_capacity entries.new ≡ vec_capacity entries.old }
-{
-    entries[place(t)] = None;
 }
 
 fn first_state(ended: bool) -> State
@@ -308,47 +287,26 @@ fn first_state(ended: bool) -> State
     if ended { State::Ended } else { State::Ready }
 }
 
-// Where a thread stands among the entries.
-fn place(t: ThreadId) -> usize
-    requires { 1 ≤ t.0 }
-    ensures { result + 1 ≡ t.0 }
-{
-    t.0 as usize - 1
-}
-
 // Puts a thread that doesn't wait at the tail, where it is ready.
-fn enter(queue: &mut Queue, t: ThreadId, state: State)
-    requires place { (1 ≤ t.0) × (t.0 ≤ queue.old.places) }
+fn enter(queue: &mut ThreadQueue, t: ThreadId, state: State)
+    requires place { set.contains queue.old.places t.0 ≡ true }
     requires apart { is_queued t.0 queue.old.waiting ≡ false }
     ensures waiting { queue.new.waiting
         ≡ queue.old.waiting ++ (if is_ready state then t.0 ∷ [] else []) }
     ensures places { queue.new.places ≡ queue.old.places }
-    ensures capacity { queue.new.capacity ≡ queue.old.capacity }
 {
     if state == State::Ready {
-        queue.insert(t, END)
+        queue.join(t)
     }
 }
 
-// Takes a thread out of its place, and puts it at the tail where it is ready.
-fn requeue(queue: &mut Queue, t: ThreadId, state: State)
-    requires { (1 ≤ t.0) × (t.0 ≤ queue.old.places) }
+// Takes a thread out of the queue, and puts it at the tail where it is ready.
+fn requeue(queue: &mut ThreadQueue, t: ThreadId, state: State)
+    requires { set.contains queue.old.places t.0 ≡ true }
     ensures waiting { queue.new.waiting
         ≡ without t.0 queue.old.waiting ++ (if is_ready state then t.0 ∷ [] else []) }
     ensures places { queue.new.places ≡ queue.old.places }
-    ensures capacity { queue.new.capacity ≡ queue.old.capacity }
 {
     queue.leave(t);
     enter(queue, t, state);
-}
-
-// Takes a thread from where it is to the tail.
-fn rejoin(queue: &mut Queue, t: ThreadId)
-    requires { (1 ≤ t.0) × (t.0 ≤ queue.old.places) }
-    ensures waiting { queue.new.waiting ≡ without t.0 queue.old.waiting ++ t.0 ∷ [] }
-    ensures places { queue.new.places ≡ queue.old.places }
-    ensures capacity { queue.new.capacity ≡ queue.old.capacity }
-{
-    queue.leave(t);
-    queue.insert(t, END);
 }

@@ -1,7 +1,7 @@
 use Rattle.std.proofs.Common.{ap, ◌∙◌}
-use Rattle.thread_slots.specs.Queue.{is_queued}
-use Rattle.thread_slots.proofs.Queues.{not_queued-without}
+use Rattle.stab_base.specs.Queue.{is_queued}
+use Rattle.stab_base.proofs.Leaving.{gone}
 use Rattle.thread_slots.proofs.slots.requeue.Goals as goal
 
 pub enter-requires-clause-apart : goal.enter-requires-clause-apart
-enter-requires-clause-apart c = ap (is_queued c.args.t.0) c.leave.ensures.waiting ∙ not_queued-without c.args.t.0 c.args.queue.now.waiting
+enter-requires-clause-apart c = ap (is_queued c.args.t.0) c.leave.ensures.waiting ∙ gone c.args.t.0 c.args.queue.now.waiting

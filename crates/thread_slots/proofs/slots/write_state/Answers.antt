@@ -1,19 +1,18 @@
-use Rattle.std.proofs.Common.{◌<◌, length, arith, refl, sym, ◌∙◌}
-use Rattle.thread_slots.proofs.Entries.{number_of_live, changed-write, no_entry}
+use Rattle.std.proofs.Common.{Some, is_some, refl, sym, ap, ◌∙◌}
+use Rattle.thread_slots.specs.Layout.{live, seen_at}
+use Rattle.thread_slots.proofs.Places.{live-absent, live-changed, live-same, written_same}
 use Rattle.thread_slots.proofs.slots.write_state.Goals as goal
-
-pub place-requires : goal.place-requires
-place-requires g c = (number_of_live c.args.entries.now.items c.args.t.0 c.requires).0
-
-pub index_mut-requires : goal.index_mut-requires
-index_mut-requires g c = omega (arith, c.args.entries.now.ok.0, (number_of_live c.args.entries.now.items c.args.t.0 c.requires).1)
-
-pub returns-in-Some-clause-threads : goal.returns-in-Some-clause-threads
-returns-in-Some-clause-threads g c =
-    let low : c.place.result < length c.args.entries.now.items = omega (arith, (number_of_live c.args.entries.now.items c.args.t.0 c.requires).1) in
-    changed-write c.args.entries.now.items c.args.t.0 c.place.result _ c.in-Some.entry _ c.index_mut.result.now (omega arith) low (sym c.index_mut.ensures.value ∙ c.in-Some.is) refl
 
 pub returns-in_default-clause-threads : goal.returns-in_default-clause-threads
 returns-in_default-clause-threads g c =
-    let low : c.place.result < length c.args.entries.now.items = omega (arith, (number_of_live c.args.entries.now.items c.args.t.0 c.requires).1) in
-    no_entry c.args.entries.now.items c.args.t.0 c.place.result c.index_mut.result.now (omega arith) low c.requires (sym c.index_mut.ensures.value ∙ c.in_default.is)
+    live-absent c.args.entries.now.entries _ c.args.t.0 _ (ap seen_at (sym c.in_default.ensures.value)) (ap (λ m. live m.entries) c.get_mut.follows.holds-at-none)
+
+pub returns-in-Some-place-clause-threads : goal.returns-in-Some-place-clause-threads
+returns-in-Some-place-clause-threads g c =
+    live-changed c.args.entries.now.entries _ c.args.t.0 _ c.in-Some-place.entry _ (ap Some (sym c.in-Some-place.is) ∙ c.in-Some.ensures.value)
+    ((c.get_mut.follows.holds _).3 (ap is_some (sym c.in-Some.ensures.value))).0 refl
+
+pub returns-in_default-place-clause-threads : goal.returns-in_default-place-clause-threads
+returns-in_default-place-clause-threads g c =
+    live-absent c.args.entries.now.entries _ c.args.t.0 _ (ap seen_at (sym c.in-Some.ensures.value ∙ ap Some c.in_default-place.is))
+    (live-same c.args.entries.now.entries _ (λ u. ap seen_at (written_same c.args.entries.now.entries _ c.args.t.0 _ ((c.get_mut.follows.holds _).3 (ap is_some (sym c.in-Some.ensures.value))).0 c.in-Some.ensures.value u)))
