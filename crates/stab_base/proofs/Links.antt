@@ -15,7 +15,7 @@ use Rattle.stab_base.specs.Found.{found}
 use Rattle.stab_base.specs.Ring.{same, alone, link_at, after, before, waiting, IsPath, IsRing, IsPlace, IsClosed}
 use Rattle.stab_base.proofs.Leaving.{IsDistinct-nil}
 use Rattle.stab_base.proofs.Outcomes.{nothing}
-use Rattle.stab_base.proofs.Rings.{twice, cases_eq, walk-path}
+use Rattle.stab_base.proofs.Rings.{twice, alike, unlike, cases_eq, walk-path}
 
 -- ---- the places that there are
 
@@ -124,14 +124,19 @@ place_before end links p l is closed place = subst (λ (l : Link). IsPlace links
 pub place_after : (end : Link) (links : List (ℕ × Link)) (p : Option ℕ) (l : Link) → l ≡ link_at end links p → IsClosed links (after end links) → IsPlace links p → IsPlace links l.after
 place_after end links p l is closed place = subst (λ (l : Link). IsPlace links l.after) (sym is) (closed p place)
 
-or_else : {P : Type 0} (b : Bool) → b ≡ false → b ≡ true → P
-or_else b none there = cc
+somewhere : (t : ℕ) (o : Option Link) → ((option_map_or (λ l. l) o (alone (Some t))).before ≡ Some t → ⊥) → IsSome o
+somewhere t None other = absurd (other refl)
+somewhere t (Some l) other = refl
+
+-- a thread that doesn't stand before itself has a link
+pub linked : (end : Link) (links : List (ℕ × Link)) (t : ℕ) (l : Link) → l ≡ link_at end links (Some t) → same l.before (Some t) ≡ false → IsSome (found links t)
+linked end links t l is off = somewhere t (found links t) (λ e. unlike (same l.before (Some t)) (alike l.before (Some t) (ap (λ l. l.before) is ∙ e)) off)
 
 -- who has no place doesn't wait
 pub not_queued : (end : Link) (links : List (ℕ × Link)) (t : ℕ) → IsRing (after end links) (before end links) (waiting end links) → IsClosed links (after end links) → is_some (found links t) ≡ false → is_queued t (waiting end links) ≡ false
 not_queued end links t ring closed none =
     elim (is_queued t (waiting end links)) as (λ b. is_queued t (waiting end links) ≡ b → b ≡ false) [
-      | true ↦ λ e. or_else (is_some (found links t)) none (path_place links (after end links) None (waiting end links) t closed tt ring.path e)
+      | true ↦ λ e. unlike (is_some (found links t)) (path_place links (after end links) None (waiting end links) t closed tt ring.path e) none
       | false ↦ λ _. refl
     ] refl
 

@@ -15,16 +15,16 @@ itself : (p : Option ℕ) → same p p ≡ true
 itself None = refl
 itself (Some t) = (Decides-eqb t t).1 refl
 
-alike : (p q : Option ℕ) → p ≡ q → same p q ≡ true
+pub alike : (p q : Option ℕ) → p ≡ q → same p q ≡ true
 alike p q e = subst (λ q. same p q ≡ true) e (itself p)
 
-is_same : (p q : Option ℕ) → same p q ≡ true → p ≡ q
+pub is_same : (p q : Option ℕ) → same p q ≡ true → p ≡ q
 is_same None None e = refl
 is_same None (Some u) e = cc
 is_same (Some t) None e = cc
 is_same (Some t) (Some u) e = ap Some ((Decides-eqb t u).0 e)
 
-unlike : {P : Type 0} (b : Bool) → b ≡ true → b ≡ false → P
+pub unlike : {P : Type 0} (b : Bool) → b ≡ true → b ≡ false → P
 unlike b is off = cc
 
 pub cases_eq : {P : Type 0} (p q : Option ℕ) → (p ≡ q → P) → (p ≢ q → P) → P
@@ -143,6 +143,22 @@ module _ (f g : Option ℕ → Option ℕ) where
 path-same : (f f' : Option ℕ → Option ℕ) (s : Option ℕ) (queue : List ℕ) → ((x : Option ℕ) → f' x ≡ f x) → IsPath f s queue → IsPath f' s queue
 path-same f f' s [] is path = is s ∙ path
 path-same f f' s (t ∷ queue) is path = (is s ∙ path.0, path-same f f' (Some t) queue is path.1)
+
+stays : (f : Option ℕ → Option ℕ) (u : ℕ) (queue : List ℕ) → f (Some u) ≡ Some u → AllByRecursion (λ k. nat_eq u k ≡ false) queue → IsPath f (Some u) queue → ⊥
+stays f u [] itself all path = not_end u (sym path ∙ itself)
+stays f u (w ∷ queue) itself all path = unlike (nat_eq u w) (alike (Some u) (Some w) (sym itself ∙ path.0)) all.0
+
+-- no path leads over a thread that leads to itself
+off_path : (f : Option ℕ → Option ℕ) (s : Option ℕ) (queue : List ℕ) (t : ℕ) → f (Some t) ≡ Some t → IsDistinct nat_eq queue → IsPath f s queue → is_queued t queue ≡ false
+off_path f s [] t itself once path = refl
+off_path f s (u ∷ queue) t itself once path =
+    cases_eq (Some t) (Some u)
+    (λ one. absurd (stays f u queue (sym (ap f one) ∙ itself ∙ one) (IsDistinct-head nat_eq u queue once) path.1))
+    (λ other. ap (λ b. b || is_queued t queue) (apart (Some t) (Some u) other) ∙ off_path f (Some u) queue t itself (IsDistinct-tail nat_eq u queue once) path.1)
+
+-- who stands before himself doesn't wait
+pub not_queued-alone : (f g : Option ℕ → Option ℕ) (queue : List ℕ) (t : ℕ) → IsRing f g queue → g (Some t) ≡ Some t → is_queued t queue ≡ false
+not_queued-alone f g queue t ring itself = off_path f None queue t (sym (ap f itself) ∙ ring.back (Some t)) ring.once ring.path
 
 -- ---- rings
 

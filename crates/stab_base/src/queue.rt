@@ -60,7 +60,7 @@ impl ThreadQueue {
         ensures place { IfSome result (λ t. set.contains self.now.places t.0 ≡ true) }
         ensures sound { IsSound self.now }
     {
-        match self.ring.link(None).after {
+        match self.ring.end.after {
             Some(first) => Some(ThreadId(first)),
             None => None,
         }
@@ -84,10 +84,13 @@ impl ThreadQueue {
         ensures waiting { self.new.waiting ≡ self.old.waiting ++ t.0 ∷ [] }
         ensures places { self.new.places ≡ self.old.places }
     {
-        let last = self.ring.link(None).before;
-        self.ring.set_after(Some(t.0), None);
+        let last = self.ring.end.before;
+        let link = Link {
+            before: last,
+            after: None,
+        };
+        self.ring.write(t.0, link);
         self.ring.set_after(last, Some(t.0));
-        self.ring.set_before(Some(t.0), last);
         self.ring.set_before(None, Some(t.0));
     }
 
@@ -96,14 +99,14 @@ impl ThreadQueue {
         ensures waiting { self.new.waiting ≡ without t.0 self.old.waiting }
         ensures places { self.new.places ≡ self.old.places }
     {
-        if !self.ring.links.contains_key(&t.0) {
+        let Link { before, after } = self.ring.link(Some(t.0));
+        // Who doesn't wait stands before itself, and so does who has no place.
+        if before == Some(t.0) {
             return;
         }
-        let Link { before, after } = self.ring.link(Some(t.0));
         self.ring.set_after(before, after);
-        self.ring.set_after(Some(t.0), Some(t.0));
         self.ring.set_before(after, before);
-        self.ring.set_before(Some(t.0), Some(t.0));
+        self.ring.write(t.0, alone(Some(t.0)));
     }
 
     /// Takes a thread out, where it waits, and its place away, where it has one.

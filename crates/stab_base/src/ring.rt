@@ -1,6 +1,6 @@
 //! The links of a queue: which thread stands before each one, and which after it.
 
-ghost use Rattle.std.specs.Prelude.{◌≡◌, ℕ, Option, IsSome, is_some, if◌then◌else◌};
+ghost use Rattle.std.specs.Prelude.{◌≡◌, ℕ, Option, Some, IsSome, is_some, if◌then◌else◌};
 ghost use Rattle.stab_base.specs.Found.{found};
 ghost use Rattle.stab_base.specs.Ring.{same, alone as link_alone, link_at, after as ring_after, before as ring_before, IsPlace};
 
@@ -78,6 +78,20 @@ impl Ring {
         };
         if let Some(link) = self.links.get_mut(&t) {
             link.before = last;
+        }
+    }
+
+    /// Gives a thread that has a place another link.
+    pub(crate) fn write(&mut self, t: u32, link: Link)
+        requires { IsSome (found self.old.links.entries t) }
+        ensures after { (p : Option ℕ) → ring_after self.new.end self.new.links.entries p
+            ≡ (if same p (Some t) then link.after else ring_after self.old.end self.old.links.entries p) }
+        ensures before { (p : Option ℕ) → ring_before self.new.end self.new.links.entries p
+            ≡ (if same p (Some t) then link.before else ring_before self.old.end self.old.links.entries p) }
+        ensures places { (u : ℕ) → is_some (found self.new.links.entries u) ≡ is_some (found self.old.links.entries u) }
+    {
+        if let Some(place) = self.links.get_mut(&t) {
+            *place = link;
         }
     }
 }
