@@ -11,7 +11,8 @@ use std::alloc::Global;
 use std::collections::BTreeMap;
 use std::marker::Model;
 
-/// What each actor of a step that may be undone had before it.
+/// What each actor of a step that may be undone had before it. Each call takes time that grows at
+/// most with the logarithm of how much is saved, but for what it drops.
 #[derive(Drop)]
 pub struct Store<C> {
     saved: BTreeMap<(Seq, ThreadId), C>,

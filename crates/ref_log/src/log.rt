@@ -12,7 +12,8 @@ use std::collections::{BTreeMap, BTreeSet};
 use std::marker::Model;
 
 /// The writes of references, each under the number of its event: those above the last cut, and of
-/// each reference the last one below it.
+/// each reference the last one below it. Each call takes time that grows at most with the logarithm
+/// of the number of writes, but for what a cut drops.
 #[derive(Drop)]
 pub struct RefLog {
     alloc: Global,

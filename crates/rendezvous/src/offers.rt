@@ -14,7 +14,8 @@ use std::alloc::Global;
 use std::collections::BTreeMap;
 use std::marker::Model;
 
-/// The channels that are there, and who waits on each.
+/// The channels that are there, and who waits on each. Each call takes time that grows at most with
+/// the logarithm of the numbers of channels and of waiting threads.
 #[derive(Drop)]
 pub struct Offers {
     /// For the lines of new channels.
