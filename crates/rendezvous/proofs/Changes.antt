@@ -10,9 +10,9 @@ use Rattle.std.proofs.lemmas.List.Folds.{list_any-append}
 use Rattle.rendezvous.specs.declared.offer.Side.TheVariants as side
 use Rattle.rendezvous.specs.declared.offer.Offer.{Offer}
 use Rattle.rendezvous.specs.Offer.{sends_on, receives_on}
-use Rattle.stab_base.specs.Found.{found}
-use Rattle.stab_base.specs.Queue.{without}
-use Rattle.stab_base.proofs.Leaving.{neither, without-absent, is_queued-without, gone}
+use Rattle.thread_queue.specs.Found.{found}
+use Rattle.thread_queue.specs.Queue.{without}
+use Rattle.thread_queue.proofs.Leaving.{neither, without-absent, is_queued-without, gone}
 use Rattle.rendezvous.specs.Line.{Line, Lines, nobody, joined, left, HasNoOffer, Absent}
 use Rattle.rendezvous.specs.Layout.{at_channel, joined_at, left_at, left_by, offered, LineBacked}
 

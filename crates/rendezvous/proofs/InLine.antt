@@ -5,9 +5,9 @@ use Rattle.std.specs.Cmp.{nat_cmp_total, unsigned_tied, eq_by_cmp_equiv}
 use Rattle.std.specs.FinSet as set
 use Rattle.std.specs.FinSet.{FinSet, contains-empty, contains-insert, contains-remove}
 use Rattle.std.proofs.lemmas.List.Folds.{list_any-append}
-use Rattle.stab_base.specs.Queue.{Queue, is_queued, without}
+use Rattle.thread_queue.specs.Queue.{Queue, is_queued, without}
 use Rattle.rendezvous.specs.Layout.{EachWaits}
-use Rattle.stab_base.proofs.Leaving.{is_queued-without}
+use Rattle.thread_queue.proofs.Leaving.{is_queued-without}
 use Rattle.rendezvous.proofs.Changes.{itself}
 
 -- who was given a place has it

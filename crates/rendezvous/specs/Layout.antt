@@ -7,8 +7,8 @@ use Rattle.rendezvous.specs.declared.offer.Side.TheVariants as side
 use Rattle.rendezvous.specs.declared.offer.Offer.{Offer}
 use Rattle.rendezvous.specs.Offer.{sends_on, receives_on}
 use Rattle.rendezvous.specs.Line.{Line}
-use Rattle.stab_base.specs.Queue.{Queue, is_queued, without}
-use Rattle.stab_base.specs.Found.{found}
+use Rattle.thread_queue.specs.Queue.{Queue, is_queued, without}
+use Rattle.thread_queue.specs.Found.{found}
 
 -- each thread that has a place in the queue waits
 abbrev pub EachWaits : Queue → Type 0

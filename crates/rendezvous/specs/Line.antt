@@ -9,7 +9,7 @@ use Rattle.rendezvous.specs.declared.offer.Side.{Side}
 use Rattle.rendezvous.specs.declared.offer.Side.TheVariants as side
 use Rattle.rendezvous.specs.declared.offer.Offer.{Offer}
 use Rattle.rendezvous.specs.Offer.{sends_on, receives_on}
-use Rattle.stab_base.specs.Queue.{without}
+use Rattle.thread_queue.specs.Queue.{without}
 
 -- the threads that wait on a channel to send and those that wait to receive, each the longest waiting first
 pub record Line : Type 0 where

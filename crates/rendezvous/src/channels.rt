@@ -5,7 +5,7 @@ ghost use Rattle.std.specs.List.{list_any};
 ghost use Rattle.rendezvous.specs.Line.{Line, waiting, joined, Absent};
 ghost use Rattle.rendezvous.specs.declared.offer.Offer.TheVariants as offer;
 ghost use Rattle.rendezvous.specs.Layout.{at_channel, joined_at, left_at, left_by};
-ghost use Rattle.stab_base.specs.Found.{found};
+ghost use Rattle.thread_queue.specs.Found.{found};
 
 use crate::offer::{Offer, Side};
 use crate::queues::Queues;

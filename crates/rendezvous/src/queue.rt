@@ -2,11 +2,12 @@
 
 ghost use Rattle.std.specs.Prelude.{◌≡◌, ℕ, [], ◌∷◌, ◌++◌, false, nat_eq, OnOk, OnErr, slice_get};
 ghost use Rattle.std.specs.List.{IsDistinct, list_any};
-ghost use Rattle.stab_base.specs.Queue.{without};
+ghost use Rattle.thread_queue.specs.Queue.{without};
 
-use stab_base::{NoMemory, ThreadId, ThreadQueue};
+use stab_base::{NoMemory, ThreadId};
 use std::alloc::Global;
 use std::marker::Model;
+use thread_queue::ThreadQueue;
 
 /// Threads in a line, the longest waiting first. No thread stands in it twice.
 #[derive(Drop)]

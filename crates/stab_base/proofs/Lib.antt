@@ -1,6 +1,2 @@
 pub mod GainLemmas
-pub mod Leaving
-pub mod Links
-pub mod Outcomes
-pub mod Rings
 pub mod TextLemmas

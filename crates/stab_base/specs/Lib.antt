@@ -1,10 +1,7 @@
 pub mod Datum
 pub mod DatumCode
 pub mod FaultName
-pub mod Found
 pub mod Gain
 pub mod Limits
 pub mod PairFault
 pub mod Printed
-pub mod Queue
-pub mod Ring

@@ -4,10 +4,6 @@
 mod fault;
 mod numbers;
 mod print;
-mod queue;
-#[cfg(test)]
-mod queue_tests;
-mod ring;
 mod shape;
 #[cfg(test)]
 mod tests;
@@ -16,7 +12,6 @@ mod value;
 
 pub use fault::Fault;
 pub use numbers::{ChanId, FnId, Generation, NoMemory, RefId, Seq, TextId, ThreadId};
-pub use queue::ThreadQueue;
 pub use shape::{MAX_DEPTH, MAX_LEAVES, Shape};
 pub use texts::Texts;
 pub use value::{PairFault, Value};

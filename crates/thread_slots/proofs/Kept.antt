@@ -5,11 +5,11 @@ use Rattle.std.specs.Ordering.{nat_cmp}
 use Rattle.std.specs.Cmp.{nat_cmp_total}
 use Rattle.std.specs.FinMap.{FinMap, get, insert, remove, get-insert, get-remove}
 use Rattle.std.proofs.lemmas.Bool.Decides.{nat_tests}
-use Rattle.stab_base.specs.Queue.{is_queued, without}
+use Rattle.thread_queue.specs.Queue.{is_queued, without}
 use Rattle.thread_slots.specs.Ready.{IsQueueOf}
 use Rattle.thread_slots.specs.Slot.{Slot, is_ready, is_ready_at, changed, put_changed}
 use Rattle.thread_slots.proofs.Numbers.{flipped}
-use Rattle.stab_base.proofs.Leaving.{without-absent}
+use Rattle.thread_queue.proofs.Leaving.{without-absent}
 use Rattle.thread_slots.proofs.Queues.{IsQueueOf-requeued, IsQueueOf-without, unless}
 
 same_ready : (t u : ℕ) (b r r' : Bool) → r' ≡ cond (nat_eq t u) b r → (t ≡ u → r ≡ b) → r' ≡ r

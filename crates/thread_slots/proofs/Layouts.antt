@@ -7,12 +7,12 @@ use Rattle.std.specs.BTreeMap.{is_at}
 use Rattle.std.specs.FinMap.{FinMap, get, insert, remove, get-empty, get-insert, get-remove}
 use Rattle.std.specs.FinSet as set
 use Rattle.thread_slots.specs.declared.slots.Entry.{Entry}
-use Rattle.stab_base.specs.Queue.{Queue, without}
+use Rattle.thread_queue.specs.Queue.{Queue, without}
 use Rattle.thread_slots.specs.Ready.{IsQueueOf}
 use Rattle.thread_slots.specs.Slot.{Slot, Seen, is_ready, is_ready_at, changed, IsSound}
-use Rattle.stab_base.specs.Found.{found}
+use Rattle.thread_queue.specs.Found.{found}
 use Rattle.thread_slots.specs.Layout.{seen_at, live, room_at, IsLaidOut}
-use Rattle.stab_base.proofs.Leaving.{IsDistinct-nil}
+use Rattle.thread_queue.proofs.Leaving.{IsDistinct-nil}
 use Rattle.thread_slots.proofs.Numbers.{cases_eq, apart, alike, flipped, same_number}
 use Rattle.thread_slots.proofs.Places.{IsWritten, live-removed, live-same, live-opened, has_place, not_live}
 use Rattle.thread_slots.proofs.Kept.{IsQueueOf-changed, IsQueueOf-same, IsQueueOf-remove, IsQueueOf-add}

@@ -6,7 +6,7 @@ use Rattle.std.specs.BTreeMap.{is_at}
 use Rattle.std.specs.FinMap.{FinMap, get, insert, remove, same_map, nat_cmp-IsAntisymmetric, get-empty, get-insert, get-remove}
 use Rattle.thread_slots.specs.declared.slots.Entry.{Entry}
 use Rattle.thread_slots.specs.Slot.{Slot, changed, put_changed}
-use Rattle.stab_base.specs.Found.{found}
+use Rattle.thread_queue.specs.Found.{found}
 use Rattle.thread_slots.specs.Layout.{slot_of, seen_at, with_place, live}
 use Rattle.thread_slots.proofs.Numbers.{same_number}
 

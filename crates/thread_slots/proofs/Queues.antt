@@ -5,8 +5,8 @@ use Rattle.std.proofs.lemmas.Bool.Decides.{nat_tests}
 use Rattle.std.proofs.lemmas.List.{append-nil}
 use Rattle.std.proofs.lemmas.List.Folds.{list_any-append}
 use Rattle.std.proofs.lemmas.Map.Keys.{IsDistinct-push}
-use Rattle.stab_base.specs.Queue.{without}
-use Rattle.stab_base.proofs.Leaving.{not_itself, is_queued-without, IsDistinct-filter}
+use Rattle.thread_queue.specs.Queue.{without}
+use Rattle.thread_queue.proofs.Leaving.{not_itself, is_queued-without, IsDistinct-filter}
 use Rattle.thread_slots.specs.Ready.{IsQueueOf}
 
 -- t leaves the queue

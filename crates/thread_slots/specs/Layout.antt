@@ -5,8 +5,8 @@ use Rattle.std.specs.FinMap as map
 use Rattle.std.specs.FinMap.{FinMap}
 use Rattle.std.specs.FinSet as set
 use Rattle.thread_slots.specs.declared.slots.Entry.{Entry}
-use Rattle.stab_base.specs.Found.{found}
-use Rattle.stab_base.specs.Queue.{Queue}
+use Rattle.thread_queue.specs.Found.{found}
+use Rattle.thread_queue.specs.Queue.{Queue}
 use Rattle.thread_slots.specs.Ready.{IsQueueOf}
 use Rattle.thread_slots.specs.Slot.{Slot, is_ready_at}
 

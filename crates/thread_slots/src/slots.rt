@@ -4,16 +4,17 @@ ghost use Rattle.std.specs.Prelude.{◌≡◌, ℕ, ◌+◌, ◌≤◌, ◌<◌,
 ghost use Rattle.std.specs.Option.{option_copied};
 ghost use Rattle.std.specs.FinMap as map;
 ghost use Rattle.std.specs.FinSet as set;
-ghost use Rattle.stab_base.specs.Queue.{is_queued, without};
+ghost use Rattle.thread_queue.specs.Queue.{is_queued, without};
 ghost use Rattle.thread_slots.specs.Slot.{is_ready, started, restored, changed, IsSound};
-ghost use Rattle.stab_base.specs.Found.{found};
+ghost use Rattle.thread_queue.specs.Found.{found};
 ghost use Rattle.thread_slots.specs.Layout.{live, slot_of};
 
 use crate::state::State;
-use stab_base::{Generation, NoMemory, ThreadId, ThreadQueue};
+use stab_base::{Generation, NoMemory, ThreadId};
 use std::alloc::Global;
 use std::collections::BTreeMap;
 use std::marker::Model;
+use thread_queue::ThreadQueue;
 
 #[derive(Drop)]
 struct Entry<C> {

@@ -1,9 +1,9 @@
 use Rattle.std.proofs.Common.{sym, ap, ◌∙◌}
 use Rattle.rendezvous.specs.declared.offer.Side.TheVariants as side
 use Rattle.rendezvous.specs.Layout.{at_channel, left_at}
-use Rattle.stab_base.specs.Found.{found}
+use Rattle.thread_queue.specs.Found.{found}
 use Rattle.rendezvous.proofs.Changes.{undone}
-use Rattle.stab_base.proofs.Outcomes.{on_err}
+use Rattle.thread_queue.proofs.Outcomes.{on_err}
 use Rattle.rendezvous.proofs.channels.enter_both.Goals as goal
 
 pub returns-then-is_err-clause-err : goal.returns-then-is_err-clause-err

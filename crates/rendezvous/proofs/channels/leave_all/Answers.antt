@@ -1,7 +1,7 @@
 use Rattle.std.proofs.Common.{nat_eq, option_map, sym, ap, ◌∙◌}
 use Rattle.rendezvous.specs.declared.offer.Side.TheVariants as side
 use Rattle.rendezvous.specs.Layout.{at_channel, left_at, left_by}
-use Rattle.stab_base.specs.Found.{found}
+use Rattle.thread_queue.specs.Found.{found}
 use Rattle.rendezvous.proofs.Changes.{left_both}
 use Rattle.rendezvous.proofs.channels.leave_all.Goals as goal
 

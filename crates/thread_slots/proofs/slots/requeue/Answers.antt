@@ -1,6 +1,6 @@
 use Rattle.std.proofs.Common.{ap, ◌∙◌}
-use Rattle.stab_base.specs.Queue.{is_queued}
-use Rattle.stab_base.proofs.Leaving.{gone}
+use Rattle.thread_queue.specs.Queue.{is_queued}
+use Rattle.thread_queue.proofs.Leaving.{gone}
 use Rattle.thread_slots.proofs.slots.requeue.Goals as goal
 
 pub enter-requires-clause-apart : goal.enter-requires-clause-apart

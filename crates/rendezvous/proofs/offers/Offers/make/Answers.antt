@@ -4,9 +4,9 @@ use Rattle.std.specs.BTreeMap.{is_at}
 use Rattle.std.specs.FinMap as map
 use Rattle.rendezvous.specs.Line.{nobody}
 use Rattle.rendezvous.specs.Layout.{Backed, LineBacked}
-use Rattle.stab_base.specs.Found.{found}
+use Rattle.thread_queue.specs.Found.{found}
 use Rattle.rendezvous.proofs.Changes.{backed_made, made_line, at_entry}
-use Rattle.stab_base.proofs.Outcomes.{on_ok, on_err}
+use Rattle.thread_queue.proofs.Outcomes.{on_ok, on_err}
 use Rattle.rendezvous.proofs.offers.Offers.make.Goals as goal
 
 pub invariant_of-self : goal.invariant_of-self

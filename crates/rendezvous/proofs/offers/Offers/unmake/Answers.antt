@@ -4,7 +4,7 @@ use Rattle.std.specs.BTreeMap.{is_at}
 use Rattle.std.specs.FinMap as map
 use Rattle.rendezvous.specs.Line.{nobody}
 use Rattle.rendezvous.specs.Layout.{LineBacked}
-use Rattle.stab_base.specs.Found.{found}
+use Rattle.thread_queue.specs.Found.{found}
 use Rattle.rendezvous.proofs.Changes.{unmade_line, backed_unmade, at_entry}
 use Rattle.rendezvous.proofs.offers.Offers.unmake.Goals as goal
 

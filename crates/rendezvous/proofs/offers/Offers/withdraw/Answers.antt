@@ -2,7 +2,7 @@ use Rattle.std.proofs.Common.{◌≡◌, ℕ, Some, option_map, sym, ap, ◌∙�
 use Rattle.std.specs.FinMap as map
 use Rattle.rendezvous.specs.Line.{left}
 use Rattle.rendezvous.specs.Layout.{LineBacked}
-use Rattle.stab_base.specs.Found.{found}
+use Rattle.thread_queue.specs.Found.{found}
 use Rattle.rendezvous.proofs.Changes.{get_found, left_is, nothing_left, backed_left, backed_by, left_as_it_was, HasNoOffer-left}
 use Rattle.rendezvous.proofs.offers.Offers.withdraw.Goals as goal
 

@@ -1,7 +1,7 @@
 use Rattle.std.proofs.Common.{◌≡◌, ℕ, cond, Some, None, is_some, sym, ap, ◌∙◌}
-use Rattle.stab_base.specs.Found.{found}
+use Rattle.thread_queue.specs.Found.{found}
 use Rattle.thread_slots.specs.Layout.{seen_at}
-use Rattle.stab_base.proofs.Outcomes.{on_ok, on_err, nothing}
+use Rattle.thread_queue.proofs.Outcomes.{on_ok, on_err, nothing}
 use Rattle.thread_slots.proofs.Places.{live-same, live-opened, written_back}
 use Rattle.thread_slots.proofs.Layouts.{IsLaidOut-kept, IsLaidOut-opened, same_seen}
 use Rattle.thread_slots.proofs.slots.Slots.reserve.Given.{Over}

@@ -1,5 +1,5 @@
-use Rattle.stab_base.proofs.Links.{alone_at_first, waiting_at_first, IsRing-new, IsClosed-after_new, IsClosed-before_new}
-use Rattle.stab_base.proofs.queue.ThreadQueue.new.Goals as goal
+use Rattle.thread_queue.proofs.Links.{alone_at_first, waiting_at_first, IsRing-new, IsClosed-after_new, IsClosed-before_new}
+use Rattle.thread_queue.proofs.queue.ThreadQueue.new.Goals as goal
 
 pub invariant_of-result : goal.invariant_of-result
 invariant_of-result c =

@@ -4,7 +4,7 @@ use Rattle.std.specs.List.{IsDistinct, AllByRecursion, filter}
 use Rattle.std.proofs.lemmas.Bool.Decides.{nat_tests}
 use Rattle.std.proofs.lemmas.Map.Views.{any-filter_same}
 use Rattle.std.proofs.lemmas.Map.Keys.{IsDistinct-head, IsDistinct-tail, IsDistinct-cons}
-use Rattle.stab_base.specs.Queue.{is_queued, without}
+use Rattle.thread_queue.specs.Queue.{is_queued, without}
 
 -- what holds of neither
 pub neither : (a b : Bool) → (a || b) ≡ false → (a ≡ false) × (b ≡ false)

@@ -1,11 +1,11 @@
 use Rattle.std.proofs.Common.{◌≡◌, ℕ, cond, Option, Some, IsSome, is_some, sym, ap, ◌∙◌}
-use Rattle.stab_base.specs.Queue.{without}
-use Rattle.stab_base.specs.Found.{found}
-use Rattle.stab_base.specs.Ring.{same, after, before, waiting, IsRing, IsClosed}
-use Rattle.stab_base.proofs.Leaving.{without-absent}
-use Rattle.stab_base.proofs.Rings.{twice, is_same, not_queued-alone, IsRing-leave}
-use Rattle.stab_base.proofs.Links.{linked, same_places, place_before, place_after, IsPlace-same, IsClosed-twice, waiting-is, IsRing-waiting}
-use Rattle.stab_base.proofs.queue.ThreadQueue.leave.Goals as goal
+use Rattle.thread_queue.specs.Queue.{without}
+use Rattle.thread_queue.specs.Found.{found}
+use Rattle.thread_queue.specs.Ring.{same, after, before, waiting, IsRing, IsClosed}
+use Rattle.thread_queue.proofs.Leaving.{without-absent}
+use Rattle.thread_queue.proofs.Rings.{twice, is_same, not_queued-alone, IsRing-leave}
+use Rattle.thread_queue.proofs.Links.{linked, same_places, place_before, place_after, IsPlace-same, IsClosed-twice, waiting-is, IsRing-waiting}
+use Rattle.thread_queue.proofs.queue.ThreadQueue.leave.Goals as goal
 
 pub returns-then-eq-clause-waiting : goal.returns-then-eq-clause-waiting
 returns-then-eq-clause-waiting c =

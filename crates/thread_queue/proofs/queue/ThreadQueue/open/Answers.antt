@@ -1,10 +1,10 @@
 use Rattle.std.proofs.Common.{◌≡◌, ℕ, false, Option, Some, is_some, ap, ◌∙◌}
 use Rattle.std.specs.FinSet as set
-use Rattle.stab_base.specs.Found.{found}
-use Rattle.stab_base.specs.Ring.{alone, link_at, after, before, waiting, IsRing, IsClosed}
-use Rattle.stab_base.proofs.Rings.{IsRing-same}
-use Rattle.stab_base.proofs.Links.{not_placed, not_queued, opened_places, link-alone, link-opened, IsClosed-opened, waiting-is, IsRing-waiting}
-use Rattle.stab_base.proofs.queue.ThreadQueue.open.Goals as goal
+use Rattle.thread_queue.specs.Found.{found}
+use Rattle.thread_queue.specs.Ring.{alone, link_at, after, before, waiting, IsRing, IsClosed}
+use Rattle.thread_queue.proofs.Rings.{IsRing-same}
+use Rattle.thread_queue.proofs.Links.{not_placed, not_queued, opened_places, link-alone, link-opened, IsClosed-opened, waiting-is, IsRing-waiting}
+use Rattle.thread_queue.proofs.queue.ThreadQueue.open.Goals as goal
 
 -- the thread had no place
 none : (c : goal.In_ok-insert) → is_some (found c.self.inside.ring.links.entries c.args.t.0) ≡ false

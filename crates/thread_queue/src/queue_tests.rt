@@ -1,6 +1,7 @@
 //! Who stands first in a queue as threads come and leave.
 
-use crate::{ThreadId, ThreadQueue};
+use crate::ThreadQueue;
+use stab_base::ThreadId;
 use std::test::Fail;
 
 #[test]

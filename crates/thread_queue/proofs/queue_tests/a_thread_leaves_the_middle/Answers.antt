@@ -2,7 +2,7 @@ use Rattle.std.proofs.Common.{◌≡◌, ℕ, Bool, true, false, ◌||◌, ◌&&
 use Rattle.std.specs.Ordering.{nat_cmp, eq_by_cmp}
 use Rattle.std.specs.Cmp.{nat_cmp_total}
 use Rattle.std.specs.FinSet.{FinSet, contains, insert, remove, contains-empty, contains-insert, contains-remove}
-use Rattle.stab_base.proofs.queue_tests.a_thread_leaves_the_middle.Goals as goal
+use Rattle.thread_queue.proofs.queue_tests.a_thread_leaves_the_middle.Goals as goal
 
 -- who has a place once t has one, and once t has none
 opened : (old new : FinSet nat_cmp) (t u : ℕ) → new ≡ insert old t → contains new u ≡ (eq_by_cmp nat_cmp u t || contains old u)

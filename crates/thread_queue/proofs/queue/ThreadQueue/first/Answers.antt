@@ -1,9 +1,9 @@
 use Rattle.std.proofs.Common.{None, sym, ap, ◌∙◌, subst}
 use Rattle.std.specs.FinSet as set
-use Rattle.stab_base.specs.Queue.{IsSound}
-use Rattle.stab_base.specs.Ring.{IsPlace}
-use Rattle.stab_base.proofs.Links.{has_place, IsSound-from_ring}
-use Rattle.stab_base.proofs.queue.ThreadQueue.first.Goals as goal
+use Rattle.thread_queue.specs.Queue.{IsSound}
+use Rattle.thread_queue.specs.Ring.{IsPlace}
+use Rattle.thread_queue.proofs.Links.{has_place, IsSound-from_ring}
+use Rattle.thread_queue.proofs.queue.ThreadQueue.first.Goals as goal
 
 pub returns-in-Some-clause-place : goal.returns-in-Some-clause-place
 returns-in-Some-clause-place c =

@@ -1,11 +1,11 @@
 use Rattle.std.proofs.Common.{◌≡◌, ℕ, Option, Some, ap, ◌∙◌}
 use Rattle.std.specs.FinSet as set
-use Rattle.stab_base.specs.Queue.{is_queued}
-use Rattle.stab_base.specs.Ring.{alone, link_at, after, before, waiting, IsRing, IsClosed}
-use Rattle.stab_base.proofs.Leaving.{gone}
-use Rattle.stab_base.proofs.Rings.{IsRing-same}
-use Rattle.stab_base.proofs.Links.{closed_places, link-alone, link-closed, IsClosed-closed, waiting-is, IsRing-waiting}
-use Rattle.stab_base.proofs.queue.ThreadQueue.close.Goals as goal
+use Rattle.thread_queue.specs.Queue.{is_queued}
+use Rattle.thread_queue.specs.Ring.{alone, link_at, after, before, waiting, IsRing, IsClosed}
+use Rattle.thread_queue.proofs.Leaving.{gone}
+use Rattle.thread_queue.proofs.Rings.{IsRing-same}
+use Rattle.thread_queue.proofs.Links.{closed_places, link-alone, link-closed, IsClosed-closed, waiting-is, IsRing-waiting}
+use Rattle.thread_queue.proofs.queue.ThreadQueue.close.Goals as goal
 
 -- the thread stood by itself when its place went
 itself : (c : goal.After-remove-link) → link_at c.self.inside.ring.end c.self.inside.ring.links.entries (Some c.args.t.0) ≡ alone (Some c.args.t.0)

@@ -2,10 +2,10 @@
 
 ghost use Rattle.std.specs.Prelude.{◌≡◌, [], ◌∷◌, ◌++◌, true, false, IfSome, OnOk, OnErr, option_map, slice_get};
 ghost use Rattle.std.specs.FinSet as set;
-ghost use Rattle.stab_base.specs.Queue.{is_queued, without, IsSound};
+ghost use Rattle.thread_queue.specs.Queue.{is_queued, without, IsSound};
 
-use crate::numbers::{NoMemory, ThreadId};
 use crate::ring::{Link, Ring, alone};
+use stab_base::{NoMemory, ThreadId};
 use std::alloc::Global;
 use std::collections::BTreeMap;
 use std::marker::Model;
@@ -21,8 +21,8 @@ pub struct ThreadQueue {
 impl Model for ThreadQueue {
     ghost use Rattle.std.specs.Map.{keys_of};
     ghost use Rattle.std.specs.FinSet.{from_list};
-    ghost use Rattle.stab_base.specs.Queue.{Queue, queue_code};
-    ghost use Rattle.stab_base.specs.Ring.{after, before, waiting, IsRing, IsClosed};
+    ghost use Rattle.thread_queue.specs.Queue.{Queue, queue_code};
+    ghost use Rattle.thread_queue.specs.Ring.{after, before, waiting, IsRing, IsClosed};
 
     ghost Value = { Queue };
 

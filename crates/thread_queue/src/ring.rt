@@ -1,8 +1,8 @@
 //! The links of a queue: which thread stands before each one, and which after it.
 
 ghost use Rattle.std.specs.Prelude.{◌≡◌, ℕ, Option, Some, IsSome, is_some, if◌then◌else◌};
-ghost use Rattle.stab_base.specs.Found.{found};
-ghost use Rattle.stab_base.specs.Ring.{same, alone as link_alone, link_at, after as ring_after, before as ring_before, IsPlace};
+ghost use Rattle.thread_queue.specs.Found.{found};
+ghost use Rattle.thread_queue.specs.Ring.{same, alone as link_alone, link_at, after as ring_after, before as ring_before, IsPlace};
 
 use std::collections::BTreeMap;
 

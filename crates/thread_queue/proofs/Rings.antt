@@ -5,9 +5,9 @@ use Rattle.std.specs.Cmp.{nat_eq_equiv}
 use Rattle.std.proofs.lemmas.Bool.Decides.{Decides-eqb, nat_tests}
 use Rattle.std.proofs.lemmas.List.Folds.{list_any-append}
 use Rattle.std.proofs.lemmas.Map.Keys.{IsDistinct-head, IsDistinct-tail, IsDistinct-push}
-use Rattle.stab_base.specs.Queue.{is_queued, without}
-use Rattle.stab_base.proofs.Leaving.{neither, without-absent, is_queued-without, IsDistinct-filter}
-use Rattle.stab_base.specs.Ring.{same, walk, IsPath, IsRing}
+use Rattle.thread_queue.specs.Queue.{is_queued, without}
+use Rattle.thread_queue.proofs.Leaving.{neither, without-absent, is_queued-without, IsDistinct-filter}
+use Rattle.thread_queue.specs.Ring.{same, walk, IsPath, IsRing}
 
 -- ---- places
 

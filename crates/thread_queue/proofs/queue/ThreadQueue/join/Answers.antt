@@ -1,10 +1,10 @@
 use Rattle.std.proofs.Common.{◌≡◌, ℕ, [], ◌∷◌, ◌++◌, cond, Option, Some, None, is_some, ap, ◌∙◌}
-use Rattle.stab_base.specs.Queue.{is_queued}
-use Rattle.stab_base.specs.Found.{found}
-use Rattle.stab_base.specs.Ring.{same, after, before, waiting, IsRing, IsClosed}
-use Rattle.stab_base.proofs.Rings.{twice, IsRing-join}
-use Rattle.stab_base.proofs.Links.{placed, same_places, IsPlace-same, IsClosed-twice, waiting-is, IsRing-waiting}
-use Rattle.stab_base.proofs.queue.ThreadQueue.join.Goals as goal
+use Rattle.thread_queue.specs.Queue.{is_queued}
+use Rattle.thread_queue.specs.Found.{found}
+use Rattle.thread_queue.specs.Ring.{same, after, before, waiting, IsRing, IsClosed}
+use Rattle.thread_queue.proofs.Rings.{twice, IsRing-join}
+use Rattle.thread_queue.proofs.Links.{placed, same_places, IsPlace-same, IsClosed-twice, waiting-is, IsRing-waiting}
+use Rattle.thread_queue.proofs.queue.ThreadQueue.join.Goals as goal
 
 pub write-requires : goal.write-requires
 write-requires c = placed c.self.inside.ring.end c.self.inside.ring.links.entries c.args.self.now c.args.t.0 c.self.view_is c.requires.place

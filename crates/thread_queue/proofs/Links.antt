@@ -9,13 +9,13 @@ use Rattle.std.specs.BTreeMap.{is_at}
 use Rattle.std.specs.FinSet.{from_list, contains, insert, remove, same_set, nat_cmp-IsAntisymmetric, contains-from_list, contains-insert, contains-remove}
 use Rattle.std.proofs.lemmas.Bool.Decides.{Decides-eqb}
 use Rattle.std.proofs.lemmas.Map.Steps.{length-le_from_keys}
-use Rattle.stab_base.specs.declared.ring.Link.{Link}
-use Rattle.stab_base.specs.Queue.{Queue, is_queued, IsSound}
-use Rattle.stab_base.specs.Found.{found}
-use Rattle.stab_base.specs.Ring.{same, alone, link_at, after, before, waiting, IsPath, IsRing, IsPlace, IsClosed}
-use Rattle.stab_base.proofs.Leaving.{IsDistinct-nil}
-use Rattle.stab_base.proofs.Outcomes.{nothing}
-use Rattle.stab_base.proofs.Rings.{twice, alike, unlike, cases_eq, walk-path}
+use Rattle.thread_queue.specs.declared.ring.Link.{Link}
+use Rattle.thread_queue.specs.Queue.{Queue, is_queued, IsSound}
+use Rattle.thread_queue.specs.Found.{found}
+use Rattle.thread_queue.specs.Ring.{same, alone, link_at, after, before, waiting, IsPath, IsRing, IsPlace, IsClosed}
+use Rattle.thread_queue.proofs.Leaving.{IsDistinct-nil}
+use Rattle.thread_queue.proofs.Outcomes.{nothing}
+use Rattle.thread_queue.proofs.Rings.{twice, alike, unlike, cases_eq, walk-path}
 
 -- ---- the places that there are
 

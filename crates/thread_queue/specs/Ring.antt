@@ -2,9 +2,9 @@
 use Rattle.std.specs.Prelude.{◌≡◌, ℕ, zero, suc, Bool, false, nat_eq, List, [], ◌∷◌, length, Option, Some, None, IsSome}
 use Rattle.std.specs.List.{IsDistinct}
 use Rattle.std.specs.Option.{option_map_or, option_eq}
-use Rattle.stab_base.specs.declared.ring.Link.{Link}
-use Rattle.stab_base.specs.Found.{found}
-use Rattle.stab_base.specs.Queue.{is_queued}
+use Rattle.thread_queue.specs.declared.ring.Link.{Link}
+use Rattle.thread_queue.specs.Found.{found}
+use Rattle.thread_queue.specs.Queue.{is_queued}
 
 -- whether two places are one
 abbrev pub same : Option ℕ → Option ℕ → Bool

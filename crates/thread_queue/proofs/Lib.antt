@@ -1,0 +1,4 @@
+pub mod Leaving
+pub mod Links
+pub mod Outcomes
+pub mod Rings
