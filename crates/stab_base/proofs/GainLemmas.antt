@@ -1,16 +1,27 @@
 -- Output that was cut short, put together from its pieces.
-use Rattle.std.proofs.Common.{◌≡◌, ℕ, List, ◌++◌, ◌∙◌, sym, ap, append_assoc, codes}
-use Rattle.stab_base.specs.Gain.{GainsPrefix}
+use Rattle.std.proofs.Common.{◌≡◌, ℕ, List, [], ◌++◌, ◌∙◌, sym, ap, append_assoc, append-nil, codes}
+use Rattle.stab_base.specs.Gain.{SomePrefix, GainsPrefix}
+
+-- a whole piece is a prefix of itself
+pub SomePrefix-whole : (P : List ℕ → Type 0) (piece : List ℕ) → P piece → SomePrefix P piece
+SomePrefix-whole P piece p = record { front = piece; back = []; split = append-nil piece; fact = p }
 
 -- a prefix of the first piece is a prefix of both
-pub GainsPrefix-append : (old new piece more : List ℕ) → GainsPrefix old new piece → GainsPrefix old new (piece ++ more)
-GainsPrefix-append old new piece more g =
-    record { gained = g.gained; rest = g.rest ++ more; appended = g.appended; prefix = sym (append_assoc g.gained g.rest more) ∙ ap (λ xs. xs ++ more) g.prefix }
+pub SomePrefix-append : (P : List ℕ → Type 0) (piece more : List ℕ) → SomePrefix P piece → SomePrefix P (piece ++ more)
+SomePrefix-append P piece more s =
+    record { front = s.front; back = s.back ++ more; split = sym (append_assoc s.front s.back more) ∙ ap (λ xs. xs ++ more) s.split; fact = s.fact }
 
 -- after the first piece, a prefix of the second is a prefix of both
+pub SomePrefix-after : (P Q : List ℕ → Type 0) (piece more : List ℕ) → ((front : List ℕ) → Q front → P (piece ++ front)) → SomePrefix Q more → SomePrefix P (piece ++ more)
+SomePrefix-after P Q piece more both s =
+    record { front = piece ++ s.front; back = s.back; split = append_assoc piece s.front s.back ∙ ap (λ xs. piece ++ xs) s.split; fact = both s.front s.fact }
+
+pub GainsPrefix-append : (old new piece more : List ℕ) → GainsPrefix old new piece → GainsPrefix old new (piece ++ more)
+GainsPrefix-append old new piece more g = SomePrefix-append _ piece more g
+
 pub GainsPrefix-after : (old middle new piece more : List ℕ) → middle ≡ old ++ piece → GainsPrefix middle new more → GainsPrefix old new (piece ++ more)
 GainsPrefix-after old middle new piece more e g =
-    record { gained = piece ++ g.gained; rest = g.rest; appended = g.appended ∙ ap (λ xs. xs ++ g.gained) e ∙ append_assoc old piece g.gained; prefix = append_assoc piece g.gained g.rest ∙ ap (λ xs. piece ++ xs) g.prefix }
+    SomePrefix-after _ _ piece more (λ front h. h ∙ ap (λ xs. xs ++ front) e ∙ append_assoc old piece front) g
 
 -- a pair was cut short in its second part
 pub GainsPrefix-second_part : (old one two three new a b : List ℕ) → one ≡ old ++ codes "(" → two ≡ one ++ a → three ≡ two ++ codes ", " → GainsPrefix three new b → GainsPrefix old new (codes "(" ++ a ++ codes ", " ++ b ++ codes ")")
