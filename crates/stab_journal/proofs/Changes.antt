@@ -4,12 +4,15 @@ use Rattle.std.specs.Ordering.{nat_cmp}
 use Rattle.std.specs.List.{slice_set, slice_index_or}
 use Rattle.std.specs.FinSet.{contains, insert, from_list}
 use Rattle.std.proofs.Math.Seq.{map-set_same}
-use Rattle.std.proofs.lemmas.List.{map-append}
+use Rattle.std.proofs.lemmas.List.{map-append, length_push}
 use Rattle.std.proofs.lemmas.List.Sums.{sum_by_push}
 use Rattle.stab_journal.specs.declared.event.Event.{Event}
 use Rattle.stab_journal.specs.declared.history.Entry.{Entry}
 use Rattle.stab_journal.specs.declared.history.History.TheInside.{Inside}
-use Rattle.stab_journal.specs.Event.{IsEvent, weigh, weight_of}
+use Rattle.stab_journal.specs.declared.event.Label.TheVariants.{Local, Spawn, NewChan, Comm, NewRef, Get, Set, Enter, Cut, Print, Probe, Refuse, Pin, Attempt}
+use Rattle.stab_journal.specs.declared.event.What.{What}
+use Rattle.stab_journal.specs.declared.event.What.TheVariants.{Step, Undo, Release}
+use Rattle.stab_journal.specs.Event.{IsEvent, IsWhat, weigh, weight_of}
 use Rattle.stab_journal.specs.Journal.{Journal, label_at, IsLive, IsValid, step_at, survivors}
 use Rattle.stab_journal.specs.View.{struck_from, journal_of}
 use Rattle.stab_journal.proofs.Events.{AreEvents-push, label_at-push, next_not_struck, survivors_from-push, survivors_from-insert, steps_only-insert, is_other}
@@ -24,12 +27,35 @@ striking j q = record j { struck = insert j.struck q }
 one_more : (n : ℕ) → n + 1 ≡ 1 + n
 one_more n = omega arith
 
+-- what may happen weighs something
+weighs_some : (q : ℕ) (w : What) → IsWhat q w → 1 ≤ weigh w
+weighs_some q (Step (Local t n)) h = h.1.0
+weighs_some q (Step (Spawn t u)) h = omega arith
+weighs_some q (Step (NewChan t c)) h = omega arith
+weighs_some q (Step (Comm s r c)) h = omega arith
+weighs_some q (Step (NewRef t r)) h = omega arith
+weighs_some q (Step (Get t r)) h = omega arith
+weighs_some q (Step (Set t r)) h = omega arith
+weighs_some q (Step (Enter t)) h = omega arith
+weighs_some q (Step (Cut t)) h = omega arith
+weighs_some q (Step (Print t)) h = omega arith
+weighs_some q (Step (Probe t i)) h = omega arith
+weighs_some q (Step (Refuse t)) h = omega arith
+weighs_some q (Step (Pin t)) h = omega arith
+weighs_some q (Step (Attempt t g)) h = omega arith
+weighs_some q (Undo t m) h = omega arith
+weighs_some q (Release k) h = omega arith
+
 -- a pushed event keeps a journal valid
 pub valid-push : (j : Journal) (e : Event) → IsValid j → weight_of j.events + weigh e.what < 2 ^ 64 → IsEvent (length j.events + 1) e → IsValid (pushed j e)
 valid-push j e valid light is = record {
   in_range = AreEvents-push 1 j.events e valid.in_range (subst (λ n. IsEvent n e) (one_more (length j.events)) is);
   steps_only = λ q struck. label_at-push j.events e q (valid.steps_only q struck);
   weight = subst (λ n. n < 2 ^ 64) (sym (sum_by_push (λ (x : Event). weigh x.what) j.events e)) light;
+  few =
+      let longer : length (j.events ++ e ∷ []) ≡ length j.events + 1 = length_push j.events e in
+      let heavier = sum_by_push (λ (x : Event). weigh x.what) j.events e in
+      omega (arith, valid.few, weighs_some (length j.events + 1) e.what is.what);
 }
 
 -- a pushed step joins the survivors
@@ -45,6 +71,7 @@ valid-strike j q valid live = record {
   in_range = valid.in_range;
   steps_only = steps_only-insert j.events j.struck q valid.steps_only live.step;
   weight = valid.weight;
+  few = valid.few;
 }
 
 -- a struck step leaves the survivors

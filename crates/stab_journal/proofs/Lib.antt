@@ -2,4 +2,5 @@ pub mod Changes
 pub mod Entries
 pub mod Events
 pub mod Look
-pub mod Survivors
+pub mod Reading
+pub mod Surviving

@@ -1,5 +1,5 @@
 -- A journal: events, numbered from 1, and the numbers of the steps that were struck.
-use Rattle.std.specs.Prelude.{◌≡◌, ℕ, zero, suc, ◌^◌, ◌<◌, true, false, cond, List, [], ◌∷◌, ◌++◌, Option, None, IsSome, slice_get, option_and_then, refl, ◌≤◌, Some, nat_eq}
+use Rattle.std.specs.Prelude.{◌≡◌, ℕ, zero, suc, ◌^◌, ◌<◌, true, false, cond, List, [], ◌∷◌, ◌++◌, length, Option, None, IsSome, slice_get, option_and_then, refl, ◌≤◌, Some, nat_eq}
 use Rattle.std.specs.List.{AllByRecursion, list_any}
 use Rattle.std.specs.Ordering.{nat_cmp}
 use Rattle.std.specs.Coded.{Coded, code_by, coded×, coded_list, coded_ℕ}
@@ -71,3 +71,4 @@ pub record IsValid (j : Journal) : Type 0 where
   pub in_range : AreEvents 1 j.events
   pub steps_only : (q : ℕ) → contains j.struck q ≡ true → IsSome (label_at j.events q)
   pub weight : weight_of j.events < 2 ^ 64
+  pub few : length j.events ≤ weight_of j.events

@@ -1,4 +1,6 @@
+pub mod Entries
 pub mod Event
 pub mod Journal
 pub mod Label
+pub mod Own
 pub mod View

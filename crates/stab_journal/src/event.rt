@@ -53,3 +53,10 @@ pub struct Numbered {
     pub seq: Seq,
     pub label: Label,
 }
+
+/// An event with its number in the journal.
+#[derive(Clone, Copy, PartialEq, Eq, Debug)]
+pub struct Recorded {
+    pub seq: Seq,
+    pub event: Event,
+}

@@ -1,19 +1,21 @@
 //! A journal that is written from its end, and whose steps can be struck.
-ghost use Rattle.std.specs.Prelude.{◌≡◌, ◌+◌, ◌-◌, ◌^◌, ◌<◌, ◌≤◌, ◌↔◌, [], ◌∷◌, ◌++◌, length, filter, nat_eq, not, IsTrue, is_some, IsSome, IfSome, option_copied, OnOk, OnErr, IsOk};
+ghost use Rattle.std.specs.Prelude.{◌≡◌, ◌+◌, ◌-◌, ◌^◌, ◌<◌, ◌≤◌, ◌↔◌, ℕ, [], ◌∷◌, ◌++◌, length, filter, nat_eq, not, IsTrue, is_some, IsSome, IfSome, option_copied, OnOk, OnErr, IsOk};
 ghost use Rattle.std.specs.FinSet as set;
 ghost use Rattle.stab_journal.specs.Event.{IsEvent, label_of, weigh, weight_of};
 ghost use Rattle.stab_journal.specs.Journal.{AreSurvivors, event_at, IsLive, IsValid, step_at, survivors};
+ghost use Rattle.stab_journal.specs.Own.{own, own_at};
 ghost use Rattle.stab_journal.specs.View.{entry_with};
 
 use crate::event::{Event, Label, What};
+use crate::readers::{Own, Survivors};
 use stab_base::{NoMemory, Seq};
 use std::alloc::Global;
 use std::marker::Model;
 
 #[derive(Clone, Copy)]
-struct Entry {
-    event: Event,
-    struck: bool,
+pub(crate) struct Entry {
+    pub(crate) event: Event,
+    pub(crate) struck: bool,
 }
 
 /// The events of a run in order. Steps that were undone stay in it and are struck.
@@ -72,7 +74,7 @@ impl History {
         self.entries.len() as u64
     }
 
-    /// What the events weigh, struck steps included.
+    /// What the events weigh, struck steps included. No event weighs less than 1.
     pub fn weight(&self) -> u64
         ensures weight { result ≡ weight_of self.now.events }
         ensures valid { IsValid self.now }
@@ -88,6 +90,27 @@ impl History {
     {
         let entry = entry_at(&self.entries, q)?;
         Some(&entry.event)
+    }
+
+    /// The steps that weren't struck, in order, read where they stand.
+    pub fn survivors(&self) -> Survivors<'_>
+        ensures { result ≡ survivors self.now }
+    {
+        Survivors {
+            entries: &self.entries,
+            passed: 0,
+        }
+    }
+
+    /// The events that a worker made, in order, struck steps included, read where they stand.
+    pub fn own(&self, worker: u32) -> Own<'_>
+        ensures { result ≡ own worker self.now.events }
+    {
+        Own {
+            worker,
+            entries: &self.entries,
+            passed: 0,
+        }
     }
 
     /// Whether a number is that of a step that wasn't struck.
@@ -110,6 +133,8 @@ impl History {
             ≡ record self.old { events = self.old.events ++ event ∷ []; spare = self.old.spare - 1 } }
         ensures survivors { survivors self.new ≡ survivors self.old ++ step_at result.0 event.what }
         ensures weighs { weight_of self.new.events ≡ weight_of self.old.events + weigh event.what }
+        ensures own { (w : ℕ) → own w self.new.events
+            ≡ own w self.old.events ++ own_at w result.0 event }
     {
         self.weight += weight_of_event(&event);
         self.entries.push_reserved(Entry {

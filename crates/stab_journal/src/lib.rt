@@ -3,9 +3,11 @@
 
 mod event;
 mod history;
+mod readers;
 
-pub use event::{Event, Label, Numbered, What};
+pub use event::{Event, Label, Numbered, Recorded, What};
 pub use history::History;
+pub use readers::{Own, Survivors};
 
 #[cfg(test)]
 mod tests;

@@ -2,6 +2,7 @@ ghost use Rattle.std.specs.Prelude.{◌≡◌};
 
 use super::*;
 use stab_base::{ChanId, NoMemory, RefId, Seq, ThreadId};
+use std::test::Fail;
 
 fn step(worker: u32, label: Label) -> Event
     ensures { result ≡ record { worker = worker; what = What.Step label } }
@@ -53,5 +54,35 @@ fn room_is_kept(rt: HostRuntime) -> Result<(), NoMemory> {
         let q = history.push(step(1, Label::Set(ThreadId(4_000_000_000), RefId(1))));
         assert_eq!(rt; q, Seq(i + 1));
     }
+    Ok(())
+}
+
+#[test]
+fn survivors_and_own_events_are_read_in_order(rt: HostRuntime) -> Result<(), Fail> {
+    let mut history = History::new(rt.alloc());
+    history.reserve(4).map_err(|_| "no room")?;
+    let enter = history.push(step(3, Label::Enter(ThreadId(1))));
+    let print = history.push(step(2, Label::Print(ThreadId(2))));
+    history.push(Event {
+        worker: 3,
+        what: What::Undo(ThreadId(1), enter),
+    });
+    history.strike(enter);
+    let cut = history.push(step(2, Label::Cut(ThreadId(2))));
+    let mut survivors = history.survivors();
+    let first = Numbered {
+        seq: print,
+        label: Label::Print(ThreadId(2)),
+    };
+    let second = Numbered {
+        seq: cut,
+        label: Label::Cut(ThreadId(2)),
+    };
+    assert_eq!(rt; survivors.next(), Some(first));
+    assert_eq!(rt; survivors.next(), Some(second));
+    assert_eq!(rt; survivors.next(), None);
+    let third: Vec<u64> = history.own(3).map(|own| own.seq.0).collect(rt.alloc())?;
+    assert_eq!(rt; third.as_slice(), [1, 3].as_slice());
+    assert_eq!(rt; history.own(1).next(), None);
     Ok(())
 }

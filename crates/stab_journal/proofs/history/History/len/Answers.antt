@@ -1,4 +1,4 @@
-use Rattle.stab_journal.proofs.Survivors.{are_survivors}
+use Rattle.stab_journal.proofs.Surviving.{are_survivors}
 use Rattle.stab_journal.proofs.history.History.len.Goals as goal
 
 pub returns-clause-survivors : goal.returns-clause-survivors

@@ -11,6 +11,7 @@ invariant_of-result c =
         in_range = rw items tt;
         steps_only = λ q struck. rw items (let none = contains-empty nat_cmp q in let some = rw items at struck in cc);
         weight = rw items (search rules);
+        few = rw items (search rules);
       };
       weight = rw items refl;
     }

@@ -5,6 +5,8 @@ use Rattle.stab_journal.specs.declared.history.Entry.{Entry}
 use Rattle.stab_journal.specs.Journal.{Journal, IsValid, step_at, survivors}
 use Rattle.stab_journal.specs.View.{journal_of}
 use Rattle.stab_journal.proofs.Changes.{pushed, valid-push, survivors-push, view-push, weight-push}
+use Rattle.stab_journal.specs.Own.{own, own_at}
+use Rattle.stab_journal.proofs.Reading.{own-push}
 use Rattle.stab_journal.proofs.history.History.push.Goals as goal
 
 valid_before : (c : goal.After-len) → IsValid c.args.self.now
@@ -39,3 +41,9 @@ returns-clause-survivors c =
     ap survivors (view_after c)
     ∙ survivors-push c.args.self.now c.args.event (valid_before c)
     ∙ ap (λ n. survivors c.args.self.now ++ step_at n c.args.event.what) (sym (number c))
+
+pub returns-clause-own : goal.returns-clause-own
+returns-clause-own c = λ w.
+    ap (λ (j : Journal). own w j.events) (view_after c)
+    ∙ own-push w c.args.self.now.events c.args.event
+    ∙ ap (λ n. own w c.args.self.now.events ++ own_at w n c.args.event) (sym (number c))
