@@ -1,0 +1,87 @@
+-- What the commands and options are called, and what each command takes.
+use Rattle.std.specs.Prelude.{ℕ, Bool, true, false, List, [], ◌∷◌, Option, Some, None, codes, if◌then◌else◌}
+use Rattle.std.specs.Str.{bytes_eq}
+use Rattle.stab_words.specs.declared.command.Command.{Command}
+use Rattle.stab_words.specs.declared.command.Command.TheVariants.{Run, Trace, Verify, Drill, Check, Mill, Types, Save, Resume, Watch}
+use Rattle.stab_words.specs.declared.command.Setting.{Setting}
+use Rattle.stab_words.specs.declared.command.Setting.TheVariants.{Probes, Workers, Fuel, Quantum}
+use Rattle.stab_words.specs.declared.command.Place.{Place}
+use Rattle.stab_words.specs.declared.command.Place.TheVariants.{File, Second, Number}
+
+-- what a table has for a word
+abbrev pub value_in : {T : Type 0} → List (List ℕ × T) → List ℕ → Option T
+value_in [] word = None
+value_in (row ∷ rows) word = if bytes_eq row.0 word then Some row.1 else value_in rows word
+
+-- the commands
+abbrev pub commands : List (List ℕ × Command)
+commands =
+    (codes "run", Run) ∷ (codes "trace", Trace) ∷ (codes "verify", Verify) ∷ (codes "drill", Drill)
+    ∷ (codes "check", Check) ∷ (codes "mill", Mill) ∷ (codes "types", Types) ∷ (codes "save", Save)
+    ∷ (codes "resume", Resume) ∷ (codes "watch", Watch) ∷ []
+
+abbrev pub command_named : List ℕ → Option Command
+command_named word = value_in commands word
+
+-- the options
+abbrev pub options : List (List ℕ × Setting)
+options =
+    (codes "--probes", Probes) ∷ (codes "--workers", Workers) ∷ (codes "--fuel", Fuel) ∷ (codes "--quantum", Quantum) ∷ []
+
+abbrev pub option_named : List ℕ → Option Setting
+option_named word = value_in options word
+
+-- the places of each command
+abbrev pub places : Command → List Place
+places Run = File ∷ []
+places Trace = File ∷ []
+places Verify = File ∷ Second ∷ []
+places Drill = File ∷ Second ∷ []
+places Check = File ∷ []
+places Mill = Number ∷ []
+places Types = File ∷ []
+places Save = File ∷ Second ∷ Number ∷ []
+places Resume = File ∷ []
+places Watch = File ∷ []
+
+-- the options of each command
+abbrev pub takes : Command → Setting → Bool
+takes Run option = true
+takes Trace option = true
+takes Verify Probes = true
+takes Verify _ = false
+takes Drill Workers = false
+takes Drill _ = true
+takes Check option = false
+takes Mill Probes = false
+takes Mill _ = true
+takes Types option = false
+takes Save Probes = true
+takes Save _ = false
+takes Resume Fuel = true
+takes Resume Quantum = true
+takes Resume _ = false
+takes Watch option = true
+
+-- a number is from 1 to this
+abbrev pub most_workers : ℕ
+most_workers = 64
+
+abbrev pub most_fuel : ℕ
+most_fuel = 16000000
+
+abbrev pub most_quantum : ℕ
+most_quantum = 10000
+
+abbrev pub most_size : ℕ
+most_size = 10000
+
+-- what is meant where the option isn't given
+abbrev pub default_workers : ℕ
+default_workers = 4
+
+abbrev pub default_fuel : ℕ
+default_fuel = 1000000
+
+abbrev pub default_quantum : ℕ
+default_quantum = 1000

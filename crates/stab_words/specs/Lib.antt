@@ -1,0 +1,4 @@
+pub mod Command
+pub mod Number
+pub mod Given
+pub mod Asked

@@ -1,0 +1,279 @@
+//! Reads the words from the left.
+ghost use Rattle.std.specs.Prelude.{◌≡◌, map as each, string_bytes, option_copied, IsTrue, ◌↔◌, find, not};
+ghost use Rattle.stab_words.specs.Command.{places};
+ghost use Rattle.stab_words.specs.Given.{is_filled};
+ghost use Rattle.stab_words.specs.Asked.{Gives, asked, begun, finished, name_of, option_of, optional, plain, read_from, request_of, step, written_value};
+
+use crate::command::{Command, Place, Setting, command_named, option_named};
+use crate::given::Given;
+use crate::name::Name;
+use crate::request::{
+    DrillArgs, MillArgs, Request, ResumeArgs, RunArgs, SaveArgs, VerifyArgs, WordFault,
+};
+use std::alloc::Global;
+
+/// What is meant where the option isn't given.
+const DEFAULT_WORKERS: u32 = 4;
+
+const DEFAULT_FUEL: u64 = 1_000_000;
+
+const DEFAULT_QUANTUM: u32 = 1_000;
+
+/// What the next word may be.
+#[derive(Clone, Copy, Debug)]
+enum Expects {
+    /// An option or a plain word.
+    AnyWord,
+    /// The value of the option at this word.
+    ValueOf(Setting, usize),
+    /// A plain word, since `--` ended the options.
+    PlainWord,
+}
+
+/// How far the words were read.
+#[derive(Debug, Drop)]
+struct Reading {
+    given: Given,
+    expects: Expects,
+}
+
+/// What the words ask for, or the first fault from the left. The words are those after the program's name.
+pub fn read_words(alloc: Global, words: &[String]) -> Result<Request, WordFault>
+    ensures { Gives (λ request. request) result (asked (each string_bytes words.now)) }
+{
+    let Some((first, rest)) = words.split_first() else {
+        return Err(WordFault::NoCommand);
+    };
+    let command = command_named(first.as_str()).ok_or(WordFault::UnknownCommand)?;
+    let reading = read_rest(alloc, command, rest)?;
+    finished(command, reading)
+}
+
+// Reads the words behind the command.
+fn read_rest(alloc: Global, command: Command, words: &[String]) -> Result<Reading, WordFault>
+    ensures { Gives (λ reading. reading) result (read_from command 1 (each string_bytes words.now) begun) }
+{
+    let mut reading = Reading {
+        given: Given::nothing(),
+        expects: Expects::AnyWord,
+    };
+    let mut at = 1;
+    let mut rest = words;
+    while let Some((word, others)) = rest.split_first() {
+        reading = step(alloc, command, at, word.as_str(), reading)?;
+        rest = others;
+        at += 1;
+    }
+    Ok(reading)
+}
+
+// Reads the word `at`.
+fn step(
+    alloc: Global,
+    command: Command,
+    at: usize,
+    word: &str,
+    reading: Reading,
+) -> Result<Reading, WordFault>
+    ensures { Gives (λ r. r) result (step command at word.now reading.given reading.expects) }
+{
+    let given = reading.given;
+    match reading.expects {
+        Expects::PlainWord => {
+            let given = plain(alloc, command, at, word, given)?;
+            Ok(Reading {
+                given,
+                expects: Expects::PlainWord,
+            })
+        }
+        Expects::ValueOf(setting, option_at) => {
+            if word.as_bytes().starts_with(b"-") {
+                return Err(WordFault::NoValue(option_at));
+            }
+            let given = given.set(alloc, setting, option_at, word)?;
+            Ok(Reading {
+                given,
+                expects: Expects::AnyWord,
+            })
+        }
+        Expects::AnyWord => any_word(alloc, command, at, word, given),
+    }
+}
+
+// Reads the word `at`, which may be an option.
+fn any_word(
+    alloc: Global,
+    command: Command,
+    at: usize,
+    word: &str,
+    given: Given,
+) -> Result<Reading, WordFault>
+    ensures { Gives (λ r. r) result (step command at word.now given Expects.AnyWord) }
+{
+    match word.as_bytes() {
+        b"--" => Ok(Reading {
+            given,
+            expects: Expects::PlainWord,
+        }),
+        [b'-', b'-', ..] => option(alloc, command, at, word, given),
+        [b'-', ..] => Err(WordFault::UnknownOption(at)),
+        _ => {
+            let given = plain(alloc, command, at, word, given)?;
+            Ok(Reading {
+                given,
+                expects: Expects::AnyWord,
+            })
+        }
+    }
+}
+
+// Reads the option that is the word `at`.
+fn option(
+    alloc: Global,
+    command: Command,
+    at: usize,
+    word: &str,
+    given: Given,
+) -> Result<Reading, WordFault>
+    ensures { Gives (λ r. r) result (optional command at word.now given) }
+{
+    let (name, value) = name_and_value(word);
+    let setting = option_of(command, at, name, &given)?;
+    match value {
+        Some(value) => {
+            let given = given.set(alloc, setting, at, value)?;
+            Ok(Reading {
+                given,
+                expects: Expects::AnyWord,
+            })
+        }
+        None => Ok(Reading {
+            given,
+            expects: Expects::ValueOf(setting, at),
+        }),
+    }
+}
+
+// The name of an option, and its value where one follows a `=`.
+fn name_and_value(word: &str) -> (&str, Option<&str>)
+    ensures name { result.0.now ≡ name_of word.now }
+    ensures value { option_copied result.1 ≡ written_value word.now }
+{
+    match word.split_once('=') {
+        Some((name, value)) => (name, Some(value)),
+        None => (word, None),
+    }
+}
+
+// The option of this name, which the command has and which wasn't given yet.
+fn option_of(command: Command, at: usize, name: &str, given: &Given) -> Result<Setting, WordFault>
+    ensures { result ≡ option_of command at name.now given.now }
+{
+    let setting = option_named(name).ok_or(WordFault::UnknownOption(at))?;
+    if !command.takes(setting) {
+        return Err(WordFault::UnknownOption(at));
+    }
+    if given.has(setting) {
+        return Err(WordFault::Repeated(at));
+    }
+    Ok(setting)
+}
+
+// Puts the word `at` into the first place that is empty.
+fn plain(
+    alloc: Global,
+    command: Command,
+    at: usize,
+    word: &str,
+    given: Given,
+) -> Result<Given, WordFault>
+    ensures { Gives (λ g. g) result (plain command at word.now given) }
+{
+    let place = empty_place(command, &given).ok_or(WordFault::ExtraWord(at))?;
+    given.fill(alloc, place, at, word)
+}
+
+// The first place of the command that is empty.
+fn empty_place(command: Command, given: &Given) -> Option<Place>
+    ensures { result ≡ find (λ p. not (is_filled p given.now)) (places command) }
+{
+    command
+        .places()
+        .iter()
+        .copied()
+        .find(|place| !given.is_filled(*place))
+}
+
+// What the command is asked for, once all words were read.
+fn finished(command: Command, reading: Reading) -> Result<Request, WordFault>
+    ensures { result ≡ finished command reading.given reading.expects }
+{
+    if let Expects::ValueOf(_, at) = reading.expects {
+        return Err(WordFault::NoValue(at));
+    }
+    request_of(command, reading.given).ok_or(WordFault::MissingWord)
+}
+
+// The request of a command, where each of its places is filled.
+fn request_of(command: Command, given: Given) -> Option<Request>
+    ensures { result ≡ request_of command given }
+{
+    let workers = given.workers.unwrap_or(DEFAULT_WORKERS);
+    let fuel = given.fuel.unwrap_or(DEFAULT_FUEL);
+    let quantum = given.quantum.unwrap_or(DEFAULT_QUANTUM);
+    let probes = given.probes;
+    Some(match command {
+        Command::Run => Request::Run(RunArgs {
+            file: given.file?,
+            probes,
+            workers,
+            fuel,
+            quantum,
+        }),
+        Command::Trace => Request::Trace(RunArgs {
+            file: given.file?,
+            probes,
+            workers,
+            fuel,
+            quantum,
+        }),
+        Command::Watch => Request::Watch(RunArgs {
+            file: given.file?,
+            probes,
+            workers,
+            fuel,
+            quantum,
+        }),
+        Command::Verify => Request::Verify(VerifyArgs {
+            file: given.file?,
+            trace: given.second?,
+            probes,
+        }),
+        Command::Drill => Request::Drill(DrillArgs {
+            file: given.file?,
+            script: given.second?,
+            probes,
+            fuel,
+            quantum,
+        }),
+        Command::Save => Request::Save(SaveArgs {
+            file: given.file?,
+            trace: given.second?,
+            at: given.number?,
+            probes,
+        }),
+        Command::Check => Request::Check(given.file?),
+        Command::Types => Request::Types(given.file?),
+        Command::Mill => Request::Mill(MillArgs {
+            size: given.number?,
+            workers,
+            fuel,
+            quantum,
+        }),
+        Command::Resume => Request::Resume(ResumeArgs {
+            image: given.file?,
+            fuel,
+            quantum,
+        }),
+    })
+}

@@ -1,0 +1,117 @@
+//! What can be asked for, and why words can be refused.
+
+ghost use Rattle.std.specs.Prelude.{◌≡◌};
+ghost use Rattle.stab_words.specs.declared.request.WordFault.TheVariants.{NoMemory};
+
+use crate::name::Name;
+use std::alloc::AllocError;
+
+/// What the words ask for.
+#[derive(Debug, Drop)]
+pub enum Request {
+    /// Run a program and write what it shows.
+    Run(RunArgs),
+    /// Run a program and write the trace.
+    Trace(RunArgs),
+    /// Tell whether a trace is a run of a program.
+    Verify(VerifyArgs),
+    /// Play a script of turns.
+    Drill(DrillArgs),
+    /// Read a program.
+    Check(Name),
+    /// Run a program that is made from a number.
+    Mill(MillArgs),
+    /// Check the written types of a program.
+    Types(Name),
+    /// Write the state at a cut of a trace.
+    Save(SaveArgs),
+    /// Go on from a state that was written.
+    Resume(ResumeArgs),
+    /// Run a program with a board that is read meanwhile.
+    Watch(RunArgs),
+}
+
+/// What `run`, `trace` and `watch` are given. The quantum is the most pure steps of a turn.
+#[derive(Debug, Drop)]
+pub struct RunArgs {
+    pub file: Name,
+    pub probes: Option<Name>,
+    pub workers: u32,
+    pub fuel: u64,
+    pub quantum: u32,
+}
+
+/// What `verify` is given.
+#[derive(Debug, Drop)]
+pub struct VerifyArgs {
+    pub file: Name,
+    pub trace: Name,
+    pub probes: Option<Name>,
+}
+
+/// What `drill` is given.
+#[derive(Debug, Drop)]
+pub struct DrillArgs {
+    pub file: Name,
+    pub script: Name,
+    pub probes: Option<Name>,
+    pub fuel: u64,
+    pub quantum: u32,
+}
+
+/// What `mill` is given: how many sections its program has, and how it is run.
+#[derive(Debug, Drop)]
+pub struct MillArgs {
+    pub size: u32,
+    pub workers: u32,
+    pub fuel: u64,
+    pub quantum: u32,
+}
+
+/// What `save` is given. The state is the one at the cut with the number `at`, the first being 1.
+#[derive(Debug, Drop)]
+pub struct SaveArgs {
+    pub file: Name,
+    pub trace: Name,
+    pub at: u32,
+    pub probes: Option<Name>,
+}
+
+/// What `resume` is given.
+#[derive(Debug, Drop)]
+pub struct ResumeArgs {
+    pub image: Name,
+    pub fuel: u64,
+    pub quantum: u32,
+}
+
+/// Why words are refused. A number is that of the word, the command being word 0.
+#[derive(Clone, Copy, PartialEq, Eq, Debug)]
+pub enum WordFault {
+    /// There are no words.
+    NoCommand,
+    /// The first word is no command.
+    UnknownCommand,
+    /// The command has no such option.
+    UnknownOption(usize),
+    /// The option was given before.
+    Repeated(usize),
+    /// The option has no value.
+    NoValue(usize),
+    /// The value of the option, or the word itself, isn't allowed.
+    BadValue(usize),
+    /// The command takes one word more.
+    MissingWord,
+    /// The command takes no further word.
+    ExtraWord(usize),
+    /// The memory for the names isn't there.
+    NoMemory,
+}
+
+impl From<AllocError> for WordFault {
+    ghost from_gives = { λ _ e. e ≡ NoMemory };
+
+    fn from(_e: AllocError) -> WordFault {
+        WordFault::NoMemory
+    }
+}
