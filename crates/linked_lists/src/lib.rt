@@ -1,0 +1,9 @@
+//! Linked lists through numbered places: many lists over one table of links, each place in at most one of them.
+#![tactic(auto)]
+
+mod links;
+mod lists;
+#[cfg(test)]
+mod tests;
+
+pub use lists::Lists;

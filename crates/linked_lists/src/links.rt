@@ -1,0 +1,123 @@
+//! The links between places: what stands before each one, and what after it.
+
+ghost use Rattle.std.specs.Prelude.{◌≡◌, ℕ, ◌∷◌, length, if◌then◌else◌};
+ghost use Rattle.std.specs.Vec.{vec_capacity};
+ghost use Rattle.linked_lists.specs.Ring.{same, alone as link_alone, link_at, spot_place, after as ring_after, before as ring_before, IsThere};
+
+/// Where a list can lead: to one of its places, or to its end, which stands before the first place
+/// and after the last.
+#[derive(Clone, Copy, PartialEq, Eq)]
+pub(crate) enum Spot {
+    /// The end of the list with this number.
+    End(usize),
+    /// The place with this number, from 1 on.
+    Place(usize),
+}
+
+/// What stands before a spot and after it.
+#[derive(Clone, Copy)]
+pub(crate) struct Link {
+    pub(crate) before: Spot,
+    pub(crate) after: Spot,
+}
+
+/// The link of each end and of each place.
+#[derive(Drop)]
+pub(crate) struct Links {
+    /// By the number of the list.
+    pub(crate) ends: Vec<Link>,
+    /// The place n at the index n - 1.
+    pub(crate) places: Vec<Link>,
+}
+
+/// The link of a spot that stands by itself.
+pub(crate) fn alone(spot: Spot) -> Link
+    ensures { result ≡ link_alone spot }
+{
+    Link {
+        before: spot,
+        after: spot,
+    }
+}
+
+/// The place that a spot is, if it isn't an end.
+pub(crate) fn place_in(spot: Spot) -> Option<usize>
+    ensures { result ≡ spot_place spot }
+{
+    match spot {
+        Spot::Place(place) => Some(place),
+        Spot::End(_) => None,
+    }
+}
+
+impl Links {
+    pub(crate) fn link(&self, spot: Spot) -> Link
+        requires { IsThere (length self.now.ends.items) (length self.now.places.items) spot }
+        ensures { result ≡ link_at self.now.ends.items self.now.places.items spot }
+    {
+        match spot {
+            Spot::End(list) => self.ends[list],
+            Spot::Place(place) => self.places[place - 1],
+        }
+    }
+
+    /// Gives a spot another link.
+    pub(crate) fn write(&mut self, spot: Spot, link: Link)
+        requires { IsThere (length self.old.ends.items) (length self.old.places.items) spot }
+        ensures links { (p : Spot) → link_at self.new.ends.items self.new.places.items p
+            ≡ (if same p spot then link else link_at self.old.ends.items self.old.places.items p) }
+        ensures lists { length self.new.ends.items ≡ length self.old.ends.items }
+        ensures places { length self.new.places.items ≡ length self.old.places.items }
+        ensures list_capacity { vec_capacity self.new.ends ≡ vec_capacity self.old.ends }
+        ensures capacity { vec_capacity self.new.places ≡ vec_capacity self.old.places }
+    {
+        match spot {
+            Spot::End(list) => self.ends[list] = link,
+            Spot::Place(place) => self.places[place - 1] = link,
+        }
+    }
+
+    /// Lets `next` stand after a spot.
+    pub(crate) fn set_after(&mut self, spot: Spot, next: Spot)
+        requires { IsThere (length self.old.ends.items) (length self.old.places.items) spot }
+        ensures after { (p : Spot) → ring_after self.new.ends.items self.new.places.items p
+            ≡ (if same p spot then next else ring_after self.old.ends.items self.old.places.items p) }
+        ensures before { (p : Spot) → ring_before self.new.ends.items self.new.places.items p
+            ≡ ring_before self.old.ends.items self.old.places.items p }
+        ensures lists { length self.new.ends.items ≡ length self.old.ends.items }
+        ensures places { length self.new.places.items ≡ length self.old.places.items }
+        ensures list_capacity { vec_capacity self.new.ends ≡ vec_capacity self.old.ends }
+        ensures capacity { vec_capacity self.new.places ≡ vec_capacity self.old.places }
+    {
+        let link = self.link(spot);
+        self.write(
+            spot,
+            Link {
+                after: next,
+                ..link
+            },
+        );
+    }
+
+    /// Lets `last` stand before a spot.
+    pub(crate) fn set_before(&mut self, spot: Spot, last: Spot)
+        requires { IsThere (length self.old.ends.items) (length self.old.places.items) spot }
+        ensures after { (p : Spot) → ring_after self.new.ends.items self.new.places.items p
+            ≡ ring_after self.old.ends.items self.old.places.items p }
+        ensures before { (p : Spot) → ring_before self.new.ends.items self.new.places.items p
+            ≡ (if same p spot then last else ring_before self.old.ends.items self.old.places.items p) }
+        ensures lists { length self.new.ends.items ≡ length self.old.ends.items }
+        ensures places { length self.new.places.items ≡ length self.old.places.items }
+        ensures list_capacity { vec_capacity self.new.ends ≡ vec_capacity self.old.ends }
+        ensures capacity { vec_capacity self.new.places ≡ vec_capacity self.old.places }
+    {
+        let link = self.link(spot);
+        self.write(
+            spot,
+            Link {
+                before: last,
+                ..link
+            },
+        );
+    }
+}
