@@ -9,7 +9,7 @@ use Rattle.std.proofs.lemmas.Map.Steps.{length-le_from_distinct_below}
 use Rattle.linked_lists.specs.declared.links.Spot.{Spot}
 use Rattle.linked_lists.specs.declared.links.Spot.TheVariants.{End, Place}
 use Rattle.linked_lists.specs.declared.links.Link.{Link}
-use Rattle.linked_lists.specs.Lists.{is_listed, without, list_at, StandsNowhere, IsSound}
+use Rattle.linked_lists.specs.Lists.{is_listed, following, without, list_at, StandsNowhere, IsSound}
 use Rattle.linked_lists.specs.Ring.{alone, link_at, spot_place, after, before, walk, walked, lists_of, IsPath, IsRing, IsThere}
 use Rattle.linked_lists.proofs.Leaving.{IsDistinct-nil}
 use Rattle.linked_lists.proofs.Rings.{unlike, walk-path, off_path, one_list, pushed, IsRing-same}
@@ -200,37 +200,35 @@ lists_of-left ends places ends' places' t ring many =
 
 -- ---- what comes after a place
 
-rest_after : (f : Spot → Spot) (h t : ℕ) (p : Spot) (xs ys : List ℕ) → IsPath f h p (xs ++ t ∷ ys) → IsPath f h (Place t) ys
-rest_after f h t p [] ys path = path.1
-rest_after f h t p (x ∷ xs) ys path = rest_after f h t (Place x) xs ys path.1
+rest_after : (f : Spot → Spot) (h t : ℕ) (p : Spot) (list : List ℕ) → IsPath f h p list → is_listed t list ≡ true → IsPath f h (Place t) (following t list)
+rest_after f h t p [] path there = absurd (unlike false there refl)
+rest_after f h t p (x ∷ list) path there =
+    elim (nat_eq t x) as (λ b. nat_eq t x ≡ b → (b || is_listed t list) ≡ true → IsPath f h (Place t) (cond b list (following t list))) [
+      | true ↦ λ e _. subst (λ u. IsPath f h (Place u) list) (sym ((Decides-eqb t x).0 e)) path.1
+      | false ↦ λ _ listed. rest_after f h t (Place x) list path.1 listed
+    ] refl there
 
 first_on : (f : Spot → Spot) (h : ℕ) (p : Spot) (ys : List ℕ) → IsPath f h p ys → spot_place (f p) ≡ slice_get ys 0
 first_on f h p [] path = ap spot_place path
 first_on f h p (y ∷ ys) path = ap spot_place path.0
-
-among : (t : ℕ) (xs ys : List ℕ) → is_listed t (xs ++ t ∷ ys) ≡ true
-among t [] ys = ap (λ b. b || is_listed t ys) ((Decides-eqb t t).1 refl)
-among t (x ∷ xs) ys = ap (λ b. nat_eq t x || b) (among t xs ys) ∙ always (nat_eq t x)
-  where
-    always : (b : Bool) → (b || true) ≡ true
-    always true = refl
-    always false = refl
 
 leads : (p : Spot) (t : ℕ) → spot_place p ≡ Some t → p ≡ Place t
 leads (End h) t e = cc
 leads (Place u) t e = cc
 
 module _ (ends places : List Link) (lists : List (List ℕ)) (t : ℕ) (all : lists_of ends places ≡ lists) (ring : IsRing (after ends places) (before ends places) (walked ends places)) where
-  walked_here : (h : ℕ) (xs ys : List ℕ) → list_at lists h ≡ xs ++ t ∷ ys → walked ends places h ≡ xs ++ t ∷ ys
-  walked_here h xs ys e = sym (list_at-of ends places h) ∙ ap (λ lists. list_at lists h) all ∙ e
+  walked_here : (h : ℕ) → walked ends places h ≡ list_at lists h
+  walked_here h = sym (list_at-of ends places h) ∙ ap (λ lists. list_at lists h) all
 
-  pub next-is : (h : ℕ) (xs ys : List ℕ) → list_at lists h ≡ xs ++ t ∷ ys → spot_place (after ends places (Place t)) ≡ slice_get ys 0
-  next-is h xs ys e = first_on (after ends places) h (Place t) ys (rest_after (after ends places) h t (End h) xs ys (subst (IsPath (after ends places) h (End h)) (walked_here h xs ys e) (ring.path h)))
+  pub next-is : (h : ℕ) → is_listed t (list_at lists h) ≡ true → spot_place (after ends places (Place t)) ≡ slice_get (following t (list_at lists h)) 0
+  next-is h there =
+      first_on (after ends places) h (Place t) (following t (list_at lists h))
+      (rest_after (after ends places) h t (End h) (list_at lists h) (subst (IsPath (after ends places) h (End h)) (walked_here h) (ring.path h)) there)
 
   -- a place that leads to itself stands in no list
-  pub leads_on : (h : ℕ) (xs ys : List ℕ) → list_at lists h ≡ xs ++ t ∷ ys → spot_place (after ends places (Place t)) ≡ Some t → ⊥
-  leads_on h xs ys e itself =
-      unlike (is_listed t (walked ends places h)) (ap (is_listed t) (walked_here h xs ys e) ∙ among t xs ys)
+  pub leads_on : (h : ℕ) → is_listed t (list_at lists h) ≡ true → spot_place (after ends places (Place t)) ≡ Some t → ⊥
+  leads_on h there itself =
+      unlike (is_listed t (walked ends places h)) (ap (is_listed t) (walked_here h) ∙ there)
       (off_path (after ends places) h (End h) (walked ends places h) t (leads _ t itself) (ring.once h) (ring.path h))
 
   pub nowhere_leads : StandsNowhere t lists → spot_place (after ends places (Place t)) ≡ Some t

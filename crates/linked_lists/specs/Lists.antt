@@ -1,5 +1,5 @@
 -- Lists of places, as callers see them.
-use Rattle.std.specs.Prelude.{◌≡◌, ℕ, ◌≤◌, Bool, true, false, not, nat_eq, List, [], filter, slice_index_or, refl}
+use Rattle.std.specs.Prelude.{◌≡◌, ℕ, ◌≤◌, Bool, true, false, not, nat_eq, List, [], ◌∷◌, filter, slice_index_or, refl, if◌then◌else◌}
 use Rattle.std.specs.List.{IsDistinct, list_any}
 use Rattle.std.specs.Coded.{Coded, code_by, coded×, coded_ℕ, coded_list}
 
@@ -26,6 +26,11 @@ is_listed t list = list_any (nat_eq t) list
 -- the list without the place t
 abbrev pub without : ℕ → List ℕ → List ℕ
 without t list = filter (λ u. not (nat_eq t u)) list
+
+-- what stands after the place t in the list
+abbrev pub following : ℕ → List ℕ → List ℕ
+following t [] = []
+following t (u ∷ list) = if nat_eq t u then list else following t list
 
 -- the list with the number h, empty where there is none
 abbrev pub list_at : List (List ℕ) → ℕ → List ℕ

@@ -1,7 +1,7 @@
 //! Lists that a place leaves from the middle without a walk.
 
-ghost use Rattle.std.specs.Prelude.{◌≡◌, ℕ, ◌+◌, ◌≤◌, ◌<◌, [], ◌∷◌, ◌++◌, None, IsOk, OnOk, OnErr, List, length, map, slice_get, slice_set};
-ghost use Rattle.linked_lists.specs.Lists.{list_at, without, StandsNowhere, IsSound};
+ghost use Rattle.std.specs.Prelude.{◌≡◌, ℕ, ◌+◌, ◌≤◌, ◌<◌, [], ◌∷◌, ◌++◌, true, None, IsOk, OnOk, OnErr, length, map, slice_get, slice_set};
+ghost use Rattle.linked_lists.specs.Lists.{is_listed, following, list_at, without, StandsNowhere, IsSound};
 
 use crate::links::{Link, Links, Spot, alone, place_in};
 use stab_base::NoMemory;
@@ -132,8 +132,8 @@ impl Lists {
     /// and for a place that stands in none.
     pub fn next(&self, place: usize) -> Option<usize>
         requires { (1 ≤ place) × (place ≤ self.now.places) }
-        ensures next { (h : ℕ) (xs ys : List ℕ) →
-            list_at self.now.lists h ≡ xs ++ place ∷ ys → result ≡ slice_get ys 0 }
+        ensures next { (h : ℕ) → is_listed place (list_at self.now.lists h) ≡ true →
+            result ≡ slice_get (following place (list_at self.now.lists h)) 0 }
         ensures nowhere { StandsNowhere place self.now.lists → result ≡ None }
     {
         let next = place_in(self.links.link(Spot::Place(place)).after);
