@@ -1,2 +1,4 @@
-pub mod Drops
-pub mod Places
+pub mod Changed
+pub mod Controls
+pub mod Found
+pub mod Order

@@ -1,10 +1,10 @@
 //! The controls that threads had before steps that may be undone.
 #![tactic(auto)]
 
-mod saved;
+mod entries;
 mod store;
 
-pub use store::{SaveRefused, Store};
+pub use store::Store;
 
 #[cfg(test)]
 mod tests;

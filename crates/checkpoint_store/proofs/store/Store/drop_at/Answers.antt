@@ -1,14 +1,13 @@
-use Rattle.std.proofs.Common.{not, ap, ◌∙◌}
-use Rattle.std.specs.FinMap.{retain_keys}
-use Rattle.checkpoint_store.specs.Saved.{saved_at, at}
-use Rattle.checkpoint_store.proofs.Places.{some_kept, saved-retain_keys}
-use Rattle.checkpoint_store.proofs.Drops.{turned, turned_back}
+use Rattle.std.proofs.Common.{None, not, ap, ◌∙◌}
+use Rattle.std.specs.FinMap.{get, retain_keys}
+use Rattle.checkpoint_store.specs.Saved.{at}
+use Rattle.checkpoint_store.proofs.Controls.{after_change, get-dropped}
 use Rattle.checkpoint_store.proofs.store.Store.drop_at.Goals as goal
 
 pub returns-clause-after : goal.returns-clause-after
 returns-clause-after g c =
-    some_kept c.self.inside.saved.entries c.drop_at.new.saved.entries (λ p. not (at c.args.q p)) (λ k. turned (at c.args.q k) _ _ (c.drop_at.ensures k))
-    ∙ ap (λ m. retain_keys m (λ p. not (at c.args.q p))) c.self.view_is
+    let old = c.args.self.now.controls in
+    after_change c.self.inside.entries.items c.drop_at.new.entries.items old (retain_keys old (λ p. not (at c.args.q p))) (at c.args.q) None (ap (λ s. s.controls) c.self.view_is) c.drop_at.ensures.left (get-dropped old (at c.args.q))
 
 pub returns-clause-rest : goal.returns-clause-rest
-returns-clause-rest g c = λ r u. ap (λ m. saved_at m r u) (returns-clause-after g c) ∙ saved-retain_keys c.args.self.now (λ p. not (at c.args.q p)) r u ∙ turned_back (at c.args.q (r, u)) (saved_at c.args.self.now r u)
+returns-clause-rest g c = λ r u. ap (λ m. get m (r, u)) (returns-clause-after g c) ∙ get-dropped c.args.self.now.controls (at c.args.q) (r, u)

@@ -1,31 +1,32 @@
-use Rattle.std.proofs.Common.{Result, Ok, Err, OnOk, ap, ◌∙◌}
-use Rattle.std.specs.FinMap.{insert}
-use Rattle.checkpoint_store.specs.Saved.{saved_at}
-use Rattle.checkpoint_store.proofs.Places.{one_saved, saved-insert}
+use Rattle.std.proofs.Common.{◌≡◌, ◌<◌, ℕ, Some, IsSome, length, refl, sym, ap, subst, ◌∙◌}
+use Rattle.std.specs.FinMap.{get, insert}
+use Rattle.std.specs.List.{slice_index_or}
+use Rattle.checkpoint_store.specs.declared.entries.Entry.{Entry}
+use Rattle.checkpoint_store.specs.Saved.{IsBelow, Place, same_place}
+use Rattle.checkpoint_store.specs.Layout.{found, IsKept}
+use Rattle.checkpoint_store.proofs.Found.{found-push}
+use Rattle.checkpoint_store.proofs.Order.{kept-push, kept-below, below-apart}
+use Rattle.checkpoint_store.proofs.Controls.{after_change, get-found, get-saved}
+use Rattle.checkpoint_store.proofs.store.Store.save.Given.{Over}
 use Rattle.checkpoint_store.proofs.store.Store.save.Goals as goal
-use Rattle.checkpoint_store.proofs.store.Store.save.Goals.{in-Ok+in-Some-1, in-Ok+in-None-1, in-Err}
 
-always : {T E : Type 0} (r : Result T E) (P : Type 0) → P → OnOk r P
-always (Ok x) P p = p
-always (Err e) P p = tt
+above : (g : Over) (c : goal.After-push_back_reserved g) (d : Entry g.row.C.Denot) (j : ℕ) → j < length c.self.inside.entries.items → IsBelow (slice_index_or c.self.inside.entries.items j d).place (c.args.q, c.args.t)
+above g c d = kept-below c.self.inside.entries.items (c.args.q, c.args.t) d c.self.invariant (λ k some.
+    c.requires.last k.0 k.1 (subst IsSome (sym (get-found c.self.inside.entries.items k) ∙ ap (λ s. get s.controls k) c.self.view_is) some))
 
-so : {T E : Type 0} (r : Result T E) (P Q : Type 0) → OnOk r P → (P → Q) → OnOk r Q
-so (Ok x) P Q p f = f p
-so (Err e) P Q p f = tt
+pub invariant_of-self : goal.invariant_of-self
+invariant_of-self g c =
+    let e : Entry g.row.C.Denot = record { place = (c.args.q, c.args.t); control = Some c.args.control } in
+    subst IsKept (sym c.push_back_reserved.ensures.items) (kept-push c.self.inside.entries.items e c.self.invariant (above g c e) refl)
 
-pub returns-clause-ok : goal.returns-clause-ok
-returns-clause-ok g c =
-    elim c.match-insert.branch [
-      | in-Ok+in-Some-1 w ↦
-          always c.match-insert.result _
-          (one_saved c.self.inside.saved.entries c.insert.new.self.entries (c.args.q, c.args.t) c.args.control w.in-Ok.ensures.updates.0
-          ∙ ap (λ m. insert m (c.args.q, c.args.t) c.args.control) c.self.view_is)
-      | in-Ok+in-None-1 w ↦
-          always c.match-insert.result _
-          (one_saved c.self.inside.saved.entries c.insert.new.self.entries (c.args.q, c.args.t) c.args.control w.in-Ok.ensures.updates.0
-          ∙ ap (λ m. insert m (c.args.q, c.args.t) c.args.control) c.self.view_is)
-      | in-Err w ↦ rw w.result-is tt
-    ]
+pub returns-clause-after : goal.returns-clause-after
+returns-clause-after g c =
+    let old = c.args.self.now.controls in
+    let place : Place = (c.args.q, c.args.t) in
+    let e : Entry g.row.C.Denot = record { place = place; control = Some c.args.control } in
+    after_change c.self.inside.entries.items c.push_back_reserved.new.self.items old (insert old place c.args.control) (same_place place) (Some c.args.control) (ap (λ s. s.controls) c.self.view_is)
+    (λ k. ap (λ es. found es k) c.push_back_reserved.ensures.items ∙ found-push c.self.inside.entries.items e k (λ j within. below-apart _ _ (above g c e j within)))
+    (λ k. get-saved old place k c.args.control)
 
 pub returns-clause-saved : goal.returns-clause-saved
-returns-clause-saved g c = so c.match-insert.result _ _ (returns-clause-ok g c) (λ is r u. ap (λ m. saved_at m r u) is ∙ saved-insert c.args.self.now c.args.q c.args.t c.args.control r u)
+returns-clause-saved g c = λ r u. ap (λ m. get m (r, u)) (returns-clause-after g c) ∙ get-saved c.args.self.now.controls (c.args.q, c.args.t) (r, u) c.args.control
