@@ -1,17 +1,17 @@
 -- What entries have after each change of theirs.
-use Rattle.std.proofs.Common.{◌≡◌, ◌≢◌, ◌⊎◌, inl, inr, ℕ, zero, suc, ◌+◌, ◌-◌, ◌<◌, ◌≤◌, Bool, true, false, cond, ◌&&◌, ◌||◌, nat_eq, nat_lt, List, [], ◌∷◌, ◌++◌, length, map, drop, Option, Some, None, IsSome, is_some, option_to_list, refl, sym, ap, subst, ◌∙◌, arith}
+use Rattle.std.proofs.Common.{◌≡◌, ◌≢◌, ◌⊎◌, inl, inr, ℕ, ◌+◌, ◌<◌, ◌≤◌, Bool, true, false, cond, ◌&&◌, ◌||◌, nat_eq, nat_lt, List, [], ◌∷◌, ◌++◌, length, drop, Option, Some, None, is_some, option_to_list, refl, sym, ap, subst, ◌∙◌, arith}
 use Rattle.std.specs.List.{slice_index_or, slice_set, AllWithin}
-use Rattle.std.proofs.Math.ListN.{get_or-map, length-set}
+use Rattle.std.proofs.Math.ListN.{get_or-map}
 use Rattle.std.proofs.Math.Seq.{map-set_same}
 use Rattle.std.proofs.lemmas.Bool.Decides.{nat_tests}
-use Rattle.std.proofs.lemmas.List.{length-map, get_or_default, get_or-set_same}
+use Rattle.std.proofs.lemmas.List.{get_or_default, get_or-set_same}
 use Rattle.std.proofs.lemmas.List.Elements.{AllWithin-set, AllWithin-more}
 use Rattle.stab_base.specs.declared.numbers.Seq.{Seq}
 use Rattle.checkpoint_store.specs.declared.entries.Entry.{Entry}
 use Rattle.checkpoint_store.specs.Saved.{Place, IsBelow, same_place, before, at}
 use Rattle.checkpoint_store.specs.Layout.{is_below, places_of, found, Rises, IsKept}
-use Rattle.checkpoint_store.proofs.Found.{found-none, found-set, found-at, found-hole, found-drop, found-absent}
-use Rattle.checkpoint_store.proofs.Order.{rises-at, rises-front, kept-drop, below-apart, same_self, not_below}
+use Rattle.checkpoint_store.proofs.Found.{found-none, found-set, found-hole, found-drop}
+use Rattle.checkpoint_store.proofs.Order.{rises-at, rises-front, kept-drop, below-apart}
 
 pub not_some : {T : Type 0} (o : Option T) → is_some o ≡ false → o ≡ None
 not_some None is = refl

@@ -1,11 +1,11 @@
 -- What entries have at a place, before and after a change.
-use Rattle.std.proofs.Common.{◌≡◌, ℕ, zero, suc, ◌+◌, ◌-◌, ◌<◌, ◌≤◌, Bool, true, false, cond, ◌&&◌, nat_eq, nat_lt, List, [], ◌∷◌, ◌++◌, length, take, drop, Option, Some, None, IsSome, refl, sym, ap, subst, ◌∙◌, arith}
-use Rattle.std.specs.List.{slice_index_or, slice_set, AllWithin}
+use Rattle.std.proofs.Common.{◌≡◌, ℕ, zero, suc, ◌<◌, Bool, true, false, cond, ◌&&◌, nat_eq, nat_lt, List, [], ◌∷◌, ◌++◌, length, drop, Option, None, refl, sym, ap, subst, ◌∙◌, arith}
+use Rattle.std.specs.List.{slice_index_or, slice_set}
 use Rattle.std.proofs.lemmas.Bool.Decides.{nat_tests}
 use Rattle.stab_base.specs.declared.numbers.Seq.{Seq}
 use Rattle.checkpoint_store.specs.declared.entries.Entry.{Entry}
-use Rattle.checkpoint_store.specs.Saved.{Place, IsBelow, same_place, before, at}
-use Rattle.checkpoint_store.specs.Layout.{is_below, places_of, found, Rises, IsKept}
+use Rattle.checkpoint_store.specs.Saved.{Place, same_place, before}
+use Rattle.checkpoint_store.specs.Layout.{found}
 
 -- places that are both one place are one
 twice_same : (a b c d e f : ℕ) → (nat_eq e a && nat_eq f b) ≡ true → (nat_eq e c && nat_eq f d) ≡ true → (nat_eq c a && nat_eq d b) ≡ true

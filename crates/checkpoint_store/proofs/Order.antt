@@ -1,15 +1,14 @@
 -- The order of places, and lists of entries that rise by it.
-use Rattle.std.proofs.Common.{◌≡◌, ◌⊎◌, inl, inr, ℕ, zero, suc, ◌+◌, ◌-◌, ◌<◌, ◌≤◌, Bool, true, false, ◌&&◌, ◌||◌, nat_eq, nat_lt, List, [], ◌∷◌, ◌++◌, length, map, drop, IsSome, refl, sym, ap, subst, ◌∙◌, arith, length-append}
-use Rattle.std.specs.List.{slice_index_or, All, AllPairs, AllWithin}
+use Rattle.std.proofs.Common.{◌≡◌, ◌⊎◌, inl, inr, ℕ, suc, ◌+◌, ◌-◌, ◌<◌, ◌≤◌, Bool, true, false, ◌&&◌, ◌||◌, nat_eq, nat_lt, List, [], ◌∷◌, ◌++◌, length, drop, IsSome, refl, sym, ap, subst, ◌∙◌, arith}
+use Rattle.std.specs.List.{slice_index_or, AllWithin}
 use Rattle.std.specs.List.Sorted.{IsPartitionedBy}
 use Rattle.std.proofs.lemmas.Bool.Decides.{nat_tests}
 use Rattle.std.proofs.Math.ListN.{get_or-map}
 use Rattle.std.proofs.Math.Seq.{get_or-append_seam}
 use Rattle.std.proofs.lemmas.List.{length-map, length_push, map-append, get_or_append_left, get_or_default, get_or-map as get_or-map_at}
 use Rattle.std.proofs.lemmas.List.Quantifiers.{all_pairs_push}
-use Rattle.stab_base.specs.declared.numbers.Seq.{Seq}
 use Rattle.checkpoint_store.specs.declared.entries.Entry.{Entry}
-use Rattle.checkpoint_store.specs.Saved.{Place, IsBelow, same_place, before}
+use Rattle.checkpoint_store.specs.Saved.{Place, IsBelow, same_place}
 use Rattle.checkpoint_store.specs.Layout.{is_below, places_of, found, Rises, IsKept}
 use Rattle.checkpoint_store.proofs.Found.{found-at}
 

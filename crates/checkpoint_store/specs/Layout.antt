@@ -1,5 +1,5 @@
 -- What callers see, from how it is kept: entries in rising order of their places, some of them holes.
-use Rattle.std.specs.Prelude.{◌≡◌, ℕ, ◌-◌, ◌<◌, Bool, List, [], ◌∷◌, Option, Some, None, IsSome, length, map, nat_eq, nat_lt, ◌&&◌, ◌||◌, cond}
+use Rattle.std.specs.Prelude.{ℕ, ◌-◌, ◌<◌, Bool, List, [], ◌∷◌, Option, Some, None, IsSome, length, map, nat_eq, nat_lt, ◌&&◌, ◌||◌, cond}
 use Rattle.std.specs.List.{AllPairs, slice_index_or}
 use Rattle.std.specs.VecDeque.{deque_len, deque_capacity}
 use Rattle.std.specs.declared.collections.VecDeque.{VecDeque}

@@ -1,4 +1,4 @@
-use Rattle.std.proofs.Common.{◌≡◌, ◌≤◌, None, cond, length}
+use Rattle.std.proofs.Common.{◌≡◌, None, cond, length}
 use Rattle.std.specs.List.{AllWithin}
 use Rattle.checkpoint_store.specs.Saved.{Place, at}
 use Rattle.checkpoint_store.specs.Layout.{places_of, found, spare_in}

@@ -1,8 +1,8 @@
-use Rattle.std.proofs.Common.{◌≡◌, ◌≤◌, ◌<◌, true, false, cond, None, length, refl, sym, ap, subst, ◌∙◌, arith}
-use Rattle.std.specs.List.{slice_index_or, slice_set, AllWithin}
+use Rattle.std.proofs.Common.{◌≡◌, ◌<◌, true, cond, None, length, refl, sym, ap, subst, ◌∙◌, arith}
+use Rattle.std.specs.List.{slice_index_or, slice_set}
 use Rattle.std.proofs.lemmas.List.{set-get_or}
 use Rattle.checkpoint_store.specs.Saved.{same_place}
-use Rattle.checkpoint_store.specs.Layout.{is_below, found}
+use Rattle.checkpoint_store.specs.Layout.{found}
 use Rattle.checkpoint_store.proofs.Found.{found-none, found-absent, found-at}
 use Rattle.checkpoint_store.proofs.Order.{absent-below, absent-beyond, not_below}
 use Rattle.checkpoint_store.proofs.Changed.{places-set, found-emptied, same-place}

@@ -1,7 +1,5 @@
-use Rattle.std.proofs.Common.{◌≡◌, ◌⊎◌, inl, ℕ, ◌<◌, ◌+◌, Bool, true, false, cond, ◌&&◌, Option, Some, IsSome, nat_eq, refl, subst, arith}
+use Rattle.std.proofs.Common.{◌≡◌, inl, ℕ, ◌<◌, ◌+◌, Bool, true, false, cond, ◌&&◌, Option, IsSome, nat_eq, refl, subst, arith}
 use Rattle.std.proofs.lemmas.Bool.Decides.{nat_tests}
-use Rattle.stab_base.specs.declared.numbers.Seq.{Seq}
-use Rattle.stab_base.specs.declared.numbers.ThreadId.{ThreadId}
 use Rattle.checkpoint_store.proofs.tests.save_next.Goals as goal
 
 pub save-requires-clause-last : goal.save-requires-clause-last
