@@ -1,5 +1,12 @@
-pub mod CallIsValid
-pub mod NegationLemmas
-pub mod SeenLemmas
+pub mod AllForms
+pub mod Crossing
+pub mod FormDepths
+pub mod InOrder
+pub mod LaidOut
+pub mod Lists
+pub mod Once
+mod CallIsValid
+pub mod Scopes
+pub mod Storing
+pub mod Trees
 pub mod ValidLemmas
-pub mod WalkLemmas

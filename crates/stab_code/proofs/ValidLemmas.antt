@@ -1,43 +1,83 @@
 -- What the facts of a valid program say of one function or node.
-use Rattle.std.proofs.Common.{◌≡◌, ℕ, zero, suc, ◌<◌, ◌≤◌, List, [], ◌∷◌, ◌++◌, map, length, slice_get, Some, ap, subst, arith, length-append}
+use Rattle.std.proofs.Common.{◌≡◌, ℕ, suc, zero, ◌+◌, ◌<◌, ◌≤◌, List, [], ◌++◌, length, slice_get, Option, Some, None, IfSome, IsSomeAnd, option_map, refl, sym, ap, subst, ◌∙◌, arith, length-append}
 use Rattle.std.specs.List.{All, range_with_len}
-use Rattle.std.proofs.lemmas.List.Elements.{All-head, All-tail}
+use Rattle.std.proofs.lemmas.List.Elements.{All-cons, All-nil, All-same, All-weaker}
 use Rattle.std.proofs.lemmas.List.FromFn.{length-range_with_len}
-use Rattle.std.proofs.lemmas.Option.{get_or_from_slice_get, slice_get_within}
-use Rattle.stab_code.specs.declared.node.NodeId.{NodeId}
-use Rattle.stab_code.specs.declared.node.Item.{Item}
-use Rattle.stab_code.specs.Parts.{form_of_item}
-use Rattle.stab_code.specs.ProgramParts.{FunctionParts, arity_of, ProgramParts}
-use Rattle.stab_code.specs.Scope.{lets_of}
-use Rattle.stab_code.specs.Valid.{SlotsAreInOrder}
-use Rattle.stab_code.specs.Walk.{value_at}
+use Rattle.stab_base.specs.declared.numbers.FnId.{FnId}
+use Rattle.stab_base.specs.declared.numbers.TextId.{TextId}
+use Rattle.stab_code.specs.declared.head.Head.{Head}
+use Rattle.stab_code.specs.declared.head.Head.TheVariants.{Block, Call, Spawn, Stable}
+use Rattle.stab_code.specs.Heads.{callee_of, text_of}
+use Rattle.stab_code.specs.Nodes.{NodeParts}
+use Rattle.stab_code.specs.Program.{FunctionParts, arity_of, ProgramParts, body_of}
+use Rattle.stab_code.specs.Syntax.{lets_of, named_in, open_in}
+use Rattle.stab_code.specs.Valid.{BlocksHaveItems, HasItem, MainIsThere, PartsFit, SlotsAreInOrder, TextsAreThere, VariablesAreSeen, parts_of}
+use Rattle.stab_code.proofs.Lists.{All-at, All-right}
+use Rattle.stab_code.proofs.Scopes.{named-open-let}
 
--- what holds of each item holds of the one that was found
-pub All-at : {X : Type 0} (P : X → Type 0) (xs : List X) (k : ℕ) (x : X) → All P xs → slice_get xs k ≡ Some x → P x
-All-at P xs k x all found = subst P (get_or_from_slice_get xs k x x found) (all k x (slice_get_within xs k x found))
+range-below : (n m end : ℕ) → n + m ≤ end → All (λ k. k < end) (range_with_len n m)
+range-below n zero end h = All-nil (λ k. k < end)
+range-below n (suc m) end h = All-cons (λ k. k < end) n (range_with_len (n + 1) m) (omega arith) (range-below (n + 1) m end (omega arith))
 
 arity_from_order : (arity slots : ℕ) (lets : List ℕ) → range_with_len 0 arity ++ lets ≡ range_with_len 0 slots → arity ≤ slots
 arity_from_order arity slots lets e =
     omega (arith, length-range_with_len 0 arity, length-range_with_len 0 slots, length-append (range_with_len 0 arity) lets, ap length e)
 
--- a function has at least as many slots as parameters
-pub arity_le-slots : (p : ProgramParts) → SlotsAreInOrder p → (k : ℕ) (f : FunctionParts) → slice_get p.functions k ≡ Some f → arity_of f ≤ f.slots
-arity_le-slots p in_order k f found =
-    let here = All-at (λ g. range_with_len 0 (arity_of g) ++ value_at [] (lets_of p.nodes) g.body ≡ range_with_len 0 g.slots) p.functions k f in_order found in
-    arity_from_order (arity_of f) f.slots (value_at [] (lets_of p.nodes) f.body) here
+module _ (p : ProgramParts) (in_order : SlotsAreInOrder p) (k : ℕ) (f : FunctionParts) (found : slice_get p.functions k ≡ Some f) where
+  slots_of_function : range_with_len 0 (arity_of f) ++ lets_of (body_of p f) ≡ range_with_len 0 f.slots
+  slots_of_function = All-at (λ g. range_with_len 0 (arity_of g) ++ lets_of (body_of p g) ≡ range_with_len 0 g.slots) p.functions k f in_order found
 
-abbrev IsBelow : ℕ → NodeId → Type 0
-IsBelow n part = part.0 < n
+  -- a function has at least as many slots as parameters
+  pub arity_le-slots : arity_of f ≤ f.slots
+  arity_le-slots = arity_from_order (arity_of f) f.slots (lets_of (body_of p f)) slots_of_function
 
--- the form of each item of a block is one of its parts, and so is the last form
-pub form_below : (n : ℕ) (items : List Item) (last : NodeId) → All (λ part. part.0 < n) (map form_of_item items ++ last ∷ []) → (k : ℕ) (item : Item) → slice_get items k ≡ Some item → (form_of_item item).0 < n
-form_below n [] last all k item found = absurd cc
-form_below n (x ∷ xs) last all zero item found =
-    let same : x ≡ item = cc in
-    subst (λ y. (form_of_item y).0 < n) same (All-head (IsBelow n) (form_of_item x) (map form_of_item xs ++ last ∷ []) all)
-form_below n (x ∷ xs) last all (suc k) item found =
-    form_below n xs last (All-tail (IsBelow n) (form_of_item x) (map form_of_item xs ++ last ∷ []) all) k item found
+  -- the slots of its lets are below their number
+  pub lets-below : All (λ slot. slot < f.slots) (lets_of (body_of p f))
+  lets-below =
+      All-right (λ slot. slot < f.slots) (range_with_len 0 (arity_of f)) (lets_of (body_of p f))
+      (All-same (λ slot. slot < f.slots) (range_with_len 0 (arity_of f) ++ lets_of (body_of p f)) (range_with_len 0 f.slots) slots_of_function (range-below 0 f.slots f.slots (omega arith)))
 
-pub last_below : (n : ℕ) (items : List Item) (last : NodeId) → All (λ part. part.0 < n) (map form_of_item items ++ last ∷ []) → last.0 < n
-last_below n [] last all = All-head (IsBelow n) last [] all
-last_below n (x ∷ xs) last all = last_below n xs last (All-tail (IsBelow n) (form_of_item x) (map form_of_item xs ++ last ∷ []) all)
+  -- and so is each slot that its body names
+  pub named-below : VariablesAreSeen p → All (λ slot. slot < f.slots) (named_in (body_of p f))
+  named-below seen =
+      let opened : All (λ slot. slot < arity_of f) (open_in (body_of p f)) = All-at (λ g. All (λ slot. slot < arity_of g) (open_in (body_of p g))) p.functions k f seen found in
+      named-open-let (λ slot. slot < f.slots) (body_of p f) (All-weaker (λ slot. slot < arity_of f) (λ slot. slot < f.slots) (λ slot h. omega (arith, arity_le-slots)) (open_in (body_of p f)) opened) lets-below
+
+parts_of-callee : (functions : List FunctionParts) (head : Head) (f : FnId) → callee_of head ≡ Some f → parts_of functions head ≡ option_map arity_of (slice_get functions f.0)
+parts_of-callee functions (Call g) f e = let same : g ≡ f = cc in ap (λ h. option_map arity_of (slice_get functions h.0)) same
+parts_of-callee functions (Spawn g) f e = let same : g ≡ f = cc in ap (λ h. option_map arity_of (slice_get functions h.0)) same
+parts_of-callee functions (Stable g) f e = let same : g ≡ f = cc in ap (λ h. option_map arity_of (slice_get functions h.0)) same
+parts_of-callee functions _ f e = absurd cc
+
+-- a function that is there, with so many parameters
+abbrev pub IsCallee : ProgramParts → FnId → ℕ → Type 0
+IsCallee p f arguments = (callee : FunctionParts) × (slice_get p.functions f.0 ≡ Some callee) × (arity_of callee ≡ arguments)
+
+with_arity : (p : ProgramParts) (f : FnId) (arguments : ℕ) (found : Option FunctionParts) → slice_get p.functions f.0 ≡ found → option_map arity_of found ≡ Some arguments → IsCallee p f arguments
+with_arity p f arguments None at e = absurd cc
+with_arity p f arguments (Some callee) at e = (callee, at, cc)
+
+module _ (p : ProgramParts) (fit : PartsFit p) (n : ℕ) (node : NodeParts) (found : slice_get p.nodes n ≡ Some node) where
+  pub node-fits : parts_of p.functions node.head ≡ Some (length node.parts)
+  node-fits = All-at (λ x. parts_of p.functions x.head ≡ Some (length x.parts)) p.nodes n node fit found
+
+  -- the function that a node names is there, and the node has its arguments
+  pub callee-fits : (f : FnId) → callee_of node.head ≡ Some f → IsCallee p f (length node.parts)
+  callee-fits f names = with_arity p f (length node.parts) (slice_get p.functions f.0) refl (sym (parts_of-callee p.functions node.head f names) ∙ node-fits)
+
+  -- a block has the forms of its items and a last one
+  pub block-fits : (slots : List (Option ℕ)) → node.head ≡ Block slots → length node.parts ≡ length slots + 1
+  block-fits slots is = let all : parts_of p.functions (Block slots) ≡ Some (length node.parts) = subst (λ h. parts_of p.functions h ≡ Some (length node.parts)) is node-fits in cc
+
+-- a block has an item
+pub block-items : (p : ProgramParts) → BlocksHaveItems p → (n : ℕ) (node : NodeParts) → slice_get p.nodes n ≡ Some node → (slots : List (Option ℕ)) → node.head ≡ Block slots → 0 < length slots
+block-items p have n node found slots is = subst HasItem is (All-at (λ x. HasItem x.head) p.nodes n node have found)
+
+-- the text that a node names is there
+pub text-there : (p : ProgramParts) → TextsAreThere p → (n : ℕ) (node : NodeParts) → slice_get p.nodes n ≡ Some node → (t : TextId) → text_of node.head ≡ Some t → t.0 < length p.texts
+text-there p there n node found t names =
+    subst (λ named. IfSome named (λ text. text.0 < length p.texts)) names (All-at (λ x. IfSome (text_of x.head) (λ text. text.0 < length p.texts)) p.nodes n node there found)
+
+-- main takes nothing
+pub main-takes : (p : ProgramParts) → MainIsThere p → (main : FunctionParts) → slice_get p.functions p.main.0 ≡ Some main → main.takes ≡ []
+main-takes p there main found = subst (λ o. IsSomeAnd o (λ f. f.takes ≡ [])) found there

@@ -1,7 +1,7 @@
 -- What a run is given.
 use Rattle.std.specs.Prelude.{ℕ, ◌≤◌, ℤ, List, length}
 use Rattle.stab_code.specs.Limits.{max_fuel, max_quantum, max_script}
-use Rattle.stab_code.specs.ProgramParts.{ProgramParts}
+use Rattle.stab_code.specs.Program.{ProgramParts}
 
 -- a job: a program, the numbers that its probes get, its fuel, and the most steps that a thread makes at a time
 pub record JobParts : Type 0 where

@@ -1,120 +1,68 @@
 -- Which programs are valid. Each fact is a definition of its own.
-use Rattle.std.specs.Prelude.{◌≡◌, ℕ, ◌<◌, ◌≤◌, ◌^◌, ⊤, [], ◌++◌, length, slice_get, Some, IfSome, IsSomeAnd}
+use Rattle.std.specs.Prelude.{◌≡◌, ℕ, ◌+◌, ◌<◌, ◌≤◌, ◌^◌, ⊤, List, [], ◌++◌, length, slice_get, Option, Some, IfSome, IsSomeAnd, option_map}
 use Rattle.std.specs.List.{All, range_with_len}
-use Rattle.stab_code.specs.declared.node.Node.{Node}
-use Rattle.stab_code.specs.declared.node.Node.TheVariants.{Unit, Truth, Int, Text, Var, Block, If, Two, Not, Neg, Pair, Fst, Snd, Call, Spawn, Stable, NewChan, NewRef, Get, Set, Send, Recv, Pick, Stabilize, Cut, Pin, Print, Probe, Attempt}
-use Rattle.stab_code.specs.FormDepth.{depths_of}
+use Rattle.stab_code.specs.declared.head.Head.{Head}
+use Rattle.stab_code.specs.declared.head.Head.TheVariants.{Block, If, Two, Not, Neg, Pair, Fst, Snd, Call, Spawn, Stable, NewRef, Get, Set, Send, Recv, Pick, Print}
+use Rattle.stab_code.specs.Heads.{text_of}
+use Rattle.stab_code.specs.Layout.{nodes_of_all, own_nodes}
 use Rattle.stab_code.specs.Limits.{max_form_depth}
-use Rattle.stab_code.specs.Parts.{parts_of, call_of}
-use Rattle.stab_code.specs.ProgramParts.{arity_of, ProgramParts}
-use Rattle.stab_code.specs.Scope.{lets_of, named_by, open_in}
-use Rattle.stab_code.specs.Walk.{value_at}
+use Rattle.stab_code.specs.Program.{FunctionParts, ProgramParts, arity_of, bodies_of, body_of, trees_at}
+use Rattle.stab_code.specs.Syntax.{depth_of, lets_of, open_in}
 
--- each part of a node has a smaller number than the node
-abbrev pub PartsAreBelow : ProgramParts → Type 0
-PartsAreBelow p = (n : ℕ) (node : Node) → slice_get p.nodes n ≡ Some node → All (λ part. part.0 < n) (parts_of node)
+-- the nodes are those of the functions' bodies, function after function
+pub record NodesAreInOrder (p : ProgramParts) : Type 0 where
+  pub nodes : nodes_of_all 0 (trees_at p (bodies_of p)) ≡ p.nodes
+  pub bodies : own_nodes 0 (trees_at p (bodies_of p)) ≡ bodies_of p
 
--- each function's body is there
-abbrev pub BodiesAreThere : ProgramParts → Type 0
-BodiesAreThere p = All (λ f. f.body.0 < length p.nodes) p.functions
+-- how many parts a head has: a call, a spawn and a stable section as many as a function of the program takes
+abbrev pub parts_of : List FunctionParts → Head → Option ℕ
+parts_of functions (Block slots) = Some (length slots + 1)
+parts_of functions (Call f) = option_map arity_of (slice_get functions f.0)
+parts_of functions (Spawn f) = option_map arity_of (slice_get functions f.0)
+parts_of functions (Stable f) = option_map arity_of (slice_get functions f.0)
+parts_of functions If = Some 3
+parts_of functions (Two op) = Some 2
+parts_of functions Pair = Some 2
+parts_of functions Set = Some 2
+parts_of functions Send = Some 2
+parts_of functions Pick = Some 2
+parts_of functions Not = Some 1
+parts_of functions Neg = Some 1
+parts_of functions Fst = Some 1
+parts_of functions Snd = Some 1
+parts_of functions NewRef = Some 1
+parts_of functions Get = Some 1
+parts_of functions Recv = Some 1
+parts_of functions Print = Some 1
+parts_of functions _ = Some 0
 
--- each function that a call, a spawn or a stable section names is there
-abbrev pub FunctionsAreThere : ProgramParts → Type 0
-FunctionsAreThere p = All (λ node. IfSome (call_of node) (λ call. call.callee.0 < length p.functions)) p.nodes
-
--- each call, spawn and stable section has as many arguments as its function takes
-abbrev pub ArgumentsFit : ProgramParts → Type 0
-ArgumentsFit p =
-    All (λ node. IfSome (call_of node) (λ call. IfSome (slice_get p.functions call.callee.0) (λ f. length call.args ≡ arity_of f))) p.nodes
-
--- a node that names a text names one below the count
-abbrev pub NamesTextBelow : ℕ → Node → Type 0
-NamesTextBelow count Unit = ⊤
-NamesTextBelow count (Truth truth) = ⊤
-NamesTextBelow count (Int number) = ⊤
-NamesTextBelow count (Text t) = t.0 < count
-NamesTextBelow count (Var slot) = ⊤
-NamesTextBelow count (Block items last) = ⊤
-NamesTextBelow count (If condition first second) = ⊤
-NamesTextBelow count (Two op left right) = ⊤
-NamesTextBelow count (Not operand) = ⊤
-NamesTextBelow count (Neg operand) = ⊤
-NamesTextBelow count (Pair first second) = ⊤
-NamesTextBelow count (Fst pair) = ⊤
-NamesTextBelow count (Snd pair) = ⊤
-NamesTextBelow count (Call f args) = ⊤
-NamesTextBelow count (Spawn f args) = ⊤
-NamesTextBelow count (Stable f args) = ⊤
-NamesTextBelow count (NewChan carried) = ⊤
-NamesTextBelow count (NewRef value) = ⊤
-NamesTextBelow count (Get reference) = ⊤
-NamesTextBelow count (Set reference value) = ⊤
-NamesTextBelow count (Send chan value) = ⊤
-NamesTextBelow count (Recv chan) = ⊤
-NamesTextBelow count (Pick first second) = ⊤
-NamesTextBelow count Stabilize = ⊤
-NamesTextBelow count Cut = ⊤
-NamesTextBelow count Pin = ⊤
-NamesTextBelow count (Print value) = ⊤
-NamesTextBelow count Probe = ⊤
-NamesTextBelow count Attempt = ⊤
+-- each node has as many parts as its head, so each function that one names is there
+abbrev pub PartsFit : ProgramParts → Type 0
+PartsFit p = All (λ node. parts_of p.functions node.head ≡ Some (length node.parts)) p.nodes
 
 -- each text that a node names is there
 abbrev pub TextsAreThere : ProgramParts → Type 0
-TextsAreThere p = All (NamesTextBelow (length p.texts)) p.nodes
+TextsAreThere p = All (λ node. IfSome (text_of node.head) (λ text. text.0 < length p.texts)) p.nodes
 
--- each slot that a function's body names is one of the function's
-abbrev pub SlotsAreThere : ProgramParts → Type 0
-SlotsAreThere p = All (λ f. All (λ slot. slot < f.slots) (value_at [] (named_by p.nodes) f.body)) p.functions
+-- each block has an item
+abbrev pub HasItem : Head → Type 0
+HasItem (Block slots) = 0 < length slots
+HasItem _ = ⊤
 
--- the parameters of a function and then its lets, in order of writing, have its slots one by one
+abbrev pub BlocksHaveItems : ProgramParts → Type 0
+BlocksHaveItems p = All (λ node. HasItem node.head) p.nodes
+
+-- the parameters of a function and then its lets, in the order of writing, have its slots one by one
 abbrev pub SlotsAreInOrder : ProgramParts → Type 0
-SlotsAreInOrder p =
-    All (λ f. range_with_len 0 (arity_of f) ++ value_at [] (lets_of p.nodes) f.body ≡ range_with_len 0 f.slots) p.functions
+SlotsAreInOrder p = All (λ f. range_with_len 0 (arity_of f) ++ lets_of (body_of p f) ≡ range_with_len 0 f.slots) p.functions
 
 -- the slots that a body leaves open are parameters', so with SlotsAreInOrder each variable stands where its let or parameter is seen
 abbrev pub VariablesAreSeen : ProgramParts → Type 0
-VariablesAreSeen p = All (λ f. All (λ slot. slot < arity_of f) (value_at [] (open_in p.nodes) f.body)) p.functions
-
--- a node that is a block has an item
-abbrev pub HasItems : Node → Type 0
-HasItems Unit = ⊤
-HasItems (Truth truth) = ⊤
-HasItems (Int number) = ⊤
-HasItems (Text text) = ⊤
-HasItems (Var slot) = ⊤
-HasItems (Block items last) = 0 < length items
-HasItems (If condition first second) = ⊤
-HasItems (Two op left right) = ⊤
-HasItems (Not operand) = ⊤
-HasItems (Neg operand) = ⊤
-HasItems (Pair first second) = ⊤
-HasItems (Fst pair) = ⊤
-HasItems (Snd pair) = ⊤
-HasItems (Call f args) = ⊤
-HasItems (Spawn f args) = ⊤
-HasItems (Stable f args) = ⊤
-HasItems (NewChan carried) = ⊤
-HasItems (NewRef value) = ⊤
-HasItems (Get reference) = ⊤
-HasItems (Set reference value) = ⊤
-HasItems (Send chan value) = ⊤
-HasItems (Recv chan) = ⊤
-HasItems (Pick first second) = ⊤
-HasItems Stabilize = ⊤
-HasItems Cut = ⊤
-HasItems Pin = ⊤
-HasItems (Print value) = ⊤
-HasItems Probe = ⊤
-HasItems Attempt = ⊤
-
--- each block has an item
-abbrev pub BlocksHaveItems : ProgramParts → Type 0
-BlocksHaveItems p = All HasItems p.nodes
+VariablesAreSeen p = All (λ f. All (λ slot. slot < arity_of f) (open_in (body_of p f))) p.functions
 
 -- no form is deeper than the limit
 abbrev pub DepthsAreWithin : ProgramParts → Type 0
-DepthsAreWithin p = All (λ depth. depth ≤ max_form_depth) (depths_of p.nodes)
+DepthsAreWithin p = All (λ f. depth_of (body_of p f) ≤ max_form_depth) p.functions
 
 -- main is there and takes nothing
 abbrev pub MainIsThere : ProgramParts → Type 0
@@ -126,15 +74,12 @@ CountsAreWithin p = (length p.functions < 2 ^ 32) × (length p.nodes < 2 ^ 32) �
 
 -- a program that can be run
 pub record IsValid (p : ProgramParts) : Type 0 where
-  pub parts_below : PartsAreBelow p
-  pub bodies_there : BodiesAreThere p
-  pub functions_there : FunctionsAreThere p
-  pub arguments_fit : ArgumentsFit p
+  pub nodes_in_order : NodesAreInOrder p
+  pub parts_fit : PartsFit p
   pub texts_there : TextsAreThere p
-  pub slots_there : SlotsAreThere p
+  pub blocks_have_items : BlocksHaveItems p
   pub slots_in_order : SlotsAreInOrder p
   pub variables_seen : VariablesAreSeen p
-  pub blocks_have_items : BlocksHaveItems p
   pub depths_within : DepthsAreWithin p
   pub main_there : MainIsThere p
   pub counts_within : CountsAreWithin p

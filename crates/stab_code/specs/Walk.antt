@@ -1,18 +1,20 @@
 -- Going through a list of nodes from the front, so that the parts of a node come before it.
-use Rattle.std.specs.Prelude.{List, [], ◌∷◌, ◌++◌, slice_get, unwrap_or}
-use Rattle.stab_code.specs.declared.node.NodeId.{NodeId}
-use Rattle.stab_code.specs.declared.node.Node.{Node}
+use Rattle.std.specs.Prelude.{List, [], ◌∷◌, ◌++◌, map, slice_get, unwrap_or}
+use Rattle.stab_code.specs.declared.head.Head.{Head}
+use Rattle.stab_code.specs.declared.head.Head.TheVariants.{Unit}
+use Rattle.stab_code.specs.declared.node_id.NodeId.{NodeId}
+use Rattle.stab_code.specs.Nodes.{NodeParts}
 
-module _ {A : Type 0} (none : A) where
-  -- the value of a node, or none where the number isn't there
-  abbrev pub value_at : List A → NodeId → A
-  value_at values n = unwrap_or (slice_get values n.0) none
+module _ {A : Type 0} (value : Head → List A → A) where
+  -- the value of a number among those so far; where there is none, that of a form without parts
+  abbrev pub value_among : List A → NodeId → A
+  value_among values n = unwrap_or (slice_get values n.0) (value Unit [])
 
-  -- the values of the nodes so far, followed by those of further nodes
-  abbrev pub values_after : ((NodeId → A) → Node → A) → List A → List Node → List A
-  values_after value values [] = values
-  values_after value values (node ∷ rest) = values_after value (values ++ value (value_at values) node ∷ []) rest
+  -- the values so far, and those of further nodes, each from its head and the values of its parts
+  abbrev pub values_after : List A → List NodeParts → List A
+  values_after values [] = values
+  values_after values (node ∷ nodes) = values_after (values ++ value node.head (map (value_among values) node.parts) ∷ []) nodes
 
-  -- a value for each node, which is made from the values of its parts
-  abbrev pub values_of : ((NodeId → A) → Node → A) → List Node → List A
-  values_of value nodes = values_after value [] nodes
+  -- a value for each node
+  abbrev pub values_of : List NodeParts → List A
+  values_of nodes = values_after [] nodes

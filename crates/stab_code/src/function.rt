@@ -1,8 +1,8 @@
 //! The functions of a program.
 ghost use Rattle.std.specs.Prelude.{◌≡◌, ◌≤◌};
-ghost use Rattle.stab_code.specs.ProgramParts.{arity_of, function_of};
+ghost use Rattle.stab_code.specs.Program.{arity_of, function_of};
 
-use crate::node::NodeId;
+use crate::node_id::NodeId;
 use crate::same::{Same, all_same};
 use crate::ty::Ty;
 use std::marker::Model;
@@ -18,7 +18,7 @@ pub struct Function {
 
 impl Model for Function {
     ghost use Rattle.std.specs.Coded.{codes};
-    ghost use Rattle.stab_code.specs.ProgramParts.{FunctionParts, function_of};
+    ghost use Rattle.stab_code.specs.Program.{FunctionParts, function_of};
     ghost use Rattle.stab_code.specs.WrittenCode.{coded_written};
 
     ghost Value = { FunctionParts };

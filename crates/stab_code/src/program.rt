@@ -1,11 +1,13 @@
 //! Whole programs.
 ghost use Rattle.std.specs.Prelude.{◌≡◌, ◌↔◌, length, option_map, slice_get, IsTrue};
 ghost use Rattle.std.specs.Option.{option_copied};
-ghost use Rattle.stab_code.specs.ProgramParts.{arity_of, program_of};
+ghost use Rattle.stab_code.specs.Program.{arity_of, program_of};
 ghost use Rattle.stab_code.specs.Valid.{IsValid};
 
 use crate::function::Function;
-use crate::node::{Node, NodeId};
+use crate::node::Node;
+use crate::node_id::NodeId;
+use crate::nodes::Nodes;
 use crate::same::{Same, all_same};
 use stab_base::{FnId, Texts};
 use std::marker::Model;
@@ -15,32 +17,32 @@ use std::marker::Model;
 #[derive(Debug, Drop)]
 pub struct Program {
     functions: Vec<Function>,
-    nodes: Vec<Node>,
+    nodes: Nodes,
     texts: Texts,
     main: FnId,
 }
 
 impl Model for Program {
     ghost use Rattle.std.specs.Coded.{codes};
-    ghost use Rattle.stab_code.specs.ProgramParts.{ProgramParts, program_of};
+    ghost use Rattle.stab_code.specs.Program.{ProgramParts, program_of};
     ghost use Rattle.stab_code.specs.Valid.{IsValid};
     ghost use Rattle.stab_code.specs.WrittenCode.{coded_written};
-    ghost use Rattle.stab_code.specs.contracts.node.Node as node;
+    ghost use Rattle.stab_code.specs.contracts.head.Head as whole_head;
 
     ghost Value = { ProgramParts };
 
-    ghost coded = { Prim.hlevel (codes, coded_written, node.the_row.coded) };
+    ghost coded = { Prim.hlevel (codes, coded_written, whole_head.the_row.coded) };
 
-    ghost view = { λ p. program_of p.functions.items p.nodes.items p.texts p.main };
+    ghost view = { λ p. program_of p.functions.items p.nodes p.texts p.main };
 
-    ghost invariant = { λ p. IsValid (program_of p.functions.items p.nodes.items p.texts p.main) };
+    ghost invariant = { λ p. IsValid (program_of p.functions.items p.nodes p.texts p.main) };
 }
 
 impl Program {
     /// The program of these parts, each of which the caller knows to fit the others.
-    pub fn new(functions: Vec<Function>, nodes: Vec<Node>, texts: Texts, main: FnId) -> Program
-        requires { IsValid (program_of functions.items nodes.items texts main) }
-        ensures { result ≡ program_of functions.items nodes.items texts main }
+    pub fn new(functions: Vec<Function>, nodes: Nodes, texts: Texts, main: FnId) -> Program
+        requires { IsValid (program_of functions.items nodes texts main) }
+        ensures { result ≡ program_of functions.items nodes texts main }
     {
         Program {
             functions,
@@ -75,11 +77,11 @@ impl Program {
     }
 
     /// A node by its number.
-    pub fn node(&self, n: NodeId) -> Option<&Node>
-        ensures value { option_copied result ≡ slice_get self.now.nodes n.0 }
+    pub fn node(&self, n: NodeId) -> Option<Node<'_>>
+        ensures value { result ≡ slice_get self.now.nodes n.0 }
         ensures valid { IsValid self.now }
     {
-        self.nodes.get(n.0 as usize)
+        self.nodes.get(n)
     }
 
     /// The function in which a run begins.
@@ -113,6 +115,6 @@ impl Program {
         self.main == other.main
             && self.texts.same(&other.texts)
             && all_same(&self.functions, &other.functions)
-            && all_same(&self.nodes, &other.nodes)
+            && self.nodes.same(&other.nodes)
     }
 }
