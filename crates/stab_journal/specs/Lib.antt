@@ -1,6 +1,14 @@
+pub mod Dependence
+pub mod Due
 pub mod Entries
 pub mod Event
+pub mod Floor
+pub mod Generation
 pub mod Journal
 pub mod Label
+pub mod Names
 pub mod Own
+pub mod Reached
+pub mod Script
+pub mod Surviving
 pub mod View
