@@ -1,0 +1,128 @@
+//! The pass that finds what is reached.
+
+ghost use Rattle.std.specs.Prelude.{◌≡◌, ℕ, false, cond, ◌||◌, nat_eq, [], ◌∷◌, ◌++◌, IfOk, OnOk, map};
+ghost use Rattle.std.specs.List.{list_any};
+ghost use Rattle.std.specs.Ordering.{nat_cmp};
+ghost use Rattle.std.specs.BTreeSet.{contains};
+ghost use Rattle.stab_journal.specs.Label.{actors, touched, written};
+ghost use Rattle.stab_journal.specs.declared.event.Numbered.{Numbered};
+ghost use Rattle.stab_journal.specs.Names.{has, is_at, read};
+ghost use Rattle.stab_journal.specs.Reached.{reached, reads_of, is_reached};
+ghost use Rattle.journal_laws.specs.Pass.{lost_in};
+
+use stab_base::{NoMemory, Seq};
+use stab_journal::{Label, Numbered};
+use std::alloc::Global;
+use std::collections::BTreeSet;
+
+fn acts_among(threads: &BTreeSet<u32>, label: Label) -> bool
+    ensures { result ≡ list_any (contains nat_cmp threads.now) (actors label) }
+{
+    match label {
+        Label::Comm(s, r, _) => threads.contains(&s.0) || threads.contains(&r.0),
+        Label::Local(t, _) => threads.contains(&t.0),
+        Label::Spawn(t, _) => threads.contains(&t.0),
+        Label::NewChan(t, _) => threads.contains(&t.0),
+        Label::NewRef(t, _) => threads.contains(&t.0),
+        Label::Get(t, _) => threads.contains(&t.0),
+        Label::Set(t, _) => threads.contains(&t.0),
+        Label::Enter(t) => threads.contains(&t.0),
+        Label::Cut(t) => threads.contains(&t.0),
+        Label::Print(t) => threads.contains(&t.0),
+        Label::Probe(t, _) => threads.contains(&t.0),
+        Label::Refuse(t) => threads.contains(&t.0),
+        Label::Pin(t) => threads.contains(&t.0),
+        Label::Attempt(t, _) => threads.contains(&t.0),
+    }
+}
+
+fn reads_among(references: &BTreeSet<u32>, label: Label) -> bool
+    ensures { result ≡ reads_of (read label) (contains nat_cmp references.now) }
+{
+    match label {
+        Label::Get(_, r) => references.contains(&r.0),
+        _ => false,
+    }
+}
+
+// The threads that a step touches; one that it touches alone stands twice.
+fn threads_of(label: Label) -> (u32, u32)
+    ensures { (q : ℕ) → has (touched label) q ≡ (nat_eq q result.0 || nat_eq q result.1) }
+{
+    match label {
+        Label::Comm(s, r, _) => (s.0, r.0),
+        Label::Spawn(t, u) => (t.0, u.0),
+        Label::Local(t, _) => (t.0, t.0),
+        Label::NewChan(t, _) => (t.0, t.0),
+        Label::NewRef(t, _) => (t.0, t.0),
+        Label::Get(t, _) => (t.0, t.0),
+        Label::Set(t, _) => (t.0, t.0),
+        Label::Enter(t) => (t.0, t.0),
+        Label::Cut(t) => (t.0, t.0),
+        Label::Print(t) => (t.0, t.0),
+        Label::Probe(t, _) => (t.0, t.0),
+        Label::Refuse(t) => (t.0, t.0),
+        Label::Pin(t) => (t.0, t.0),
+        Label::Attempt(t, _) => (t.0, t.0),
+    }
+}
+
+// The threads of a lost step are touched.
+fn touch(threads: &mut BTreeSet<u32>, label: Label, lost: bool) -> Result<(), NoMemory>
+    ensures { OnOk result ((q : ℕ) → contains nat_cmp threads.new q ≡ (cond lost (has (touched label) q) false || contains nat_cmp threads.old q)) }
+{
+    if lost {
+        let (t, u) = threads_of(label);
+        threads.insert(t)?;
+        threads.insert(u)?;
+    }
+    Ok(())
+}
+
+// The last write of what a step writes is lost where the step is.
+fn write(references: &mut BTreeSet<u32>, label: Label, lost: bool) -> Result<(), NoMemory>
+    ensures { OnOk result ((q : ℕ) → contains nat_cmp references.new q ≡ cond (is_at (written label) q) lost (contains nat_cmp references.old q)) }
+{
+    match label {
+        Label::NewRef(_, r) | Label::Set(_, r) => {
+            if lost {
+                references.insert(r.0)?;
+            } else {
+                references.remove(&r.0);
+            }
+        }
+        _ => {}
+    }
+    Ok(())
+}
+
+fn note(found: &mut Vec<Seq>, q: Seq, lost: bool) -> Result<(), NoMemory>
+    ensures { OnOk result (map (λ s. s.0) found.new.items ≡ map (λ s. s.0) found.old.items ++ cond lost (q.0 ∷ []) []) }
+{
+    if lost {
+        found.push(q)?;
+    }
+    Ok(())
+}
+
+fn is_hit(threads: &BTreeSet<u32>, references: &BTreeSet<u32>, step: Numbered, m: Seq) -> bool
+    ensures { result ≡ is_reached m.0 step (lost_in threads.now.keys references.now.keys) }
+{
+    m.0 == step.seq.0 || acts_among(threads, step.label) || reads_among(references, step.label)
+}
+
+/// The numbers that are reached from m, in order.
+pub fn reached(alloc: Global, run: &[Numbered], m: Seq) -> Result<Vec<Seq>, NoMemory>
+    ensures { IfOk result (λ v. map (λ s. s.0) v.items ≡ reached run.now m.0) }
+{
+    let mut threads = BTreeSet::new(alloc);
+    let mut references = BTreeSet::new(alloc);
+    let mut found = Vec::new(alloc);
+    for step in run {
+        let lost = is_hit(&threads, &references, *step, m);
+        note(&mut found, step.seq, lost)?;
+        touch(&mut threads, step.label, lost)?;
+        write(&mut references, step.label, lost)?;
+    }
+    Ok(found)
+}

@@ -1,0 +1,13 @@
+pub mod Applying
+pub mod Blocks
+pub mod Bodies
+pub mod Finding
+pub mod Inside
+pub mod Lists
+pub mod Looking
+pub mod Operands
+pub mod Putting
+pub mod Resting
+pub mod Showing
+pub mod Touching
+pub mod Unique

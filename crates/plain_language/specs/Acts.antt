@@ -1,0 +1,32 @@
+-- Acts as the machine names them.
+use Rattle.std.specs.Prelude.{ℕ, Option, Some, None}
+use Rattle.plain_language.specs.declared.act.Act.{Act}
+use Rattle.plain_language.specs.declared.act.Act.TheVariants.{Spawn, NewChan, NewRef, Get, Set, Send, Recv, Pick, Enter, Stabilize, Cut, Pin, Print, Probe, Attempt}
+use Rattle.plain_language.specs.Busy.{values_in}
+use Rattle.plain_language.specs.Expression.{Expr}
+use Rattle.plain_language.specs.Outcome.{Outcome, acts, called}
+use Rattle.plain_language.specs.Table as table
+use Rattle.plain_language.specs.Table.{spawns, makes_chan, makes_ref, gets, sets, sends, receives, picks, enters, stabilizes, cuts, pins, prints, probes, attempts}
+
+-- the act, where functions have these bodies
+abbrev pub act_of : (ℕ → Expr) → Act → table.Act Expr
+act_of body (Spawn f es) = spawns (called body f.0 (values_in es.now))
+act_of body NewChan = makes_chan
+act_of body (NewRef v) = makes_ref v.now
+act_of body (Get r) = gets r.0
+act_of body (Set r v) = sets r.0 v.now
+act_of body (Send c v) = sends c.0 v.now
+act_of body (Recv c) = receives c.0
+act_of body (Pick c d) = picks c.0 d.0
+act_of body (Enter f es) = enters (called body f.0 (values_in es.now))
+act_of body Stabilize = stabilizes
+act_of body Cut = cuts
+act_of body Pin = pins
+act_of body (Print v) = prints v.now
+act_of body Probe = probes
+act_of body Attempt = attempts
+
+-- the act that a redex is
+abbrev pub told : Outcome → Option (table.Act Expr)
+told (acts a) = Some a
+told _ = None

@@ -1,0 +1,17 @@
+-- What the values at hand give a variable.
+use Rattle.std.specs.Prelude.{ℕ, Option, Some, None, slice_get, option_and_then}
+use Rattle.stab_base.specs.Datum.{Datum}
+use Rattle.plain_language.specs.declared.given.Given.{Given}
+use Rattle.plain_language.specs.declared.given.Given.TheVariants.{Nothing, One, All}
+use Rattle.plain_language.specs.Expression.{Expr, value, only}
+
+-- the value that an expression is
+abbrev pub value_of : Expr → Option Datum
+value_of (value v) = Some v
+value_of _ = None
+
+-- by the slot of the variable
+abbrev pub given_to : Given → ℕ → Option Datum
+given_to Nothing x = None
+given_to (One y v) x = only y v.now x
+given_to (All es) x = option_and_then value_of (slice_get es.now x)

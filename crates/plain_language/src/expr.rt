@@ -1,0 +1,142 @@
+//! Expressions in memory.
+ghost use Rattle.std.specs.Prelude.{◌≡◌, IfOk};
+ghost use Rattle.std.specs.Option.{option_copied};
+ghost use Rattle.plain_language.specs.Busy.{is_value};
+ghost use Rattle.plain_language.specs.Given.{given_to, value_of};
+ghost use Rattle.plain_language.specs.Expression.{value, variable, failed, form, parts_of, put, put_parts};
+
+use crate::given::Given;
+use crate::head::Head;
+use stab_base::{Fault, NoMemory, Value};
+use std::alloc::Global;
+use std::marker::Model;
+
+/// An expression: a form of the syntax with values in place of variables. Contracts see it as an `Expr` of the
+/// definitions.
+#[derive(Debug, Drop)]
+#[cycle(expression)]
+pub struct Expr {
+    pub(crate) node: Node,
+}
+
+/// What an expression is.
+#[derive(Debug, Drop)]
+#[cycle(expression)]
+pub(crate) enum Node {
+    Value(Value),
+    Var(u32),
+    Fault(Fault),
+    Form(Head, Vec<Expr>),
+}
+
+impl Model for Expr {
+    ghost use Rattle.plain_language.specs.Expression.{Expr as Expression};
+    ghost use Rattle.plain_language.specs.ExpressionCode.{coded_expr};
+    ghost use Rattle.plain_language.specs.contracts.head.Head as head;
+    ghost use Rattle.stab_base.specs.contracts.fault.Fault as fault;
+    ghost use Rattle.plain_language.specs.Size.{size_of};
+
+    ghost Value = { Expression };
+
+    ghost coded = { coded_expr fault.the_row.coded head.the_row.coded };
+
+    ghost use Rattle.plain_language.specs.View.{expr_of};
+
+    ghost view = { λ e. expr_of e.node };
+
+    ghost size = { size_of };
+
+    ghost use Rattle.plain_language.specs.Falls.{deep_le-size};
+
+    ghost size_decreases = { λ e h. deep_le-size e.node };
+}
+
+impl Expr {
+    /// A value.
+    pub fn value(v: Value) -> Expr
+        ensures { result ≡ value v }
+    {
+        Expr {
+            node: Node::Value(v),
+        }
+    }
+
+    /// A variable, by its slot.
+    pub fn variable(slot: u32) -> Expr
+        ensures { result ≡ variable slot }
+    {
+        Expr {
+            node: Node::Var(slot),
+        }
+    }
+
+    /// What a fault leaves of a whole expression.
+    pub fn fault(k: Fault) -> Expr
+        ensures { result ≡ failed k }
+    {
+        Expr {
+            node: Node::Fault(k),
+        }
+    }
+
+    /// A form with its parts, from left to right.
+    pub fn form(head: Head, parts: Vec<Expr>) -> Expr
+        ensures { result ≡ form head (parts_of parts.items) }
+    {
+        Expr {
+            node: Node::Form(head, parts),
+        }
+    }
+
+    /// The value that the expression is.
+    pub fn as_value(&self) -> Option<&Value>
+        ensures { option_copied result ≡ value_of self.now }
+    {
+        match &self.node {
+            Node::Value(v) => Some(v),
+            _ => None,
+        }
+    }
+
+    /// Whether the expression is a value.
+    pub(crate) fn is_value(&self) -> bool
+        ensures { result ≡ is_value self.now }
+    {
+        matches!(&self.node, Node::Value(_))
+    }
+
+    /// An expression with the values at hand in place of its variables.
+    #[cycle(copies)]
+    pub(crate) fn put_copy(&self, alloc: Global, given: Given<'_>) -> Result<Expr, NoMemory>
+        ensures { IfOk result (λ copy. copy ≡ put (given_to given.entry) self.now) }
+    {
+        match &self.node {
+            Node::Value(v) => Ok(Expr::value(v.copy(alloc)?)),
+            Node::Var(slot) => match given.get(*slot) {
+                Some(v) => Ok(Expr::value(v.copy(alloc)?)),
+                None => Ok(Expr::variable(*slot)),
+            },
+            Node::Fault(k) => Ok(Expr::fault(*k)),
+            Node::Form(head, parts) => {
+                let copies = put_copies(alloc, parts, given)?;
+                Ok(Expr::form(head.copy(alloc)?, copies))
+            }
+        }
+    }
+}
+
+/// Expressions with the values at hand in place of their variables.
+#[cycle(copies)]
+pub(crate) fn put_copies(
+    alloc: Global,
+    parts: &[Expr],
+    given: Given<'_>,
+) -> Result<Vec<Expr>, NoMemory>
+    ensures { IfOk result (λ copies. parts_of copies.items ≡ put_parts (given_to given.entry) (parts_of parts.now)) }
+{
+    let mut copies = Vec::new(alloc);
+    for part in parts {
+        copies.push(part.put_copy(alloc, given)?)?;
+    }
+    Ok(copies)
+}

@@ -1,0 +1,22 @@
+//! The language in which a run's surviving steps make sense: expressions, states and steps.
+#![tactic(auto)]
+
+mod act;
+mod body;
+mod expr;
+mod given;
+mod head;
+mod laws;
+mod look;
+mod operators;
+mod pure;
+mod redex;
+#[cfg(test)]
+mod tests;
+
+pub use expr::Expr;
+pub use head::Head;
+pub use laws::{
+    one_redex, quiet_states_rest, shown_text_is_determined, steps_change_what_they_name,
+};
+pub use look::{ActKind, Look};

@@ -1,0 +1,152 @@
+//! What is next for an expression, and its next pure step.
+ghost use Rattle.std.specs.Prelude.{◌≡◌, ℕ, None, IfOk, MatchOption};
+ghost use Rattle.plain_language.specs.Acts.{act_of};
+ghost use Rattle.plain_language.specs.Expression.{Expr as Expression, value};
+ghost use Rattle.plain_language.specs.Look.{answered, entered, language, look};
+ghost use Rattle.plain_language.specs.Next.{IsNext};
+ghost use Rattle.plain_language.specs.Pures.{made_of};
+ghost use Rattle.plain_language.specs.Program.{body};
+ghost use Rattle.plain_language.specs.Redex.{cap};
+ghost use Rattle.plain_language.specs.Seen.{kind_of, seen};
+ghost use Rattle.plain_language.specs.Table.{pure_of, pure_steps};
+
+use crate::act::{Act, act_at};
+use crate::expr::{Expr, Node};
+use crate::pure::{Pure, pure_at};
+use stab_base::{Fault, NoMemory};
+use stab_code::Program;
+use std::alloc::Global;
+
+/// The kinds of acts.
+#[derive(Clone, Copy, PartialEq, Eq, Debug)]
+pub enum ActKind {
+    Spawn,
+    NewChan,
+    NewRef,
+    Get,
+    Set,
+    Send,
+    Recv,
+    Pick,
+    Enter,
+    Stabilize,
+    Cut,
+    Pin,
+    Print,
+    Probe,
+    Attempt,
+}
+
+/// What is next for an expression.
+#[derive(Clone, Copy, PartialEq, Eq, Debug)]
+pub enum Look {
+    /// It is a value.
+    Done,
+    /// It is a fault.
+    Failed(Fault),
+    /// One pure step.
+    Pure,
+    /// An act, whose operands have the right kinds.
+    Act(ActKind),
+}
+
+/// How many forms may stand round a redex.
+const MAX_SPINE: usize = 1000;
+
+impl Act<'_> {
+    /// The kind of the act.
+    pub(crate) fn kind(self) -> ActKind
+        ensures { (body : ℕ → Expression) → result ≡ kind_of (act_of body self.entry) }
+    {
+        match self {
+            Act::Spawn(_, _) => ActKind::Spawn,
+            Act::NewChan => ActKind::NewChan,
+            Act::NewRef(_) => ActKind::NewRef,
+            Act::Get(_) => ActKind::Get,
+            Act::Set(_, _) => ActKind::Set,
+            Act::Send(_, _) => ActKind::Send,
+            Act::Recv(_) => ActKind::Recv,
+            Act::Pick(_, _) => ActKind::Pick,
+            Act::Enter(_, _) => ActKind::Enter,
+            Act::Stabilize => ActKind::Stabilize,
+            Act::Cut => ActKind::Cut,
+            Act::Pin => ActKind::Pin,
+            Act::Print(_) => ActKind::Print,
+            Act::Probe => ActKind::Probe,
+            Act::Attempt => ActKind::Attempt,
+        }
+    }
+}
+
+impl Expr {
+    /// What is next.
+    pub fn look(&self) -> Look
+        ensures { (body : ℕ → Expression) → result ≡ seen (look body self.now) }
+    {
+        match &self.node {
+            Node::Value(_) => Look::Done,
+            Node::Fault(k) => Look::Failed(*k),
+            _ => match self.redex() {
+                None => Look::Failed(Fault::WrongKind),
+                Some((head, parts)) => match act_at(head, parts) {
+                    Some(act) => Look::Act(act.kind()),
+                    None => Look::Pure,
+                },
+            },
+        }
+    }
+
+    /// The expression, or a fault where too many forms stand round its redex.
+    pub(crate) fn capped(self) -> Expr
+        ensures { result ≡ cap self }
+    {
+        match self.passes(MAX_SPINE) {
+            Some(true) => Expr::fault(Fault::TooDeep),
+            _ => self,
+        }
+    }
+
+    /// What the redex makes, where there is one and it is no act.
+    fn next_pure(&self, alloc: Global, program: &Program) -> Result<Option<Pure>, NoMemory>
+        ensures { IfOk result (λ o. MatchOption o (pure_of (language (body program.now)) (look (body program.now) self.now) ≡ None)
+            (λ p. IsNext (body program.now) self.now (made_of p))) }
+    {
+        let Some((head, parts)) = self.redex() else {
+            return Ok(None);
+        };
+        match act_at(head, parts) {
+            Some(_act) => Ok(None),
+            None => Ok(Some(pure_at(alloc, program, head, parts)?)),
+        }
+    }
+
+    /// The expression after its pure step, if it has one.
+    pub(crate) fn stepped(self, alloc: Global, program: &Program) -> Result<Option<Expr>, NoMemory>
+        ensures { IfOk result (λ o. o ≡ pure_of (language (body program.now)) (look (body program.now) self)) }
+    {
+        match self.next_pure(alloc, program)? {
+            None => Ok(None),
+            Some(Pure::Fails(k)) => Ok(Some(Expr::fault(k))),
+            Some(Pure::Becomes(r)) => Ok(Some(self.rebuilt(r).capped())),
+        }
+    }
+
+    /// The expression after so many pure steps, if it has them.
+    pub(crate) fn stepped_times(
+        self,
+        alloc: Global,
+        program: &Program,
+        n: u32,
+    ) -> Result<Option<Expr>, NoMemory>
+        ensures { IfOk result (λ o. o ≡ pure_steps (language (body program.now)) n self) }
+    {
+        let mut e = self;
+        for _step in 0..n {
+            match e.stepped(alloc, program)? {
+                Some(next) => e = next,
+                None => return Ok(None),
+            }
+        }
+        Ok(Some(e))
+    }
+}

@@ -1,0 +1,268 @@
+//! What a redex that is no act makes.
+ghost use Rattle.std.specs.Prelude.{◌≡◌, ◌&&◌, nat_eq, length, option_and_then, pos, ◌-ℤ◌, not, false, true, None, IfOk, if◌then◌else◌};
+ghost use Rattle.plain_language.specs.Busy.{busy_at, counted, values_in, waiting_parts};
+ghost use Rattle.plain_language.specs.Expression.{value, parts_of, put_parts};
+ghost use Rattle.plain_language.specs.Operands.{one_of, outcome_of, truth_of};
+ghost use Rattle.plain_language.specs.Outcome.{outcome, after_item, block_of, branch_of, becomes, fails, by_operator, number, pair_of, truth_value, two_of, waiting_one, with_number, with_one, with_pair, with_truth, with_two};
+ghost use Rattle.plain_language.specs.Given.{given_to};
+ghost use Rattle.stab_base.specs.declared.fault.Fault.TheVariants.{WrongKind};
+ghost use Rattle.stab_code.specs.declared.head.Op.TheVariants.{Or, And};
+ghost use Rattle.plain_language.specs.Acts.{told};
+ghost use Rattle.plain_language.specs.Program.{body};
+ghost use Rattle.plain_language.specs.Redex.{first_counts_alone};
+ghost use Rattle.plain_language.specs.Pures.{made_of};
+
+use crate::act::{one, two};
+use crate::body::called;
+use crate::expr::{Expr, put_copies};
+use crate::given::Given;
+use crate::head::Head;
+use crate::operators::{negated, number_of, operate};
+use stab_base::{Fault, NoMemory, PairFault, Shape, Value};
+use stab_code::{Op, Program, Slots};
+use std::alloc::Global;
+
+/// What a redex that is no act makes: an expression in its place, or a fault.
+#[derive(Drop)]
+pub(crate) enum Pure {
+    Becomes(Expr),
+    Fails(Fault),
+}
+
+/// The truth value that a value is.
+fn as_truth(v: &Value) -> Option<bool>
+    ensures { result ≡ truth_of v.now }
+{
+    match v.shape() {
+        Shape::Truth(b) => Some(*b),
+        _ => None,
+    }
+}
+
+fn made(answer: Result<Value, Fault>) -> Pure
+    ensures { made_of result ≡ outcome_of answer }
+{
+    match answer {
+        Ok(v) => Pure::Becomes(Expr::value(v)),
+        Err(k) => Pure::Fails(k),
+    }
+}
+
+fn wrong_kind() -> Pure
+    ensures { made_of result ≡ fails WrongKind }
+{
+    Pure::Fails(Fault::WrongKind)
+}
+
+/// The next step of a block, whose first item is a value.
+fn item(alloc: Global, slots: &[Option<u32>], parts: &[Expr]) -> Result<Pure, NoMemory>
+    requires { busy_at true parts.now ≡ None }
+    ensures { IfOk result (λ p. made_of p ≡ with_one (counted true parts.now) (λ v. after_item slots.now v (waiting_parts true parts.now))) }
+{
+    let Some((first, rest)) = parts.split_first() else {
+        return Ok(wrong_kind());
+    };
+    let Some(v) = first.as_value() else {
+        return Ok(wrong_kind());
+    };
+    let Some((slot, left)) = slots.split_first() else {
+        return Ok(wrong_kind());
+    };
+    match slot {
+        Some(x) => left_of_block(alloc, left, rest, Given::One(*x, v)),
+        None => left_of_block(alloc, left, rest, Given::Nothing),
+    }
+}
+
+/// What is left of a block.
+fn left_of_block(
+    alloc: Global,
+    slots: &[Option<u32>],
+    parts: &[Expr],
+    given: Given<'_>,
+) -> Result<Pure, NoMemory>
+    ensures { IfOk result (λ p. made_of p ≡ block_of slots.now (put_parts (given_to given.entry) (parts_of parts.now))) }
+{
+    if is_last(slots, parts) {
+        Ok(Pure::Becomes(parts[0].put_copy(alloc, given)?))
+    } else {
+        let head = Head::Block(Slots::new(Vec::from_slice(alloc, slots)?));
+        Ok(Pure::Becomes(Expr::form(head, put_copies(alloc, parts, given)?)))
+    }
+}
+
+/// Whether the last expression of a block is all that is left.
+fn is_last(slots: &[Option<u32>], parts: &[Expr]) -> bool
+    ensures { result ≡ (nat_eq (length slots.now) 0 && nat_eq (length parts.now) 1) }
+{
+    slots.is_empty() && parts.len() == 1
+}
+
+/// The one part that waits.
+fn waiting(alloc: Global, parts: &[Expr]) -> Result<Pure, NoMemory>
+    ensures { IfOk result (λ p. made_of p ≡ waiting_one (waiting_parts true parts.now)) }
+{
+    if parts.len() == 2 {
+        Ok(Pure::Becomes(parts[1].put_copy(alloc, Given::Nothing)?))
+    } else {
+        Ok(wrong_kind())
+    }
+}
+
+/// The truth value of the first part.
+fn condition(parts: &[Expr]) -> Option<bool>
+    requires { busy_at true parts.now ≡ None }
+    ensures { result ≡ option_and_then truth_of (one_of (counted true parts.now)) }
+{
+    as_truth(parts.first()?.as_value()?)
+}
+
+/// The step of a branch.
+fn branch(alloc: Global, parts: &[Expr]) -> Result<Pure, NoMemory>
+    requires { busy_at true parts.now ≡ None }
+    ensures { IfOk result (λ p. made_of p ≡ with_one (counted true parts.now) (λ v. with_truth v (λ b. branch_of b (waiting_parts true parts.now)))) }
+{
+    let Some(holds) = condition(parts) else {
+        return Ok(wrong_kind());
+    };
+    if parts.len() != 3 {
+        return Ok(wrong_kind());
+    }
+    if holds {
+        Ok(Pure::Becomes(parts[1].put_copy(alloc, Given::Nothing)?))
+    } else {
+        Ok(Pure::Becomes(parts[2].put_copy(alloc, Given::Nothing)?))
+    }
+}
+
+/// The step of `&&`, which looks at its left side alone.
+fn both(alloc: Global, parts: &[Expr]) -> Result<Pure, NoMemory>
+    requires { busy_at true parts.now ≡ None }
+    ensures { IfOk result (λ p. made_of p ≡ two_of And (counted true parts.now) (waiting_parts true parts.now)) }
+{
+    match condition(parts) {
+        None => Ok(wrong_kind()),
+        Some(false) => Ok(made(Ok(Value::truth(false)))),
+        Some(true) => waiting(alloc, parts),
+    }
+}
+
+/// The step of `||`, which looks at its left side alone.
+fn either(alloc: Global, parts: &[Expr]) -> Result<Pure, NoMemory>
+    requires { busy_at true parts.now ≡ None }
+    ensures { IfOk result (λ p. made_of p ≡ two_of Or (counted true parts.now) (waiting_parts true parts.now)) }
+{
+    match condition(parts) {
+        None => Ok(wrong_kind()),
+        Some(true) => Ok(made(Ok(Value::truth(true)))),
+        Some(false) => waiting(alloc, parts),
+    }
+}
+
+/// The step of an operator that looks at both sides.
+fn operator(op: Op, parts: &[Expr]) -> Pure
+    requires { busy_at false parts.now ≡ None }
+    ensures { made_of result ≡ with_two (values_in parts.now) (by_operator op) }
+{
+    match two(parts) {
+        Some((v, w)) => made(operate(op, v, w)),
+        None => wrong_kind(),
+    }
+}
+
+/// The negation of a truth value.
+fn opposite(parts: &[Expr]) -> Pure
+    requires { busy_at false parts.now ≡ None }
+    ensures { made_of result ≡ with_one (values_in parts.now) (λ v. with_truth v (λ b. truth_value (not b))) }
+{
+    let Some(v) = one(parts) else {
+        return wrong_kind();
+    };
+    match as_truth(v) {
+        Some(b) => made(Ok(Value::truth(!b))),
+        None => wrong_kind(),
+    }
+}
+
+/// The negation of a number.
+fn negation(parts: &[Expr]) -> Pure
+    requires { busy_at false parts.now ≡ None }
+    ensures { made_of result ≡ with_one (values_in parts.now) (λ v. with_number v (λ n. number (pos 0 -ℤ n))) }
+{
+    let Some(v) = one(parts) else {
+        return wrong_kind();
+    };
+    match number_of(v) {
+        Some(n) => made(negated(n)),
+        None => wrong_kind(),
+    }
+}
+
+/// A pair, where it is within the limits.
+fn pair(alloc: Global, parts: &[Expr]) -> Result<Pure, NoMemory>
+    requires { busy_at false parts.now ≡ None }
+    ensures { IfOk result (λ p. made_of p ≡ with_two (values_in parts.now) pair_of) }
+{
+    let Some((v, w)) = two(parts) else {
+        return Ok(wrong_kind());
+    };
+    match Value::pair(alloc, v.copy(alloc)?, w.copy(alloc)?) {
+        Ok(pair) => Ok(made(Ok(pair))),
+        Err(PairFault::Deep(_, _)) => Ok(Pure::Fails(Fault::DeepValue)),
+        Err(PairFault::NoMemory(_, _)) => Err(NoMemory),
+    }
+}
+
+/// A part of a pair.
+fn part_of(alloc: Global, parts: &[Expr], second: bool) -> Result<Pure, NoMemory>
+    requires { busy_at false parts.now ≡ None }
+    ensures { IfOk result (λ p. made_of p ≡ with_one (values_in parts.now) (λ v. with_pair v (λ a b. becomes (value (if second then b else a))))) }
+{
+    let Some(v) = one(parts) else {
+        return Ok(wrong_kind());
+    };
+    match v.copy(alloc)?.split() {
+        Ok((a, b)) => Ok(made(Ok(if second { b } else { a }))),
+        Err(_) => Ok(wrong_kind()),
+    }
+}
+
+/// What a section gives, whose body is a value.
+fn left_section(alloc: Global, parts: &[Expr]) -> Result<Pure, NoMemory>
+    requires { busy_at false parts.now ≡ None }
+    ensures { IfOk result (λ p. made_of p ≡ with_one (values_in parts.now) (λ v. becomes (value v))) }
+{
+    match one(parts) {
+        Some(v) => Ok(made(Ok(v.copy(alloc)?))),
+        None => Ok(wrong_kind()),
+    }
+}
+
+/// What a redex that is no act makes.
+pub(crate) fn pure_at(
+    alloc: Global,
+    program: &Program,
+    head: &Head,
+    parts: &[Expr],
+) -> Result<Pure, NoMemory>
+    requires settled { busy_at (first_counts_alone head.now) parts.now ≡ None }
+    requires no_act { told (outcome (body program.now) head.now (counted (first_counts_alone head.now) parts.now) (waiting_parts (first_counts_alone head.now) parts.now)) ≡ None }
+    ensures { IfOk result (λ p. made_of p
+        ≡ outcome (body program.now) head.now (counted (first_counts_alone head.now) parts.now) (waiting_parts (first_counts_alone head.now) parts.now)) }
+{
+    match head {
+        Head::Block(slots) => item(alloc, slots.all(), parts),
+        Head::If => branch(alloc, parts),
+        Head::Two(Op::And) => both(alloc, parts),
+        Head::Two(Op::Or) => either(alloc, parts),
+        Head::Two(op) => Ok(operator(*op, parts)),
+        Head::Not => Ok(opposite(parts)),
+        Head::Neg => Ok(negation(parts)),
+        Head::Pair => pair(alloc, parts),
+        Head::Fst => part_of(alloc, parts, false),
+        Head::Snd => part_of(alloc, parts, true),
+        Head::Section(_) => left_section(alloc, parts),
+        Head::Call(f) => Ok(Pure::Becomes(called(alloc, program, *f, parts)?)),
+        _ => Ok(wrong_kind()),
+    }
+}
