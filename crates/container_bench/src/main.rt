@@ -1,10 +1,11 @@
-//! How long the containers of a run take with many entries, and the lexer with long texts.
+//! How long the containers of a run take with many entries, the lexer with long texts, and a program of many nodes.
 //!
 //! With the word `counts` it prints, for few entries, how many calls found what they were for.
 #![tactic(auto)]
 
 mod events;
 mod offers;
+mod programs;
 mod saved;
 mod scatter;
 mod table;

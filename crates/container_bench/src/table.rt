@@ -1,7 +1,7 @@
 //! What is printed.
 ghost use Rattle.std.specs.Prelude.{◌<◌, ◌≤◌, ◌+◌};
 
-use crate::{events, offers, saved, threads, tokens, writes};
+use crate::{events, offers, programs, saved, threads, tokens, writes};
 use stab_base::NoMemory;
 use std::alloc::Global;
 use std::io;
@@ -16,15 +16,17 @@ enum Container {
     CheckpointStore,
     StabJournal,
     StabLex,
+    StabCode,
 }
 
-const ALL: [Container; 6] = [
+const ALL: [Container; 7] = [
     Container::ThreadSlots,
     Container::Rendezvous,
     Container::RefLog,
     Container::CheckpointStore,
     Container::StabJournal,
     Container::StabLex,
+    Container::StabCode,
 ];
 
 const FEW: [u32; 3] = [10, 20, 40];
@@ -43,6 +45,7 @@ impl Container {
             Container::CheckpointStore => "checkpoint_store",
             Container::StabJournal => "stab_journal",
             Container::StabLex => "stab_lex",
+            Container::StabCode => "stab_code",
         }
     }
 
@@ -56,6 +59,7 @@ impl Container {
             Container::CheckpointStore => saved::run(alloc, n),
             Container::StabJournal => events::run(alloc, n),
             Container::StabLex => tokens::run(alloc, n),
+            Container::StabCode => programs::run(alloc, n),
         }
     }
 }
