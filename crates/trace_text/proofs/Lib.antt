@@ -1,0 +1,13 @@
+pub mod Pieces
+pub mod Entries
+pub mod Digits
+pub mod Numerals
+pub mod Splits
+pub mod Shapes
+pub mod EventWords
+pub mod Lines
+pub mod LineSteps
+pub mod Texts
+pub mod Once
+pub mod PutLines
+pub mod Spelled
