@@ -1,0 +1,10 @@
+use Rattle.std.proofs.Common.{◌≤◌, length}
+use Rattle.stab_journal.specs.Event.{weight_of}
+use Rattle.trace_bench.proofs.fill.Given as goal
+
+-- no more events than were pushed, and none heavier than one
+abbrev pub invariant-loop-i : goal.invariant-loop-i
+invariant-loop-i l = record {
+  events : length l.history.events ≤ l.i;
+  weight : weight_of l.history.events ≤ l.i;
+}
