@@ -1,6 +1,9 @@
-pub mod WriteLemmas
-pub mod HeldLemmas
-pub mod IndexLemmas
-pub mod StepLemmas
+pub mod CutSteps
+pub mod Found
 pub mod LawLemmas
+pub mod Links
+pub mod Recent
+pub mod References
 pub mod SoundLemmas
+pub mod Unlinked
+pub mod Views

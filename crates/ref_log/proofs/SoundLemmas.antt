@@ -1,14 +1,33 @@
 -- What holds of every log after calls that are allowed.
-use Rattle.std.proofs.Common.{◌≡◌, ℕ, ◌<◌, ◌≤◌, Bool, true, false, not, cond, ◌||◌, nat_eq, nat_lt, List, [], ◌∷◌, drop, refl, sym, ap, ◌∙◌, subst, arith}
+use Rattle.std.proofs.Common.{◌≡◌, ℕ, ◌<◌, ◌≤◌, Bool, true, false, not, cond, ◌&&◌, ◌||◌, nat_eq, nat_lt, List, [], ◌∷◌, drop, refl, sym, ap, ◌∙◌, subst, arith, ne_eqb}
 use Rattle.std.specs.List.{AllByRecursion}
-use Rattle.std.proofs.lemmas.Bool.{eqb-true, ltb-false, or_parts, and_parts, or_right}
+use Rattle.std.proofs.lemmas.Bool.{eqb-true, eqb-false, ltb-false, or_parts, and_parts, or_right}
 use Rattle.std.proofs.lemmas.List.Elements.{recursion_from_All}
 use Rattle.stab_base.specs.Datum.{Datum}
-use Rattle.stab_base.specs.declared.numbers.RefId.{RefId}
-use Rattle.ref_log.specs.Log.{Write, Log, IsRising, IsInOrder, IsSound, writes_of, has_write, has_below, without, kept}
-use Rattle.ref_log.specs.Calls.{Call, made, wrote, struck, cut, written, after_call, cut_after, IsAfter, IsAllowed, Leads, none, one_more}
-use Rattle.ref_log.specs.Layout.{Writes, held, HasWrites, log_of}
-use Rattle.ref_log.proofs.WriteLemmas.{has_write-without}
+use Rattle.ref_log.specs.Log.{Write, Log, IsRising, IsInOrder, writes_of, has_write, has_below, without, kept}
+use Rattle.ref_log.specs.Calls.{Call, made, wrote, struck, cut, written, after_call, IsAfter, IsAllowed, Leads, none, one_more}
+
+absorb : (a x : Bool) → ((a || x) && not a) ≡ (x && not a)
+absorb true true = refl
+absorb true false = refl
+absorb false x = refl
+
+spread : (a x c : Bool) → (a ≡ true → c ≡ false) → (a || (x && not c)) ≡ ((a || x) && not c)
+spread true x c h = let e : false ≡ c = sym (h refl) in ap not e
+spread false x c h = refl
+
+-- to take a write out takes its number out
+has_write-without : (p q : ℕ) (ws : List Write) → has_write p (without q ws) ≡ (has_write p ws && not (nat_eq p q))
+has_write-without p q [] = refl
+has_write-without p q (w ∷ ws) =
+    elim (nat_eq q w.number) as (λ b. nat_eq q w.number ≡ b → has_write p (cond (not b) (w ∷ without q ws) (without q ws)) ≡ ((nat_eq p w.number || has_write p ws) && not (nat_eq p q))) [
+      | true ↦ λ e.
+          let same : q ≡ w.number = eqb-true q w.number e in
+          has_write-without p q ws ∙ sym (absorb (nat_eq p q) (has_write p ws)) ∙ ap (λ n. (nat_eq p n || has_write p ws) && not (nat_eq p q)) same
+      | false ↦ λ e.
+          ap (λ x. nat_eq p w.number || x) (has_write-without p q ws)
+          ∙ spread (nat_eq p w.number) (has_write p ws) (nat_eq p q) (λ f. ne_eqb p q (λ g. eqb-false q w.number e (sym g ∙ eqb-true p w.number f)))
+    ] refl
 
 all_written : (n q : ℕ) (v : Datum) (ws : List Write) → AllByRecursion (λ w. n < w.number) ws → n < q → AllByRecursion (λ w. n < w.number) (written ws q v)
 all_written n q v [] h low = (low, tt)
@@ -158,11 +177,4 @@ pub order_fresh : (fresh : Log) → ((r : ℕ) → writes_of fresh r ≡ []) →
 order_fresh fresh empty = record {
   rising = λ r. subst IsRising (sym (empty r)) tt;
   recent = λ r p h. let never : false ≡ true = ap (λ ws. has_write p (drop 1 ws)) (sym (empty r)) ∙ h in absurd (cc);
-}
-
--- one call on the log that is kept leaves a sound one
-pub sound_after : (call : Call) (n m : ℕ) (es fs : List (RefId × Writes)) (now : Log) → log_of n es ≡ now → IsAllowed call now → m ≡ cut_after call n → ((r : ℕ) → held fs r ≡ after_call call r (held es r)) → ((r : ℕ) → HasWrites es r → HasWrites fs r) → IsSound (log_of n es) → IsSound (log_of m fs)
-sound_after call n m es fs now is allowed at writes there sound = record {
-  order = order_after call (log_of n es) (log_of m fs) (subst (IsAllowed call) (sym is) allowed) (record { last_cut = at; writes = writes }) sound.order;
-  there = λ r. there r (sound.there r);
 }

@@ -1,4 +1,5 @@
-pub mod Log
 pub mod Calls
 pub mod Layout
-pub mod Index
+pub mod Log
+pub mod Moved
+pub mod Struck

@@ -13,17 +13,21 @@ pub record Write : Type 0 where
   pub number : ℕ
   pub value : Datum
 
--- the number of the last cut, 0 before the first, and of each reference that is there its writes in rising order of number
+-- the number of the last cut, 0 before the first, of each reference that is there its writes in rising order of number,
+-- below which number references have a place, and for how many more writes there is room
 pub record Log : Type 0 where
   pub last_cut : ℕ
   pub references : FinMap nat_cmp (List Write)
+  pub places : ℕ
+  pub spare : ℕ
 
--- proofs store a write and a log as the pairs of their fields
+-- proofs store a write and a log as the tuples of their fields
 abbrev pub coded_write : Coded Write
 coded_write = code_by (ℕ × Datum) (coded× coded_ℕ coded_datum) (λ w. (w.number, w.value)) (λ p. record { number = p.0; value = p.1 }) (λ _. refl)
 
 abbrev pub coded_log : Coded Log
-coded_log = code_by (ℕ × FinMap nat_cmp (List Write)) (coded× coded_ℕ (map.code coded_ℕ (coded_list coded_write))) (λ l. (l.last_cut, l.references)) (λ p. record { last_cut = p.0; references = p.1 }) (λ _. refl)
+coded_log =
+    code_by (ℕ × (FinMap nat_cmp (List Write) × (ℕ × ℕ))) (coded× coded_ℕ (coded× (map.code coded_ℕ (coded_list coded_write)) (coded× coded_ℕ coded_ℕ))) (λ l. (l.last_cut, (l.references, (l.places, l.spare)))) (λ p. record { last_cut = p.0; references = p.1.0; places = p.1.1.0; spare = p.1.1.1 }) (λ _. refl)
 
 -- the writes of the reference r, none where it isn't there
 abbrev pub writes_of : Log → ℕ → List Write

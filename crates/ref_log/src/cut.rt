@@ -1,22 +1,94 @@
-//! What a cut drops.
-ghost use Rattle.std.specs.Prelude.{◌≡◌, ℕ};
-ghost use Rattle.ref_log.specs.Log.{kept};
-ghost use Rattle.ref_log.specs.Index.{IsIndex};
-ghost use Rattle.ref_log.specs.Layout.{held, HasWrites};
+//! What a cut leaves of the writes.
+ghost use Rattle.std.specs.Prelude.{◌≡◌, ◌≢◌, ◌<◌, ◌≤◌, ◌+◌, ◌∷◌, ◌++◌, [], ℕ, false, length, take, drop, nat_eq, nat_lt, not, ◌&&◌, if◌then◌else◌};
+ghost use Rattle.std.specs.List.{AllByRecursion};
+ghost use Rattle.ref_log.specs.Log.{kept, IsRising};
+ghost use Rattle.ref_log.specs.Layout.{held, is_of, write_of, of_reference, settled_at, head_at, room_in, IsLinked};
 
-use crate::references::{self, References};
-use crate::successors::{self, Successors};
-use stab_base::Seq;
+use crate::places::{Recent, Reference, Settled};
+use stab_base::{RefId, Seq, Value};
+use std::mem;
 
-/// Drops each write after which another of its reference is below `q`: the successors below `q`
-/// say which, and the first write of a reference goes for each of them.
-pub fn drop_overtaken(references: &mut References, successors: &mut Successors, q: Seq)
-    requires { IsIndex successors.old.keys references.old.entries }
-    ensures kept { (s : ℕ) → held references.new.entries s ≡ kept q.0 (held references.old.entries s) }
-    ensures there { (s : ℕ) → HasWrites references.old.entries s → HasWrites references.new.entries s }
-    ensures index { IsIndex successors.new.keys references.new.entries }
+/// Settles of each reference the last write below `q`, and drops those before it. The recent writes
+/// above `q` stay, and move up to the front.
+pub fn cut(references: &mut Vec<Reference>, recent: &mut Vec<Recent>, q: Seq)
+    requires linked { IsLinked references.old.items recent.old.items }
+    requires rising { (s : ℕ) → IsRising (held references.old.items recent.old.items s) }
+    requires few { length recent.old.items ≤ 4294967295 }
+    requires settled { (s : ℕ) → AllByRecursion (λ w. w.number ≤ q.0) (settled_at references.old.items s) }
+    ensures writes { (s : ℕ) → held references.new.items recent.new.items s ≡ kept q.0 (held references.old.items recent.old.items s) }
+    ensures settled { (s : ℕ) → AllByRecursion (λ w. w.number ≤ q.0) (settled_at references.new.items s) }
+    ensures linked { IsLinked references.new.items recent.new.items }
+    ensures places { length references.new.items ≡ length references.old.items }
+    ensures room { room_in recent.old ≤ room_in recent.new }
+    ensures fewer { length recent.new.items ≤ length recent.old.items }
 {
-    while let Some(successor) = successors::pop_below(successors, q) {
-        references::drop_first(references, successor.reference);
+    forget_heads(references, recent);
+    let mut stay = 0;
+    for i in 0..recent.len() {
+        let entry = mem::replace(&mut recent[i], hole());
+        stay = move_over(references, recent, stay, entry, q);
     }
+    recent.truncate(stay);
+}
+
+fn hole() -> Recent
+    ensures { result.number.0 ≡ 0 }
+{
+    Recent {
+        number: Seq(0),
+        value: Value::unit(),
+        reference: RefId(0),
+        before: 0,
+    }
+}
+
+// Lets no reference lead to a recent write.
+fn forget_heads(references: &mut [Reference], recent: &[Recent])
+    requires { IsLinked references.old recent.now }
+    ensures heads { (s : ℕ) → head_at references.new s ≡ 0 }
+    ensures settled { (s : ℕ) → settled_at references.new s ≡ settled_at references.old s }
+{
+    for entry in recent {
+        let r = entry.reference.0 as usize;
+        if r < references.len() {
+            references[r].head = 0;
+        }
+    }
+}
+
+// Settles an entry, or puts it behind the first `stay`, and says how many stay then.
+fn move_over(
+    references: &mut [Reference],
+    recent: &mut [Recent],
+    stay: usize,
+    entry: Recent,
+    q: Seq,
+) -> usize
+    requires stay { stay < length recent.old }
+    requires few { length recent.old ≤ 4294967295 }
+    requires linked { IsLinked references.old (take stay recent.old) }
+    requires there { nat_eq entry.number.0 0 ≡ false → entry.reference.0 < length references.old }
+    ensures stay { (stay ≤ result) × (result ≤ stay + 1) }
+    ensures recent { (s : ℕ) → of_reference s (take result recent.new)
+        ≡ (if is_of s entry && not (nat_lt entry.number.0 q.0) then of_reference s (take stay recent.old) ++ write_of entry ∷ [] else of_reference s (take stay recent.old)) }
+    ensures settled { (s : ℕ) → settled_at references.new s
+        ≡ (if is_of s entry && nat_lt entry.number.0 q.0 then write_of entry ∷ [] else settled_at references.old s) }
+    ensures linked { IsLinked references.new (take result recent.new) }
+    ensures behind { drop (stay + 1) recent.new ≡ drop (stay + 1) recent.old }
+{
+    if entry.number.0 == 0 {
+        return stay;
+    }
+    let reference = &mut references[entry.reference.0 as usize];
+    if entry.number.0 < q.0 {
+        reference.settled = Some(Settled {
+            number: entry.number,
+            value: entry.value,
+        });
+        return stay;
+    }
+    let before = reference.head;
+    reference.head = stay as u32 + 1;
+    recent[stay] = Recent { before, ..entry };
+    stay + 1
 }

@@ -4,11 +4,10 @@
 mod cut;
 mod law;
 mod log;
-mod references;
-mod successors;
+mod places;
+mod strike;
 #[cfg(test)]
 mod tests;
-mod writes;
 
 pub use law::{last_write_law, sound_law};
-pub use log::{RefLog, WriteRefused};
+pub use log::RefLog;

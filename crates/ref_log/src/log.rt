@@ -1,25 +1,24 @@
 //! The log of the writes of references.
-ghost use Rattle.std.specs.Prelude.{◌≡◌, ℕ, [], Option, option_map, OnOk, OnErr, IfErr, IfNone, ◌↔◌};
+ghost use Rattle.std.specs.Prelude.{◌≡◌, ◌<◌, ◌≤◌, ◌-◌, ℕ, [], Option, option_map, OnOk, IsOk, ◌↔◌};
 ghost use Rattle.ref_log.specs.Log.{writes_of, last_of, IsSound};
 ghost use Rattle.ref_log.specs.Calls.{made, wrote, struck, cut, IsAllowed, IsAfter};
 
-use crate::cut;
-use crate::references::{self, References};
-use crate::successors::{self, Successors};
-use stab_base::{RefId, Seq, Value};
+use crate::places::{self, MOST, Recent, Reference};
+use crate::{cut, strike};
+use stab_base::{NoMemory, RefId, Seq, Value};
 use std::alloc::Global;
-use std::collections::{BTreeMap, BTreeSet};
 use std::marker::Model;
 
 /// The writes of references, each under the number of its event: those above the last cut, and of
-/// each reference the last one below it. Each call takes time that grows at most with the logarithm
-/// of the number of writes, but for what a cut drops.
+/// each reference the last one below it.
+///
+/// `make`, `write` and `read` take constant time, `strike` as long as the reference has recent writes
+/// from there on, and `cut` as long as there are recent writes.
 #[derive(Drop)]
 pub struct RefLog {
-    alloc: Global,
     last_cut: Seq,
-    references: References,
-    successors: Successors,
+    references: Vec<Reference>,
+    recent: Vec<Recent>,
 }
 
 impl Model for RefLog {
@@ -29,18 +28,11 @@ impl Model for RefLog {
 
     ghost coded = { coded_log };
 
-    ghost use Rattle.ref_log.specs.Layout.{log_of};
-    ghost use Rattle.ref_log.specs.Index.{IsKept};
+    ghost use Rattle.ref_log.specs.Layout.{log_of, IsKept};
 
-    ghost view = { λ a. log_of a.last_cut.0 a.references.entries };
+    ghost view = { λ a. log_of a.last_cut.0 a.references.items a.recent };
 
-    ghost invariant = { λ a. IsKept a.last_cut.0 a.references.entries a.successors.keys };
-}
-
-/// There is no memory for a write, whose value comes back.
-#[derive(Debug, Drop)]
-pub struct WriteRefused {
-    pub value: Value,
+    ghost invariant = { λ a. IsKept a.last_cut.0 a.references.items a.recent };
 }
 
 impl RefLog {
@@ -50,43 +42,49 @@ impl RefLog {
         ensures empty { (r : ℕ) → writes_of result r ≡ [] }
     {
         RefLog {
-            alloc,
             last_cut: Seq(0),
-            references: BTreeMap::new(alloc),
-            successors: BTreeSet::new(alloc),
+            references: Vec::new(alloc),
+            recent: Vec::new(alloc),
         }
+    }
+
+    /// Makes room for one more write, and a place for a reference: places are kept for all numbers up to
+    /// its own.
+    pub fn reserve(&mut self, r: RefId) -> Result<(), NoMemory>
+        ensures ok { OnOk result ((1 ≤ self.new.spare) × (r.0 < self.new.places)) }
+        ensures enough { 1 ≤ self.old.spare → r.0 < self.old.places → IsOk result }
+        ensures writes { (s : ℕ) → writes_of self.new s ≡ writes_of self.old s }
+        ensures last_cut { self.new.last_cut ≡ self.old.last_cut }
+        ensures no_less { (self.old.spare ≤ self.new.spare) × (self.old.places ≤ self.new.places) }
+    {
+        if self.recent.len() >= MOST {
+            return Err(NoMemory);
+        }
+        self.recent.reserve(1).map_err(|_| NoMemory)?;
+        places::make_place(&mut self.references, r)
     }
 
     /// Adds a reference with its first write.
-    pub fn make(&mut self, r: RefId, q: Seq, v: Value) -> Result<(), WriteRefused>
-        requires { IsAllowed (made r.0 q.0 v) self.old }
-        ensures ok { OnOk result (IsAfter (made r.0 q.0 v) self.old self.new) }
-        ensures err { OnErr result (self.new ≡ self.old) }
-        ensures back { IfErr result (λ refused. refused.value ≡ v) }
+    pub fn make(&mut self, r: RefId, q: Seq, v: Value)
+        requires allowed { IsAllowed (made r.0 q.0 v) self.old }
+        requires room { 1 ≤ self.old.spare }
+        requires place { r.0 < self.old.places }
+        ensures after { IsAfter (made r.0 q.0 v) self.old self.new }
+        ensures room { self.new.spare ≡ self.old.spare - 1 }
+        ensures places { self.new.places ≡ self.old.places }
     {
-        match references::begin(self.alloc, &mut self.references, r, q, v) {
-            Ok(()) => Ok(()),
-            Err(value) => Err(WriteRefused { value }),
-        }
+        places::append(&mut self.references, &mut self.recent, r, q, v);
     }
 
     /// Adds a write of a reference that is there.
-    pub fn write(&mut self, r: RefId, q: Seq, v: Value) -> Result<(), WriteRefused>
-        requires { IsAllowed (wrote r.0 q.0 v) self.old }
-        ensures ok { OnOk result (IsAfter (wrote r.0 q.0 v) self.old self.new) }
-        ensures err { OnErr result (self.new ≡ self.old) }
-        ensures back { IfErr result (λ refused. refused.value ≡ v) }
+    pub fn write(&mut self, r: RefId, q: Seq, v: Value)
+        requires allowed { IsAllowed (wrote r.0 q.0 v) self.old }
+        requires room { 1 ≤ self.old.spare }
+        ensures after { IsAfter (wrote r.0 q.0 v) self.old self.new }
+        ensures room { self.new.spare ≡ self.old.spare - 1 }
+        ensures places { self.new.places ≡ self.old.places }
     {
-        if successors::add(&mut self.successors, q, r).is_err() {
-            return Err(WriteRefused { value: v });
-        }
-        match references::append(&mut self.references, r, q, v) {
-            Ok(()) => Ok(()),
-            Err(value) => {
-                successors::forget(&mut self.successors, q, r);
-                Err(WriteRefused { value })
-            }
-        }
+        places::append(&mut self.references, &mut self.recent, r, q, v);
     }
 
     /// The last write of a reference: its value, and the number of its event.
@@ -95,24 +93,27 @@ impl RefLog {
         ensures sound { IsSound self.now }
         ensures absent { (result ≡ Option.None) ↔ (writes_of self.now r.0 ≡ []) }
     {
-        references::last(&self.references, r)
+        places::last(&self.references, &self.recent, r)
     }
 
     /// Takes a write away. A reference without writes is gone.
     pub fn strike(&mut self, r: RefId, q: Seq)
         requires { IsAllowed (struck r.0 q.0) self.old }
-        ensures { IsAfter (struck r.0 q.0) self.old self.new }
+        ensures after { IsAfter (struck r.0 q.0) self.old self.new }
+        ensures room { self.old.spare ≤ self.new.spare }
+        ensures places { self.new.places ≡ self.old.places }
     {
-        let freed = references::strike(&mut self.references, r, q);
-        successors::forget_freed(&mut self.successors, freed, r);
+        strike::strike(&mut self.references, &mut self.recent, r, q);
     }
 
     /// Drops of each reference the writes before the last one below `q`.
     pub fn cut(&mut self, q: Seq)
         requires { IsAllowed (cut q.0) self.old }
-        ensures { IsAfter (cut q.0) self.old self.new }
+        ensures after { IsAfter (cut q.0) self.old self.new }
+        ensures room { self.old.spare ≤ self.new.spare }
+        ensures places { self.new.places ≡ self.old.places }
     {
-        cut::drop_overtaken(&mut self.references, &mut self.successors, q);
+        cut::cut(&mut self.references, &mut self.recent, q);
         self.last_cut = q;
     }
 }

@@ -1,30 +1,25 @@
-use Rattle.std.proofs.Common.{◌<◌, refl, sym, ap, ◌∙◌, subst}
-use Rattle.std.proofs.lemmas.List.Elements.{All-same}
-use Rattle.ref_log.specs.Log.{writes_of, IsSound}
-use Rattle.ref_log.specs.Calls.{wrote}
-use Rattle.ref_log.specs.Layout.{held}
-use Rattle.ref_log.proofs.HeldLemmas.{is_ok_so}
-use Rattle.ref_log.proofs.StepLemmas.{index_wrote, index_refused}
-use Rattle.ref_log.proofs.SoundLemmas.{sound_after}
+use Rattle.std.proofs.Common.{◌≤◌, refl, sym, ap, subst, ◌∙◌}
+use Rattle.std.specs.List.{AllByRecursion}
+use Rattle.ref_log.specs.Log.{writes_of}
+use Rattle.ref_log.specs.Calls.{wrote, IsAfter}
+use Rattle.ref_log.specs.Layout.{log_of}
+use Rattle.ref_log.proofs.Views.{writes-held, after-held, kept-after, there-held}
 use Rattle.ref_log.proofs.log.RefLog.write.Goals as goal
 
-pub invariant_of-self-in-Ok : goal.invariant_of-self-in-Ok
-invariant_of-self-in-Ok c = record {
-  sound =
-      sound_after (wrote c.args.r.0 c.args.q.0 c.args.v) c.self.inside.last_cut.0 c.self.inside.last_cut.0 c.self.inside.references.entries c.append.new.references.entries c.args.self.now c.self.view_is c.requires
-      refl c.in-Ok.ensures.ok c.in-Ok.ensures.there c.self.invariant.sound;
-  index =
-      index_wrote c.self.inside.successors.keys c.add.new.successors.keys c.self.inside.references.entries c.append.new.references.entries c.args.r.0 c.args.q.0 c.args.v
-      c.self.invariant.index (λ e. c.requires.0 (ap (λ l. writes_of l c.args.r.0) (sym c.self.view_is) ∙ e))
-      (is_ok_so c.add.result _ c.add.ensures.ok c.if-is_err.ensures.value) c.in-Ok.ensures.ok;
-}
+pub append-requires-clause-there : goal.append-requires-clause-there
+append-requires-clause-there c =
+    let a = c.self.inside in
+    there-held a.references.items a.recent.items c.args.r.0 c.self.invariant.linked (λ none.
+    c.requires.allowed.0 (ap (λ l. writes_of l c.args.r.0) (sym c.self.view_is) ∙ writes-held a.last_cut.0 a.references.items a.recent c.args.r.0 c.self.invariant.linked ∙ none))
 
-pub invariant_of-self-in-Err : goal.invariant_of-self-in-Err
-invariant_of-self-in-Err c = record {
-  sound = subst (λ m. IsSound (record { last_cut = c.self.inside.last_cut.0; references = m })) (sym c.in-Err.ensures.err) c.self.invariant.sound;
-  index =
-      index_refused c.self.inside.successors.keys c.add.new.successors.keys c.forget.new.successors.keys c.self.inside.references.entries c.append.new.references.entries c.args.r.0 c.args.q.0
-      c.self.invariant.index
-      (All-same (λ w. w.number < c.args.q.0) (held c.self.inside.references.entries c.args.r.0) (writes_of c.args.self.now c.args.r.0) (ap (λ l. writes_of l c.args.r.0) c.self.view_is) c.requires.1)
-      (is_ok_so c.add.result _ c.add.ensures.ok c.if-is_err.ensures.value) c.forget.ensures c.in-Err.ensures.err;
-}
+pub invariant_of-self : goal.invariant_of-self
+invariant_of-self c =
+    let a = c.self.inside in
+    kept-after (wrote c.args.r.0 c.args.q.0 c.args.v) a.last_cut.0 a.last_cut.0 a.references.items c.append.new.references.items a.recent c.append.new.recent c.args.self.now c.self.invariant c.self.view_is c.requires.allowed c.append.ensures.linked refl c.append.ensures.writes
+    (λ s. subst (AllByRecursion (λ w. w.number ≤ a.last_cut.0)) (sym (c.append.ensures.settled s)) (c.self.invariant.settled s)) c.append.ensures.few
+
+pub returns-clause-after : goal.returns-clause-after
+returns-clause-after c =
+    let a = c.self.inside in
+    subst (λ l. IsAfter (wrote c.args.r.0 c.args.q.0 c.args.v) l (log_of a.last_cut.0 c.append.new.references.items c.append.new.recent)) c.self.view_is
+    (after-held (wrote c.args.r.0 c.args.q.0 c.args.v) a.last_cut.0 a.last_cut.0 a.references.items c.append.new.references.items a.recent c.append.new.recent c.self.invariant.linked c.append.ensures.linked refl c.append.ensures.writes)
