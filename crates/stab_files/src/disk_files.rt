@@ -5,6 +5,7 @@ ghost use Rattle.std.specs.Io.KnownBytes.{Consumes, IsAtEnd, Keeps};
 ghost use Rattle.stab_files.specs.Loaded.{Answers, CountsFault, IsWithin, faults_after};
 
 use crate::devices::{Files, Loaded};
+use crate::retrying::Retrying;
 use std::alloc::Global;
 use std::io::{self, ErrorKind, Read};
 use std::marker::Model;
@@ -64,73 +65,45 @@ fn read_opened<F: Read + Drop>(alloc: Global, opened: io::Result<F>, limit: u64)
     ensures failed { IfErr opened (λ error. error_kind error ≢ ErrorKind.NotFound → result ≡ Loaded.Failed) }
 {
     match opened {
-        Ok(mut file) => read_whole(alloc, &mut file, limit),
+        Ok(file) => read_whole(alloc, &mut Retrying::new(file), limit),
         Err(error) if error.kind() == ErrorKind::NotFound => Loaded::Missing,
         Err(_) => Loaded::Failed,
     }
 }
 
-/// Why a read gave no bytes to keep.
-enum Stop {
-    Failed,
-    NoMemory,
-}
-
-/// All that the reader has left, up to the limit. It takes one byte more than the limit at most.
-fn read_whole<R: Read>(alloc: Global, reader: &mut R, limit: u64) -> Loaded
-    ensures answer { IfSome (R.remaining reader.old) (λ rest. Answers (Some rest) limit result) }
+/// All that the reader has left, up to the limit. It takes one byte more than the limit at most, and fails only where a
+/// read did.
+fn read_whole<R: Read + Drop>(alloc: Global, reader: &mut Retrying<R>, limit: u64) -> Loaded
+    ensures answer { IfSome (R.remaining reader.old.device) (λ rest. Answers (Some rest) limit result) }
     ensures within { IsWithin limit result }
     ensures there { result ≢ Loaded.Missing }
-    ensures sparing { (taken : List ℕ) × (length taken ≤ limit + 1) × Consumes (R.remaining reader.old) (R.remaining reader.new) taken }
+    ensures sparing { (taken : List ℕ) × (length taken ≤ limit + 1) × Consumes (R.remaining reader.old.device) (R.remaining reader.new.device) taken }
+    ensures failed { reader.new.faults ≡ faults_after reader.old.faults result }
 {
     let mut bytes = Vec::new(alloc);
-    for _ in 0..u64::MAX {
-        match read_some(reader, &mut bytes, limit) {
-            Ok(0) => return Loaded::Bytes(bytes),
-            Ok(_) if bytes.len() as u64 > limit => return Loaded::TooBig,
-            Ok(_) => {}
-            Err(Stop::Failed) => return Loaded::Failed,
-            Err(Stop::NoMemory) => return Loaded::NoMemory,
+    while bytes.len() as u64 <= limit {
+        let mut chunk = [0; CHUNK];
+        let room = room_in_chunk(limit - bytes.len() as u64);
+        let Ok(count) = reader.read(&mut chunk[..room]) else {
+            return Loaded::Failed;
+        };
+        if count == 0 {
+            return Loaded::Bytes(bytes);
+        }
+        if bytes.extend_from_slice(&chunk[..count]).is_err() {
+            return Loaded::NoMemory;
         }
     }
-    Loaded::Failed
+    Loaded::TooBig
 }
 
-/// One read, put after the bytes so far, up to one byte past the limit.
-fn read_some<R: Read>(reader: &mut R, bytes: &mut Vec<u8>, limit: u64) -> Result<usize, Stop>
-    requires { vec_len bytes.old ≤ limit }
-    ensures took { (taken : List ℕ) × (length bytes.old.items + length taken ≤ limit + 1)
-        × Consumes (R.remaining reader.old) (R.remaining reader.new) taken
-        × IfOk result (λ count. (count ≡ length taken) × (bytes.new.items ≡ bytes.old.items ++ taken)) }
-    ensures end { IfOk result (λ count. count ≡ 0 → IsAtEnd (R.remaining reader.new)) }
+/// How much of a chunk a read fills where `left` bytes more are within the limit: one byte past it at most.
+fn room_in_chunk(left: u64) -> usize
+    ensures some { 0 < result }
+    ensures chunk { result ≤ CHUNK }
+    ensures left { result ≤ left + 1 }
 {
-    let mut chunk = [0; CHUNK];
-    let left = limit - bytes.len() as u64;
-    let room = left.saturating_add(1).min(CHUNK as u64) as usize;
-    let Ok(count) = read_retrying(reader, &mut chunk[..room]) else {
-        return Err(Stop::Failed);
-    };
-    match bytes.extend_from_slice(&chunk[..count]) {
-        Ok(()) => Ok(count),
-        Err(_) => Err(Stop::NoMemory),
-    }
-}
-
-/// One read, tried again where a signal interrupts it.
-fn read_retrying<R: Read>(reader: &mut R, buf: &mut [u8]) -> io::Result<usize>
-    ensures bound { ReadsAtMost result buf.new }
-    ensures ok { IfOk result (λ n. Consumes (R.remaining reader.old) (R.remaining reader.new) (take n buf.new)) }
-    ensures end { IfOk result (λ n. n ≡ 0 → 0 < length buf.old → IsAtEnd (R.remaining reader.new)) }
-    ensures err { OnErr result (Keeps (R.remaining reader.old) (R.remaining reader.new)) }
-{
-    for _ in 0..u64::MAX {
-        match reader.read(buf) {
-            Ok(count) => return Ok(count),
-            Err(error) if error.kind() == ErrorKind::Interrupted => {}
-            Err(error) => return Err(error),
-        }
-    }
-    Err(io::Error::from(ErrorKind::Interrupted))
+    left.saturating_add(1).min(CHUNK as u64) as usize
 }
 
 #[cfg(test)]
@@ -138,17 +111,17 @@ mod tests {
     use super::*;
     use std::test::Fail;
 
-    /// A reader that is interrupted before each byte, and fails once its bytes are gone.
+    /// A reader that is interrupted a number of times, then gives one byte a time, and fails once its bytes are gone.
     #[derive(Drop)]
     struct Halting<'a> {
-        interrupted: bool,
+        interruptions: u32,
         rest: &'a [u8],
     }
 
     impl Read for Halting<'_> {
         fn read(&mut self, buf: &mut [u8]) -> io::Result<usize> {
-            self.interrupted = !self.interrupted;
-            if self.interrupted {
+            if self.interruptions > 0 {
+                self.interruptions -= 1;
                 return Err(io::Error::from(ErrorKind::Interrupted));
             }
             let Some((first, rest)) = self.rest.split_first() else {
@@ -170,16 +143,16 @@ mod tests {
             (4, Loaded::TooBig, 0),
             (5, Loaded::Failed, 0),
         ] {
-            let mut reader = Halting {
-                interrupted: false,
+            let mut reader = Retrying::new(Halting {
+                interruptions: 1_000,
                 rest: b"12345",
-            };
+            });
             assert_eq!(rt;
                 read_whole(rt.alloc(), &mut reader, limit),
                 answer,
                 "at {limit}"
             );
-            assert_eq!(rt; reader.rest.len(), left, "at {limit}");
+            assert_eq!(rt; reader.device().rest.len(), left, "at {limit}");
         }
         Ok(())
     }

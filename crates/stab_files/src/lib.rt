@@ -8,6 +8,7 @@ mod mem_files;
 mod mem_sink;
 mod out_sink;
 mod planned;
+mod retrying;
 
 pub use devices::{Files, Loaded, Sink, SinkFail};
 pub use disk_files::DiskFiles;

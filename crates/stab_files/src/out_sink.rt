@@ -1,18 +1,18 @@
 ghost use Rattle.std.specs.Prelude.{◌≡◌, None, is_ok, OnOk, OnErr, if◌then◌else◌};
 ghost use Rattle.std.specs.Io.KnownBytes.{Appends};
+ghost use Rattle.stab_base.specs.Gain.{SomePrefix};
 ghost use Rattle.stab_files.specs.Count.{Rose, counted};
-ghost use Rattle.stab_files.specs.OutSink.{WritesPrefix};
 
 use crate::devices::{Sink, SinkFail};
-use std::io::{ErrorKind, Write};
+use crate::retrying::Retrying;
+use std::io::Write;
 use std::marker::Model;
 
 /// One of std's writers. Contracts see what the writer holds, where it says so, and how many faults
 /// there were. As a sink it tells no bytes.
 #[derive(Drop)]
 pub struct OutSink<W: Write + Drop> {
-    writer: W,
-    faults: u64,
+    writer: Retrying<W>,
 }
 
 impl<W: Write + Drop> Model for OutSink<W> {
@@ -20,7 +20,7 @@ impl<W: Write + Drop> Model for OutSink<W> {
 
     ghost Value = { Written };
 
-    ghost view = { λ s. record { contents = W.contents s.writer; faults = s.faults } };
+    ghost view = { λ s. record { contents = W.contents s.writer.device; faults = s.writer.faults } };
 }
 
 impl<W: Write + Drop> OutSink<W> {
@@ -28,7 +28,9 @@ impl<W: Write + Drop> OutSink<W> {
     pub fn new(writer: W) -> OutSink<W>
         ensures { result ≡ record { contents = W.contents writer; faults = 0 } }
     {
-        OutSink { writer, faults: 0 }
+        OutSink {
+            writer: Retrying::new(writer),
+        }
     }
 }
 
@@ -37,37 +39,30 @@ impl<W: Write + Drop> Sink for OutSink<W> {
 
     ghost faults = { λ s. s.faults };
 
-    /// Flushes the writer, so that a piece that was taken has gone out.
+    /// Flushes the writer, so that a piece that was taken has gone out. A writer that takes nothing fails.
     fn put(&mut self, piece: &[u8]) -> Result<(), SinkFail>
         ensures rose { OnErr result (Rose self.old.faults self.new.faults) }
         ensures after { self.new.faults ≡ (if is_ok result then self.old.faults else counted self.old.faults) }
         ensures whole { OnOk result (Appends self.old.contents self.new.contents piece.now) }
-        ensures prefix { OnErr result (WritesPrefix self.old.contents self.new.contents piece.now) }
+        ensures prefix { OnErr result (SomePrefix (Appends self.old.contents self.new.contents) piece.now) }
     {
-        let result = write_out(&mut self.writer, piece);
-        if result.is_err() {
-            self.faults = self.faults.saturating_add(1);
-        }
-        result
+        write_out(&mut self.writer, piece)
     }
 }
 
-/// Writes the piece and flushes. A writer that takes nothing fails.
-fn write_out<W: Write>(writer: &mut W, piece: &[u8]) -> Result<(), SinkFail>
-    ensures whole { OnOk result (Appends (W.contents writer.old) (W.contents writer.new) piece.now) }
-    ensures prefix { OnErr result (WritesPrefix (W.contents writer.old) (W.contents writer.new) piece.now) }
+/// Writes the piece and flushes. It fails only where a write or the flush did.
+fn write_out<W: Write + Drop>(writer: &mut Retrying<W>, piece: &[u8]) -> Result<(), SinkFail>
+    ensures rose { OnErr result (Rose writer.old.faults writer.new.faults) }
+    ensures after { writer.new.faults ≡ (if is_ok result then writer.old.faults else counted writer.old.faults) }
+    ensures whole { OnOk result (Appends (W.contents writer.old.device) (W.contents writer.new.device) piece.now) }
+    ensures prefix { OnErr result (SomePrefix (Appends (W.contents writer.old.device) (W.contents writer.new.device)) piece.now) }
 {
     let mut rest = piece;
-    for _ in 0..u64::MAX {
-        if rest.is_empty() {
-            return writer.flush().map_err(|_| SinkFail::Failed);
-        }
+    while !rest.is_empty() {
         match writer.write(rest) {
-            Ok(0) => return Err(SinkFail::Failed),
             Ok(count) => rest = &rest[count..],
-            Err(error) if error.kind() == ErrorKind::Interrupted => {}
             Err(_) => return Err(SinkFail::Failed),
         }
     }
-    Err(SinkFail::Failed)
+    writer.flush().map_err(|_| SinkFail::Failed)
 }

@@ -79,23 +79,68 @@ fn puts_into_memory(rt: HostRuntime) -> Result<(), Fail> {
     Ok(())
 }
 
-#[test]
-fn loads_from_the_system(rt: HostRuntime) -> Result<(), Fail> {
-    let alloc = rt.alloc();
-    let path = format!(in alloc;
-        "{}/stab_files_load_{}",
-        env::temp_dir(&rt)?.display(),
+/// A file of the system for one test, by the test's name.
+fn path_for(rt: &HostRuntime, test: &str) -> Result<String, Fail> {
+    let folder = env::temp_dir(rt)?;
+    Ok(format!(in rt.alloc();
+        "{}/stab_files_{test}_{}",
+        folder.display(),
         process::id(rt.process())
-    )?;
-    let contents = vec![in alloc; b'x'; 10_000]?;
-    fs::write(&rt, path.as_str(), contents.as_slice())?;
+    )?)
+}
+
+/// This many bytes, of which neighbours and the starts of two chunks differ.
+fn varied(alloc: Global, count: usize) -> Result<Vec<u8>, AllocError> {
+    let mut bytes = Vec::with_capacity(alloc, count)?;
+    for place in 0..count {
+        bytes.push((place % 251) as u8)?;
+    }
+    Ok(bytes)
+}
+
+#[test]
+fn whole_files_up_to_the_limit(rt: HostRuntime) -> Result<(), Fail> {
+    let alloc = rt.alloc();
+    let path = path_for(&rt, "load")?;
     let mut files = DiskFiles::new(rt.clone()?);
-    let whole = files.load(alloc, path.as_str(), 10_000);
-    let longer = files.load(alloc, path.as_str(), 9_999);
-    fs::remove_file(&rt, path.as_str())?;
-    assert_eq!(rt; whole, Loaded::Bytes(contents));
-    assert_eq!(rt; longer, Loaded::TooBig);
+    for size in [1, 65_537, 1_048_576, 1_048_577] {
+        let contents = varied(alloc, size)?;
+        fs::write(&rt, path.as_str(), contents.as_slice())?;
+        let whole = files.load(alloc, path.as_str(), size as u64);
+        let longer = files.load(alloc, path.as_str(), size as u64 - 1);
+        fs::remove_file(&rt, path.as_str())?;
+        assert_eq!(rt; whole, Loaded::Bytes(contents), "of {size} bytes");
+        assert_eq!(rt; longer, Loaded::TooBig, "of {size} bytes");
+    }
     assert_eq!(rt; files.load(alloc, path.as_str(), 10_000), Loaded::Missing);
+    Ok(())
+}
+
+#[test]
+fn names_are_taken_as_they_are(rt: HostRuntime) -> Result<(), Fail> {
+    let alloc = rt.alloc();
+    let path = path_for(&rt, "name")?;
+    let blank_after = format!(in alloc; "{path} ")?;
+    let blank_before = format!(in alloc; " {path}")?;
+    let mut files = DiskFiles::new(rt.clone()?);
+    fs::write(&rt, path.as_str(), b"without".as_slice())?;
+    let other = files.load(alloc, blank_after.as_str(), 10);
+    let nowhere = files.load(alloc, blank_before.as_str(), 10);
+    fs::write(&rt, blank_after.as_str(), b"with".as_slice())?;
+    let with = files.load(alloc, blank_after.as_str(), 10);
+    fs::remove_file(&rt, path.as_str())?;
+    fs::remove_file(&rt, blank_after.as_str())?;
+    assert_eq!(rt; other, Loaded::Missing);
+    assert_eq!(rt; nowhere, Loaded::Missing);
+    assert_eq!(rt; with, loaded(alloc, b"with")?);
+    assert_eq!(rt; files.load(alloc, "", 10), Loaded::Missing);
+    Ok(())
+}
+
+#[test]
+fn what_is_no_file_fails(rt: HostRuntime) -> Result<(), Fail> {
+    let alloc = rt.alloc();
+    let mut files = DiskFiles::new(rt.clone()?);
     assert_eq!(rt; files.load(alloc, "/dev/zero", 10_000), Loaded::TooBig);
     assert_eq!(rt; files.load(alloc, "/", 10_000), Loaded::Failed);
     assert_eq!(rt;
@@ -112,12 +157,7 @@ fn loads_from_the_system(rt: HostRuntime) -> Result<(), Fail> {
 
 #[test]
 fn puts_into_a_file(rt: HostRuntime) -> Result<(), Fail> {
-    let alloc = rt.alloc();
-    let path = format!(in alloc;
-        "{}/stab_files_put_{}",
-        env::temp_dir(&rt)?.display(),
-        process::id(rt.process())
-    )?;
+    let path = path_for(&rt, "put")?;
     let mut sink = OutSink::new(fs::create(&rt, path.as_str())?);
     let put = put_both(&mut sink, b"3\n", b"ended\n");
     let written = fs::read(&rt, path.as_str())?;
@@ -129,18 +169,18 @@ fn puts_into_a_file(rt: HostRuntime) -> Result<(), Fail> {
     Ok(())
 }
 
-/// A writer that is interrupted first, then takes one byte a time up to a number, and then none.
+/// A writer that is interrupted a number of times, then takes one byte a time up to a number, and then none.
 #[derive(Drop)]
 struct Halting {
-    interrupted: bool,
+    interruptions: u32,
     taken: Vec<u8>,
     room: usize,
 }
 
 impl Write for Halting {
     fn write(&mut self, buf: &[u8]) -> io::Result<usize> {
-        if !self.interrupted {
-            self.interrupted = true;
+        if self.interruptions > 0 {
+            self.interruptions -= 1;
             return Err(io::Error::from(ErrorKind::Interrupted));
         }
         let count = buf
@@ -157,18 +197,21 @@ impl Write for Halting {
 }
 
 #[test]
-fn puts_in_parts(rt: HostRuntime) -> Result<(), Fail> {
+fn puts_byte_by_byte(rt: HostRuntime) -> Result<(), Fail> {
     let mut writer = Halting {
-        interrupted: false,
+        interruptions: 1_000,
         taken: Vec::new(rt.alloc()),
-        room: 4,
+        room: 100_001,
     };
+    let piece = varied(rt.alloc(), 100_000)?;
     let mut sink = OutSink::new(&mut writer);
-    assert_eq!(rt; sink.put(b"abc"), Ok(()));
+    assert_eq!(rt; sink.put(&piece), Ok(()));
     assert_eq!(rt; sink.put(b"de"), Err(SinkFail::Failed));
     assert_eq!(rt; sink.put(b""), Ok(()));
     drop(sink);
-    assert_eq!(rt; writer.taken.as_slice(), b"abcd".as_slice());
+    let (last, whole) = writer.taken.split_last().ok_or("nothing was taken")?;
+    assert_eq!(rt; *last, b'd');
+    assert_eq!(rt; whole, piece.as_slice());
     Ok(())
 }
 

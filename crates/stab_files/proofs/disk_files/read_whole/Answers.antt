@@ -1,12 +1,7 @@
+use Rattle.std.proofs.Common.{rules, take}
 use Rattle.stab_files.proofs.Moved.{consumes_within}
 use Rattle.stab_files.proofs.disk_files.read_whole.Goals as goal
 
-pub returns-in-Err-Failed-clause-sparing : goal.returns-in-Err-Failed-clause-sparing
-returns-in-Err-Failed-clause-sparing g c =
-    let (taken, fits, consumed, _) = c.read_some.ensures.took in
-    consumes_within _ _ _ _ _ c.loop.invariant.1 taken fits consumed
-
-pub returns-in-Err-NoMemory-clause-sparing : goal.returns-in-Err-NoMemory-clause-sparing
-returns-in-Err-NoMemory-clause-sparing g c =
-    let (taken, fits, consumed, _) = c.read_some.ensures.took in
-    consumes_within _ _ _ _ _ c.loop.invariant.1 taken fits consumed
+pub returns-then-is_err-clause-sparing : goal.returns-then-is_err-clause-sparing
+returns-then-is_err-clause-sparing g c =
+    consumes_within _ _ _ c.loop-chunk.bytes.items c.args.limit c.loop-chunk.invariant.1 (take c.in-Ok.count c.read.new.buf) (search rules) c.in-Ok.ensures.bytes
