@@ -17,6 +17,7 @@ use Rattle.stab_journal.specs.Journal.{Journal, IsValid}
 use Rattle.plain_model.specs.Expression.{Expr, Items, none, item}
 use Rattle.plain_model.specs.Program.{tree_expr, block_items, last_expr, block_of, main_expr}
 use Rattle.plain_model.specs.State.{work, item_work}
+use Rattle.stab_top.specs.Book.{max_fuel}
 
 -- an expression is written with more than two tokens for each form that it has to step
 tree_small : (t : Tree) → work (tree_expr t) + work (tree_expr t) + 1 ≤ length (tokens_of t)
@@ -79,5 +80,5 @@ events_long q [] h = omega arith
 events_long q (e ∷ es) h = omega (arith, events_long (suc q) es h.1, weighs_some q e h.0, sum_by-cons (λ (x : Event). weigh x.what) e es)
 
 -- a journal has no more events than it weighs
-pub journal_short : (journal : Journal) (left : ℕ) → IsValid journal → weight_of journal.events + left ≤ 16000000 → length journal.events ≤ 16000000
+pub journal_short : (journal : Journal) (left : ℕ) → IsValid journal → weight_of journal.events + left ≤ max_fuel → length journal.events ≤ max_fuel
 journal_short journal left valid small = omega (arith, events_long 1 journal.events valid.in_range)

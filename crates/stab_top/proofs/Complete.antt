@@ -5,42 +5,43 @@ use Rattle.sum_reader.specs.Program.{Body, IsProgram}
 use Rattle.stab_top.specs.declared.report.Status.{Status}
 use Rattle.stab_top.specs.declared.report.Status.TheVariants.{Done, Held, BadWords, BadText, NoFile, TooBig, FileFault, SinkFault, Spent, NoMemory, BadProbes, BadTrace, BadScript, No, NotBuilt}
 use Rattle.stab_top.specs.Words.{run_file}
-use Rattle.stab_top.specs.Call.{Call, CountedFault, Finds, max_text, Ran, RefusalSays, Says, TextSays}
+use Rattle.stab_top.specs.declared.report.Role.TheVariants.{Program}
+use Rattle.stab_top.specs.Loading.{Device, Finds, LoadRefused, FileSays, blamed, max_bytes}
+use Rattle.stab_top.specs.Call.{Call, CountedFault, Ran, Refuses, Says, TextSays}
 
--- what is found, where the words name a file and the files tell
-found_there : (c : Call) (P : Option (List ℕ) → Type 0) (name : List ℕ) (files : List Entry) → Finds c P → run_file c.words ≡ Some name → c.files.told ≡ Some files → P (contents_of files name)
-found_there c P name files found named told =
-    let there : IfSome c.files.told (λ fs. P (contents_of fs name)) = subst (λ o. IsSomeAnd o (λ n. IfSome c.files.told (λ fs. P (contents_of fs n)))) named found in
-    subst (λ o. IfSome o (λ fs. P (contents_of fs name))) told there
+-- what is found, where the files tell
+found_there : (files : Device (List Entry)) (name : List ℕ) (P : Option (List ℕ) → Type 0) (held : List Entry) → Finds files name P → files.told ≡ Some held → P (contents_of held name)
+found_there files name P held found told = subst (λ o. IfSome o (λ all. P (contents_of all name))) told found
 
 same_bytes : (a b : List ℕ) → ◌≡◌ {A = Option (List ℕ)} (Some a) (Some b) → a ≡ b
 same_bytes a b h = cc
 
-refused : (status : Status) (c : Call) (name bytes : List ℕ) (files : List Entry) → RefusalSays status c → run_file c.words ≡ Some name → c.files.told ≡ Some files → contents_of files name ≡ Some bytes → length bytes ≤ max_text → Ran status ⊎ CountedFault c
-refused NotBuilt c name bytes files says named told held within = let none : run_file c.words ≡ None = says.2 in absurd (let wrong : ⊥ = cc in wrong)
-refused NoFile c name bytes files says named told held within =
-    let none : contents_of files name ≡ None = found_there c (λ found. found ≡ None) name files says.2 named told in absurd (let wrong : ⊥ = cc in wrong)
-refused TooBig c name bytes files says named told held within =
-    let big : IsSomeAnd (Some bytes) (λ b. max_text < length b) =
-    subst (λ o. IsSomeAnd o (λ b. max_text < length b)) held (found_there c (λ found. IsSomeAnd found (λ b. max_text < length b)) name files says.2 named told) in
-    let over : max_text < length bytes = big in absurd (omega arith)
-refused FileFault c name bytes files says named told held within = inr (inl says.1)
-refused NoMemory c name bytes files says named told held within = inl tt
-refused Done c name bytes files says named told held within = elim says [ ]
-refused Held c name bytes files says named told held within = elim says [ ]
-refused BadWords c name bytes files says named told held within = elim says [ ]
-refused BadText c name bytes files says named told held within = elim says [ ]
-refused SinkFault c name bytes files says named told held within = elim says [ ]
-refused Spent c name bytes files says named told held within = elim says [ ]
-refused BadProbes c name bytes files says named told held within = elim says [ ]
-refused BadTrace c name bytes files says named told held within = elim says [ ]
-refused BadScript c name bytes files says named told held within = elim says [ ]
-refused No c name bytes files says named told held within = elim says [ ]
+-- a file that is held within the limit is refused by a fault or for want of memory
+refused : (status : Status) (c : Call) (name bytes : List ℕ) (held : List Entry) → LoadRefused status Program c.files name c.files_after → c.files.told ≡ Some held → contents_of held name ≡ Some bytes → length bytes ≤ max_bytes Program → Ran status ⊎ CountedFault c
+refused NoFile c name bytes held says told there within =
+    let none : contents_of held name ≡ None = found_there c.files name (λ found. found ≡ None) held says.1 told in absurd (let wrong : ⊥ = cc in wrong)
+refused TooBig c name bytes held says told there within =
+    let big : IsSomeAnd (Some bytes) (λ b. max_bytes Program < length b) =
+    subst (λ o. IsSomeAnd o (λ b. max_bytes Program < length b)) there (found_there c.files name (λ found. IsSomeAnd found (λ b. max_bytes Program < length b)) held says.1 told) in
+    let over : max_bytes Program < length bytes = big in absurd (omega arith)
+refused FileFault c name bytes held says told there within = inr (inl says)
+refused NoMemory c name bytes held says told there within = inl tt
+refused Done c name bytes held says told there within = elim says [ ]
+refused Held c name bytes held says told there within = elim says [ ]
+refused BadWords c name bytes held says told there within = elim says [ ]
+refused BadText c name bytes held says told there within = elim says [ ]
+refused SinkFault c name bytes held says told there within = elim says [ ]
+refused Spent c name bytes held says told there within = elim says [ ]
+refused BadProbes c name bytes held says told there within = elim says [ ]
+refused BadTrace c name bytes held says told there within = elim says [ ]
+refused BadScript c name bytes held says told there within = elim says [ ]
+refused No c name bytes held says told there within = elim says [ ]
+refused NotBuilt c name bytes held says told there within = elim says [ ]
 
 ran : (status : Status) (c : Call) (bytes : List ℕ) (program : Body) → IsProgram bytes program → TextSays status bytes c.outcome → Ran status ⊎ CountedFault c
 ran Done c bytes program is says = inl tt
 ran Held c bytes program is says = inl tt
-ran SinkFault c bytes program is says = inr (inr says.1.end.1)
+ran SinkFault c bytes program is says = inr (inr says.2.end.1)
 ran NotBuilt c bytes program is says = absurd (says.1 program is)
 ran NoMemory c bytes program is says = inl tt
 ran NoFile c bytes program is says = elim says [ ]
@@ -54,8 +55,18 @@ ran BadTrace c bytes program is says = elim says [ ]
 ran BadScript c bytes program is says = elim says [ ]
 ran No c bytes program is says = elim says [ ]
 
-pub good_program : (status : Status) (c : Call) (files : List Entry) (name bytes : List ℕ) (program : Body) → Says status c → run_file c.words ≡ Some name → c.files.told ≡ Some files → contents_of files name ≡ Some bytes → length bytes ≤ max_text → IsProgram bytes program → Ran status ⊎ CountedFault c
-good_program status c files name bytes program (inl says) named told held within is = refused status c name bytes files says named told held within
-good_program status c files name bytes program (inr (loaded, loads, says)) named told held within is =
-    let same : bytes ≡ loaded = same_bytes bytes loaded (sym held ∙ found_there c (λ found. found ≡ Some loaded) name files loads.held named told) in
+read : (status : Status) (c : Call) (held : List Entry) (name bytes : List ℕ) (program : Body) →
+    FileSays Program status c.files name c.files_after (Refuses c.outcome (blamed status Program)) (λ text. TextSays status text c.outcome) →
+    c.files.told ≡ Some held → contents_of held name ≡ Some bytes → length bytes ≤ max_bytes Program → IsProgram bytes program → Ran status ⊎ CountedFault c
+read status c held name bytes program (inl says) told there within is = refused status c name bytes held says.0 told there within
+read status c held name bytes program (inr (loaded, loads, says)) told there within is =
+    let same : bytes ≡ loaded = same_bytes bytes loaded (sym there ∙ found_there c.files name (λ found. found ≡ Some loaded) held loads.held told) in
     ran status c loaded program (subst (λ b. IsProgram b program) same is) says
+
+pub good_program : (status : Status) (c : Call) (held : List Entry) (name bytes : List ℕ) (program : Body) → Says status c → run_file c.words ≡ Some name → c.files.told ≡ Some held → contents_of held name ≡ Some bytes → length bytes ≤ max_bytes Program → IsProgram bytes program → Ran status ⊎ CountedFault c
+good_program status c held name bytes program (inl says) named told there within is =
+    let none : run_file c.words ≡ None = says.words in absurd (let wrong : ⊥ = cc in wrong)
+good_program status c held name bytes program (inr says) named told there within is =
+    let here : FileSays Program status c.files name c.files_after (Refuses c.outcome (blamed status Program)) (λ text. TextSays status text c.outcome) =
+    subst (λ o. IsSomeAnd o (λ n. FileSays Program status c.files n c.files_after (Refuses c.outcome (blamed status Program)) (λ text. TextSays status text c.outcome))) named says in
+    read status c held name bytes program here told there within is

@@ -1,6 +1,7 @@
 pub mod Showing
-pub mod Turning
+pub mod NextEvents
 pub mod Bounding
 pub mod Pieces
 pub mod Ending
 pub mod Complete
+pub mod Executing

@@ -1,5 +1,5 @@
 -- What a book shows.
-use Rattle.std.specs.Prelude.{◌≡◌, ◌+◌, ◌<◌, List}
+use Rattle.std.specs.Prelude.{ℕ, ◌≡◌, ◌+◌, ◌<◌, List}
 use Rattle.std.specs.List.{AllByRecursion}
 use Rattle.stab_journal.specs.declared.event.Event.{Event}
 use Rattle.stab_journal.specs.declared.event.Numbered.{Numbered}
@@ -10,6 +10,10 @@ use Rattle.plain_model.specs.Job.{Job}
 use Rattle.plain_model.specs.Program.{main_expr}
 use Rattle.plain_model.specs.State.{State, work_left}
 use Rattle.plain_model.specs.Standing.{Shows}
+
+-- no job has more fuel
+abbrev pub max_fuel : ℕ
+max_fuel = 16000000
 
 -- the job, what happened, and the state that it led to
 pub record Book : Type 0 where

@@ -1,5 +1,7 @@
 pub mod Reason
 pub mod Words
 pub mod Book
-pub mod Turn
+pub mod NextEvent
+pub mod Loading
 pub mod Call
+pub mod Command

@@ -3,7 +3,7 @@ ghost use Rattle.std.specs.Prelude.{◌≡◌, ◌<◌, ◌≤◌, [], true, fal
 ghost use Rattle.plain_model.specs.Program.{main_expr};
 ghost use Rattle.plain_model.specs.State.{IsQuiet, start, work, work_left};
 ghost use Rattle.stab_top.specs.Book.{IsBook, IsShown};
-ghost use Rattle.stab_top.specs.Turn.{Turned};
+ghost use Rattle.stab_top.specs.NextEvent.{AddsEvent};
 
 use crate::run;
 use plain_model::{Job, PlainState};
@@ -78,17 +78,17 @@ impl Book {
         &self.state
     }
 
-    /// Makes the next turn and tells whether there was one. A turn adds one event: a thread's pure steps, as many as it has within
+    /// Makes the next event and tells whether there was one: a thread's pure steps, as many as it has within
     /// the quantum, or its act. An `Err` leaves the history and the state.
-    pub fn turn(&mut self, alloc: Global) -> Result<bool, NoMemory>
+    pub fn make_event(&mut self, alloc: Global) -> Result<bool, NoMemory>
         ensures job { self.new.job ≡ self.old.job }
         ensures rest { IfOk result (λ went. went ≡ false → IsQuiet self.new.state) }
         ensures still { IfOk result (λ went. went ≡ false → (self.new.state ≡ self.old.state) × (self.new.history.events ≡ self.old.history.events)) }
-        ensures turn { IfOk result (λ went. went ≡ true → Turned self.old.job.quantum self.old.history.events self.old.state self.new.history.events self.new.state) }
+        ensures event { IfOk result (λ went. went ≡ true → AddsEvent self.old.job.quantum self.old.history.events self.old.state self.new.history.events self.new.state) }
         ensures err { OnErr result ((self.new.state ≡ self.old.state) × (self.new.history.events ≡ self.old.history.events)) }
         ensures less { IfOk result (λ went. went ≡ true → work_left self.new.state < work_left self.old.state) }
     {
-        run::make_turn(
+        run::make_event(
             alloc,
             &mut self.history,
             &mut self.state,

@@ -2,6 +2,8 @@
 #![tactic(auto)]
 
 mod book;
+mod loading;
+mod program;
 mod report;
 mod run;
 #[cfg(test)]
@@ -11,5 +13,6 @@ mod words;
 mod writing;
 
 pub use book::Book;
+pub use program::command;
 pub use report::{Gate, Report, Role, Status, reason};
 pub use top::{good_programs_run, stab};

@@ -1,5 +1,6 @@
 //! What a call reports.
 ghost use Rattle.std.specs.Prelude.{◌≡◌, ◌++◌, OnOk, OnErr};
+ghost use Rattle.stab_top.specs.Loading.{max_bytes};
 ghost use Rattle.stab_top.specs.Reason.{reason_text, role_name, status_name, status_number};
 
 use crate::book::Book;
@@ -92,6 +93,16 @@ impl Role {
             Role::Probes => "probes",
             Role::Trace => "trace",
             Role::Script => "script",
+        }
+    }
+
+    /// How many bytes such a file may have.
+    pub fn max_bytes(self) -> u64
+        ensures { result ≡ max_bytes self }
+    {
+        match self {
+            Role::Program | Role::Probes | Role::Script => 1_048_576,
+            Role::Trace => 67_108_864,
         }
     }
 }

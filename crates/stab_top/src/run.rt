@@ -1,4 +1,4 @@
-//! The turns of a run.
+//! The events of a run.
 ghost use Rattle.std.specs.Prelude.{◌≡◌, ◌+◌, ◌<◌, ◌≤◌, Some, None, true, false, IfOk, IsSome, OnOk, OnErr};
 ghost use Rattle.std.specs.FinMap as map;
 ghost use Rattle.stab_journal.specs.Event.{weigh, weight_of};
@@ -6,7 +6,8 @@ ghost use Rattle.stab_journal.specs.declared.event.What.TheVariants as What;
 ghost use Rattle.plain_model.specs.Machine.{LooksAt};
 ghost use Rattle.plain_model.specs.State.{IsQuiet, local_of, plain, work_left};
 ghost use Rattle.plain_model.specs.declared.thread.Look.TheVariants as looks;
-ghost use Rattle.stab_top.specs.Turn.{IsTurn, KeepsShown, Turned};
+ghost use Rattle.stab_top.specs.Book.{max_fuel};
+ghost use Rattle.stab_top.specs.NextEvent.{IsNextStep, KeepsShown, AddsEvent};
 
 use plain_model::{Look, PlainState, PlayFault};
 use stab_base::{NoMemory, Seq, ThreadId};
@@ -16,21 +17,21 @@ use std::alloc::Global;
 /// The one worker of a run.
 const WORKER: u32 = 1;
 
-/// Makes the next turn: as many pure steps of a thread as the quantum allows, or its act.
+/// Makes the next event: as many pure steps of a thread as the quantum allows, or its act.
 /// Tells whether there was one.
-pub fn make_turn(
+pub fn make_event(
     alloc: Global,
     history: &mut History,
     state: &mut PlainState,
     quantum: u32,
 ) -> Result<bool, NoMemory>
     requires quantum { 1 ≤ quantum }
-    requires small { weight_of history.old.events + work_left state.old ≤ 16000000 }
+    requires small { weight_of history.old.events + work_left state.old ≤ max_fuel }
     ensures goes { KeepsShown history.old state.old history.new state.new }
     ensures small { weight_of history.new.events + work_left state.new ≤ weight_of history.old.events + work_left state.old }
     ensures rest { IfOk result (λ went. went ≡ false → IsQuiet state.new) }
     ensures still { IfOk result (λ went. went ≡ false → (state.new ≡ state.old) × (history.new.events ≡ history.old.events)) }
-    ensures turn { IfOk result (λ went. went ≡ true → Turned quantum history.old.events state.old history.new.events state.new) }
+    ensures event { IfOk result (λ went. went ≡ true → AddsEvent quantum history.old.events state.old history.new.events state.new) }
     ensures less { IfOk result (λ went. went ≡ true → work_left state.new < work_left state.old) }
     ensures err { OnErr result ((state.new ≡ state.old) × (history.new.events ≡ history.old.events)) }
 {
@@ -54,7 +55,7 @@ fn next_step(
     quantum: u32,
 ) -> Result<Option<Label>, NoMemory>
     requires { 1 ≤ quantum }
-    ensures ok { IfOk result (IsTurn quantum state.old number.0 state.new) }
+    ensures ok { IfOk result (IsNextStep quantum state.old number.0 state.new) }
     ensures err { OnErr result (state.new ≡ state.old) }
 {
     let Some(t) = state.ready() else {

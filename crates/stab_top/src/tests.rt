@@ -2,7 +2,7 @@
 
 use crate::report::{Gate, Report, Role, Status, reason};
 use crate::top::stab;
-use stab_base::{Seq, ThreadId};
+use stab_base::{Seq, ThreadId, Value};
 use stab_files::{MemFiles, MemSink};
 use stab_journal::{Event, Label, What};
 use std::alloc::Global;
@@ -40,7 +40,7 @@ struct Answer {
 fn called<R: Threads + Wait + Sync>(
     rt: &R,
     alloc: Global,
-    words: [&str; 2],
+    words: &[&str],
     text: &[u8],
     fails: [&[u64]; 2],
 ) -> Result<Answer, Fail> {
@@ -56,7 +56,7 @@ fn called<R: Threads + Wait + Sync>(
         file: report.file,
         events: events(alloc, &report)?,
         written: sink.bytes().to_vec(alloc)?,
-        line: told(alloc, &report)?,
+        line: reason_of(alloc, &report)?,
         gate_calls: gate.calls.load(Ordering::SeqCst),
     })
 }
@@ -71,10 +71,22 @@ fn events(alloc: Global, report: &Report) -> Result<Vec<Event>, Fail> {
     Ok(events)
 }
 
-fn texts(alloc: Global, words: [&str; 2]) -> Result<Vec<String>, Fail> {
-    let first = String::from_str(alloc, words[0])?;
-    let second = String::from_str(alloc, words[1])?;
-    Ok(vec![in alloc; first, second]?)
+fn texts(alloc: Global, words: &[&str]) -> Result<Vec<String>, Fail> {
+    let mut texts = Vec::new(alloc);
+    for word in words {
+        texts.push(String::from_str(alloc, word)?)?;
+    }
+    Ok(texts)
+}
+
+// A program of one function whose block is the piece so many times.
+fn block_of(alloc: Global, piece: &[u8], count: u32) -> Result<Vec<u8>, Fail> {
+    let mut text = b"fn main(): unit {".to_vec(alloc)?;
+    for _ in 0..count {
+        text.extend_from_slice(piece)?;
+    }
+    text.push(b'}')?;
+    Ok(text)
 }
 
 fn holding(alloc: Global, text: &[u8], fails: &[u64]) -> Result<MemFiles, Fail> {
@@ -82,7 +94,7 @@ fn holding(alloc: Global, text: &[u8], fails: &[u64]) -> Result<MemFiles, Fail> 
     Ok(MemFiles::new(vec![in alloc; file]?, fails.to_vec(alloc)?))
 }
 
-fn told(alloc: Global, report: &Report) -> Result<Vec<u8>, Fail> {
+fn reason_of(alloc: Global, report: &Report) -> Result<Vec<u8>, Fail> {
     let mut line = Vec::new(alloc);
     reason(alloc, report, &mut line).map_err(|_| Fail::from("no memory"))?;
     Ok(line)
@@ -90,7 +102,7 @@ fn told(alloc: Global, report: &Report) -> Result<Vec<u8>, Fail> {
 
 #[test]
 fn print_a_sum(rt: HostRuntime) -> Result<(), Fail> {
-    let call = called(&rt, rt.alloc(), ["run", "p"], SUM, [&[], &[]])?;
+    let call = called(&rt, rt.alloc(), &["run", "p"], SUM, [&[], &[]])?;
     assert_eq!(rt; call.status, Status::Done);
     let text = b"3\nended 1 faulted 0 waiting 0\n".as_slice();
     assert_eq!(rt; call.written.as_slice(), text);
@@ -101,13 +113,9 @@ fn print_a_sum(rt: HostRuntime) -> Result<(), Fail> {
 }
 
 #[test]
-fn turns_are_as_long_as_the_quantum(rt: HostRuntime) -> Result<(), Fail> {
-    let mut text = b"fn main(): unit {".to_vec(rt.alloc())?;
-    for _ in 0..1_001 {
-        text.extend_from_slice(b"0;")?;
-    }
-    text.push(b'}')?;
-    let call = called(&rt, rt.alloc(), ["run", "p"], &text, [&[], &[]])?;
+fn events_are_as_long_as_the_quantum(rt: HostRuntime) -> Result<(), Fail> {
+    let text = block_of(rt.alloc(), b"0;", 1_001)?;
+    let call = called(&rt, rt.alloc(), &["run", "p"], &text, [&[], &[]])?;
     let whole = What::Step(Label::Local(ThreadId(1), 1_000));
     let rest = What::Step(Label::Local(ThreadId(1), 1));
     assert_eq!(rt; call.events.len(), 2);
@@ -118,7 +126,7 @@ fn turns_are_as_long_as_the_quantum(rt: HostRuntime) -> Result<(), Fail> {
 
 #[test]
 fn events_of_a_sum(rt: HostRuntime) -> Result<(), Fail> {
-    let call = called(&rt, rt.alloc(), ["run", "p"], SUM, [&[], &[]])?;
+    let call = called(&rt, rt.alloc(), &["run", "p"], SUM, [&[], &[]])?;
     let local = What::Step(Label::Local(ThreadId(1), 1));
     let print = What::Step(Label::Print(ThreadId(1)));
     assert_eq!(rt; call.events.len(), 2);
@@ -130,7 +138,7 @@ fn events_of_a_sum(rt: HostRuntime) -> Result<(), Fail> {
 #[test]
 fn overflow_in_main(rt: HostRuntime) -> Result<(), Fail> {
     let program = b"fn main(): unit { print(9223372036854775807 + 1) }";
-    let call = called(&rt, rt.alloc(), ["run", "p"], program, [&[], &[]])?;
+    let call = called(&rt, rt.alloc(), &["run", "p"], program, [&[], &[]])?;
     assert_eq!(rt; call.status, Status::Held);
     let text = b"thread 1 fault Overflow\nended 0 faulted 1 waiting 0\n".as_slice();
     assert_eq!(rt; call.written.as_slice(), text);
@@ -141,24 +149,37 @@ fn overflow_in_main(rt: HostRuntime) -> Result<(), Fail> {
 #[test]
 fn kinds_and_order(rt: HostRuntime) -> Result<(), Fail> {
     let program = b"fn main(): unit { print(print(1)); print(2) + 1; print(3) }";
-    let call = called(&rt, rt.alloc(), ["run", "p"], program, [&[], &[]])?;
+    let call = called(&rt, rt.alloc(), &["run", "p"], program, [&[], &[]])?;
     let text = b"1\n()\n2\nthread 1 fault WrongKind\nended 0 faulted 1 waiting 0\n".as_slice();
     assert_eq!(rt; call.written.as_slice(), text);
     Ok(())
 }
 
 #[test]
-fn sink_fails_at_the_second_line(rt: HostRuntime) -> Result<(), Fail> {
-    let call = called(&rt, rt.alloc(), ["run", "p"], SUM, [&[], &[2]])?;
-    assert_eq!(rt; call.status, Status::SinkFault);
-    assert_eq!(rt; call.written.as_slice(), b"3\n".as_slice());
-    assert_eq!(rt; call.events.len(), 2);
+fn each_line_is_one_put(rt: HostRuntime) -> Result<(), Fail> {
+    let program = b"fn main(): unit { print(1); print(22); print(333) }";
+    let text = b"1\n22\n333\nended 1 faulted 0 waiting 0\n".as_slice();
+    for (failing, written) in [(1, 0), (2, 2), (3, 5), (4, 9), (5, text.len())] {
+        let call = called(&rt, rt.alloc(), &["run", "p"], program, [&[], &[failing]])?;
+        let status = if failing < 5 {
+            Status::SinkFault
+        } else {
+            Status::Done
+        };
+        assert_eq!(rt; call.status, status, "at put {failing}");
+        assert_eq!(rt;
+            call.written.as_slice(),
+            &text[..written],
+            "at put {failing}"
+        );
+        assert_eq!(rt; call.events.len(), 5);
+    }
     Ok(())
 }
 
 #[test]
 fn file_is_missing(rt: HostRuntime) -> Result<(), Fail> {
-    let call = called(&rt, rt.alloc(), ["run", "q"], SUM, [&[], &[]])?;
+    let call = called(&rt, rt.alloc(), &["run", "q"], SUM, [&[], &[]])?;
     assert_eq!(rt; call.status, Status::NoFile);
     assert_eq!(rt; call.line.as_slice(), b"stab: NoFile program\n".as_slice());
     assert_eq!(rt; call.written.len(), 0);
@@ -167,9 +188,64 @@ fn file_is_missing(rt: HostRuntime) -> Result<(), Fail> {
 
 #[test]
 fn load_fails(rt: HostRuntime) -> Result<(), Fail> {
-    let call = called(&rt, rt.alloc(), ["run", "p"], SUM, [&[1], &[]])?;
+    let call = called(&rt, rt.alloc(), &["run", "p"], SUM, [&[1], &[]])?;
     assert_eq!(rt; call.status, Status::FileFault);
     assert_eq!(rt; call.file, Some(Role::Program));
+    Ok(())
+}
+
+#[test]
+fn the_program_is_loaded_once(rt: HostRuntime) -> Result<(), Fail> {
+    let call = called(&rt, rt.alloc(), &["run", "p"], SUM, [&[2], &[]])?;
+    assert_eq!(rt; call.status, Status::Done);
+    assert_eq!(rt; call.events.len(), 2);
+    Ok(())
+}
+
+#[test]
+fn other_numbers_of_words(rt: HostRuntime) -> Result<(), Fail> {
+    let words = ["run", "p", "p", "p", "p"];
+    for count in [0, 1, 3, 4, 5] {
+        let call = called(&rt, rt.alloc(), &words[..count], SUM, [&[], &[]])?;
+        assert_eq!(rt; call.status, Status::NotBuilt, "of {count} words");
+        assert_eq!(rt; call.written.len(), 0, "of {count} words");
+    }
+    Ok(())
+}
+
+#[test]
+fn fifty_thousand_prints(rt: HostRuntime) -> Result<(), Fail> {
+    let text = block_of(rt.alloc(), b"print(7);", 50_000)?;
+    let call = called(&rt, rt.alloc(), &["run", "p"], &text, [&[], &[]])?;
+    assert_eq!(rt; call.status, Status::Done);
+    // Each print is an event, and so is the step that leaves it behind.
+    assert_eq!(rt; call.events.len(), 100_000);
+    let (values, end) = call.written.as_slice().split_at(100_000);
+    assert_eq!(rt; values, b"7\n".repeat(rt.alloc(), 50_000)?.as_slice());
+    assert_eq!(rt; end, b"ended 1 faulted 0 waiting 0\n".as_slice());
+    Ok(())
+}
+
+#[test]
+fn a_million_tokens(rt: HostRuntime) -> Result<(), Fail> {
+    let text = block_of(rt.alloc(), b"0;", 500_000)?;
+    let call = called(&rt, rt.alloc(), &["run", "p"], &text, [&[], &[]])?;
+    assert_eq!(rt; call.status, Status::Done);
+    assert_eq!(rt; call.events.len(), 500);
+    Ok(())
+}
+
+#[test]
+fn a_value_of_4096_leaves_is_copied(rt: HostRuntime) -> Result<(), Fail> {
+    let alloc = rt.alloc();
+    let mut value = Value::int(7);
+    for _ in 0..12 {
+        let half = value.copy(alloc).map_err(|_| Fail::from("no memory"))?;
+        value = Value::pair(alloc, half, value).map_err(|_| Fail::from("no pair"))?;
+    }
+    let copy = value.copy(alloc).map_err(|_| Fail::from("no memory"))?;
+    assert_eq!(rt; copy.leaves(), 4_096);
+    assert!(rt; copy.same(&value));
     Ok(())
 }
 
@@ -177,19 +253,19 @@ fn load_fails(rt: HostRuntime) -> Result<(), Fail> {
 fn one_byte_too_many(rt: HostRuntime) -> Result<(), Fail> {
     let mut text = SUM.to_vec(rt.alloc())?;
     text.resize(1_048_576, b' ')?;
-    let call = called(&rt, rt.alloc(), ["run", "p"], &text, [&[], &[]])?;
+    let call = called(&rt, rt.alloc(), &["run", "p"], &text, [&[], &[]])?;
     assert_eq!(rt; call.status, Status::Done);
     text.push(b' ')?;
-    let call = called(&rt, rt.alloc(), ["run", "p"], &text, [&[], &[]])?;
+    let call = called(&rt, rt.alloc(), &["run", "p"], &text, [&[], &[]])?;
     assert_eq!(rt; call.status, Status::TooBig);
     Ok(())
 }
 
 #[test]
 fn not_built(rt: HostRuntime) -> Result<(), Fail> {
-    let call = called(&rt, rt.alloc(), ["run", "p"], b"", [&[], &[]])?;
+    let call = called(&rt, rt.alloc(), &["run", "p"], b"", [&[], &[]])?;
     assert_eq!(rt; call.status, Status::NotBuilt);
-    let call = called(&rt, rt.alloc(), ["check", "a"], SUM, [&[], &[]])?;
+    let call = called(&rt, rt.alloc(), &["check", "a"], SUM, [&[], &[]])?;
     assert_eq!(rt; call.status.number(), 14);
     assert_eq!(rt; call.line.as_slice(), b"stab: NotBuilt\n".as_slice());
     Ok(())

@@ -1,31 +1,31 @@
 //! The one call that the program makes.
-ghost use Rattle.std.specs.Prelude.{◌≡◌, ◌≤◌, ◌⊎◌, ℕ, List, [], length, map as each, string_bytes, Some, None, IfOk};
+ghost use Rattle.std.specs.Prelude.{◌≡◌, ◌+◌, ◌≤◌, ◌⊎◌, ℕ, List, [], length, map as each, string_bytes, Some, None, IfOk};
 ghost use Rattle.plain_model.specs.Job.{default_job};
 ghost use Rattle.plain_model.specs.Program.{main_expr};
 ghost use Rattle.plain_model.specs.Shown.{shown};
 ghost use Rattle.plain_model.specs.State.{IsQuiet, work};
 ghost use Rattle.stab_top.specs.Book.{ByOneWorker, IsShown};
-ghost use Rattle.stab_top.specs.Call.{Call, CountedFault, EndSays, max_text, Ran, Says, TextSays};
+ghost use Rattle.stab_top.specs.Call.{Call, CountedFault, EndSays, Ran, Says, TextSays};
+ghost use Rattle.stab_top.specs.Loading.{max_bytes};
 ghost use Rattle.stab_top.specs.Words.{run_file};
 ghost use Rattle.stab_files.specs.Entry.{contents_of, Entry};
 ghost use Rattle.sum_reader.specs.Program.{Body, IsProgram};
 ghost use Rattle.stab_top.specs.declared.report.Status.{Status};
+ghost use Rattle.stab_top.specs.declared.report.Role.TheVariants.{Program as ProgramFile};
 ghost use Rattle.stab_top.specs.declared.report.Status.TheVariants.{NotBuilt};
 
 use crate::book::Book;
+use crate::loading::{blame, load};
 use crate::report::{Gate, Report, Role, Status};
 use crate::words::run_file;
 use crate::writing::put_lines;
 use plain_model::{Job, shown_text};
 use stab_base::NoMemory;
-use stab_files::{Files, Loaded, Sink, SinkFail};
+use stab_files::{Files, Sink, SinkFail};
 use std::alloc::Global;
 use std::sync::Wait;
 use std::thread::Threads;
 use sum_reader::{Program, ReadFault, read_sums};
-
-/// The greatest size of a program's text in bytes.
-const MAX_TEXT: u64 = 1_048_576;
 
 /// Does what the words ask for: `run FILE` runs the program of the file and writes what it shows.
 /// The report tells how it ended. One worker runs on the calling thread, and calls no gate.
@@ -73,18 +73,15 @@ fn answer<F: Files, K: Sink>(alloc: Global, words: &[String], files: &mut F, sin
     let Some(name) = run_file(words) else {
         return refusal(Status::NotBuilt, None);
     };
-    match files.load(alloc, name, MAX_TEXT) {
-        Loaded::Bytes(bytes) => run_text(alloc, &bytes, sink),
-        Loaded::Missing => refusal(Status::NoFile, Some(Role::Program)),
-        Loaded::TooBig => refusal(Status::TooBig, Some(Role::Program)),
-        Loaded::Failed => refusal(Status::FileFault, Some(Role::Program)),
-        Loaded::NoMemory => refusal(Status::NoMemory, None),
+    match load(alloc, files, Role::Program, name) {
+        Ok(bytes) => run_text(alloc, &bytes, sink),
+        Err(status) => refusal(status, blame(status, Role::Program)),
     }
 }
 
 // Runs the program of a text, and writes what it shows.
 fn run_text<K: Sink>(alloc: Global, bytes: &[u8], sink: &mut K) -> Report
-    requires { length bytes.now ≤ 1048576 }
+    requires { length bytes.now ≤ max_bytes ProgramFile }
     ensures { TextSays result.status bytes.now (record {
       sink = record { told = K.told sink.old; faults = K.faults sink.old };
       sink_after = record { told = K.told sink.new; faults = K.faults sink.new };
@@ -108,12 +105,12 @@ fn run_text<K: Sink>(alloc: Global, bytes: &[u8], sink: &mut K) -> Report
 
 // The book of a whole run.
 fn run_program(alloc: Global, program: Program) -> Result<Book, NoMemory>
-    requires { work (main_expr program) ≤ 524288 }
+    requires { work (main_expr program) + work (main_expr program) ≤ max_bytes ProgramFile }
     ensures job { IfOk result (λ b. b.job ≡ default_job program) }
     ensures quiet { IfOk result (λ b. IsQuiet b.state) }
 {
     let mut book = Book::new(alloc, Job::of_program(alloc, program))?;
-    while book.turn(alloc)? {}
+    while book.make_event(alloc)? {}
     Ok(book)
 }
 
@@ -148,7 +145,7 @@ fn ending(status: Status, book: Book) -> Report
     }
 }
 
-fn refusal(status: Status, file: Option<Role>) -> Report
+pub(crate) fn refusal(status: Status, file: Option<Role>) -> Report
     ensures status { result.status ≡ status }
     ensures book { result.book ≡ None }
     ensures file { result.file ≡ file }
@@ -165,5 +162,5 @@ fn refusal(status: Status, file: Option<Role>) -> Report
 pub fn good_programs_run()
     ensures { (status : Status) (c : Call) (files : List Entry) (name bytes : List ℕ) (program : Body) → Says status c →
         run_file c.words ≡ Some name → c.files.told ≡ Some files → contents_of files name ≡ Some bytes →
-        length bytes ≤ max_text → IsProgram bytes program → Ran status ⊎ CountedFault c }
+        length bytes ≤ max_bytes ProgramFile → IsProgram bytes program → Ran status ⊎ CountedFault c }
 {}

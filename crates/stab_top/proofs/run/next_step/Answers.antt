@@ -1,7 +1,7 @@
 use Rattle.std.specs.FinMap as map
 use Rattle.std.proofs.Common.{Some, subst}
 use Rattle.plain_model.specs.Machine.{LooksAt}
-use Rattle.stab_top.proofs.Turning.{print_next}
+use Rattle.stab_top.proofs.NextEvents.{print_next}
 use Rattle.stab_top.proofs.run.next_step.Goals as goal
 
 pub play-requires : goal.play-requires

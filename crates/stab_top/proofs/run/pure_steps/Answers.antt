@@ -1,6 +1,6 @@
 use Rattle.std.proofs.Common.{arith, ◌+◌, ◌≤◌}
 use Rattle.plain_model.specs.State.{work_left}
-use Rattle.stab_top.proofs.Turning.{one_more_local}
+use Rattle.stab_top.proofs.NextEvents.{one_more_local}
 use Rattle.stab_top.proofs.run.pure_steps.Goals as goal
 
 pub loop-made-preserved : goal.loop-made-preserved

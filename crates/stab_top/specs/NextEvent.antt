@@ -1,4 +1,4 @@
--- One turn of a run.
+-- The next event of a run.
 use Rattle.std.specs.Prelude.{◌≡◌, ℕ, ◌+◌, ◌<◌, ◌≤◌, List, [], ◌∷◌, ◌++◌, length, Option, Some, None}
 use Rattle.stab_journal.specs.declared.event.Label.{Label}
 use Rattle.stab_journal.specs.declared.event.What.TheVariants.{Step}
@@ -10,7 +10,7 @@ use Rattle.plain_model.specs.Expression.{Expr}
 use Rattle.plain_model.specs.State.{State, local_of, plain, IsQuiet, work_left}
 use Rattle.stab_top.specs.Book.{ByOneWorker, IsShown}
 
--- a turn keeps what a book keeps: whatever program the journal and the state were shown for, they are shown for it
+-- the next event keeps what a book keeps: whatever program the journal and the state were shown for, they are shown for it
 pub record KeepsShown (journal : Journal) (state : State) (journal' : Journal) (state' : State) : Type 0 where
   pub shown : (main : Expr) → IsShown main journal state → IsShown main journal' state'
   pub by_one : ByOneWorker journal.events → ByOneWorker journal'.events
@@ -21,14 +21,14 @@ IsWhole quantum (Local t n) after = (n ≤ quantum) × (n < quantum → local_of
 IsWhole quantum _ after = Unit {0}
 
 -- one event of worker 1 came to the end, and its step leads from the state before to the state after
-pub record Turned (quantum : ℕ) (events : List Event) (old : State) (events' : List Event) (new : State) : Type 0 where
+pub record AddsEvent (quantum : ℕ) (events : List Event) (old : State) (events' : List Event) (new : State) : Type 0 where
   pub label : Label
   pub event : events' ≡ events ++ record { worker = 1; what = Step label } ∷ []
   pub step : plain old (length events + 1) label ≡ Some new
   pub whole : IsWhole quantum label new
 
 -- the step with this number that was made, or a quiet state that stays
-abbrev pub IsTurn : ℕ → State → ℕ → State → Option Label → Type 0
-IsTurn quantum old number new None = IsQuiet new × (new ≡ old)
-IsTurn quantum old number new (Some label) =
+abbrev pub IsNextStep : ℕ → State → ℕ → State → Option Label → Type 0
+IsNextStep quantum old number new None = IsQuiet new × (new ≡ old)
+IsNextStep quantum old number new (Some label) =
     IsLabel label × (plain old number label ≡ Some new) × (work_left new + weigh (Step label) ≤ work_left old) × IsWhole quantum label new

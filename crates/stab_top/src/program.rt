@@ -1,0 +1,153 @@
+//! The program, from its arguments to its exit status.
+ghost use Rattle.std.specs.Prelude.{◌≡◌, ◌≢◌, ◌⊎◌, None, drop, map as each, string_bytes, IfOk, IfErr};
+ghost use Rattle.std.specs.IoError.{error_kind};
+ghost use Rattle.std.specs.Vec.Iter.{into_iter_items};
+ghost use Rattle.stab_top.specs.Call.{Says};
+ghost use Rattle.stab_top.specs.Command.{EndsWith, Executes, Rests, Writes};
+ghost use Rattle.stab_top.specs.Reason.{reason_text, status_number};
+ghost use Rattle.stab_top.specs.declared.report.Status.TheVariants.{NoMemory as OutOfMemory, NotBuilt};
+
+use crate::report::{Gate, Report, Status, reason};
+use crate::top::{refusal, stab};
+use stab_base::NoMemory;
+use stab_files::{Files, Sink};
+use std::alloc::Global;
+use std::env::Args;
+use std::io::{self, ErrorKind};
+use std::sync::Wait;
+use std::thread::Threads;
+
+/// A gate at which no worker waits.
+struct OpenGate;
+
+impl Gate for OpenGate {
+    fn before_commit(&self, _worker: u32) {}
+}
+
+/// Does what the program's arguments ask for, writes to `errors` why it didn't end as Done, and gives the exit status.
+/// The arguments begin with the program's name.
+pub fn command<R: Threads + Wait + Sync, F: Files, K: Sink, E: Sink>(
+    rt: &R,
+    alloc: Global,
+    args: io::Result<Args>,
+    files: &mut F,
+    sink: &mut K,
+    errors: &mut E,
+) -> u8
+    ensures executes { IfOk args (λ args. Executes (each string_bytes (drop 1 (into_iter_items args))) (record {
+      files = record { told = F.held files.old; faults = F.faults files.old };
+      files_after = F.faults files.new;
+      sink = record { told = K.told sink.old; faults = K.faults sink.old };
+      sink_after = record { told = K.told sink.new; faults = K.faults sink.new };
+      errors = record { told = E.told errors.old; faults = E.faults errors.old };
+      errors_after = record { told = E.told errors.new; faults = E.faults errors.new };
+      number = result;
+    })) }
+    ensures no_memory { IfErr args (λ error. error_kind error ≡ ErrorKind.OutOfMemory → result ≡ status_number OutOfMemory) }
+    ensures no_text { IfErr args (λ error. error_kind error ≢ ErrorKind.OutOfMemory → result ≡ status_number NotBuilt) }
+    ensures kept { F.held files.new ≡ F.held files.old }
+{
+    match args {
+        Ok(args) => {
+            let report = called(rt, alloc, args, files, sink);
+            finish(alloc, &report, errors)
+        }
+        Err(error) => {
+            let report = refused_words(&error);
+            finish(alloc, &report, errors)
+        }
+    }
+}
+
+fn called<R: Threads + Wait + Sync, F: Files, K: Sink>(
+    rt: &R,
+    alloc: Global,
+    args: Args,
+    files: &mut F,
+    sink: &mut K,
+) -> Report
+    ensures says { Says result.status (record {
+      words = each string_bytes (drop 1 (into_iter_items args));
+      files = record { told = F.held files.old; faults = F.faults files.old };
+      files_after = F.faults files.new;
+      outcome = record {
+        sink = record { told = K.told sink.old; faults = K.faults sink.old };
+        sink_after = record { told = K.told sink.new; faults = K.faults sink.new };
+        book = result.book;
+        file = result.file;
+      };
+    }) ⊎ ((result.status ≡ OutOfMemory) × (result.file ≡ None) × (K.told sink.new ≡ K.told sink.old) × (K.faults sink.new ≡ K.faults sink.old) × (F.faults files.new ≡ F.faults files.old)) }
+    ensures kept { F.held files.new ≡ F.held files.old }
+{
+    match words(alloc, args) {
+        Ok(words) => stab(rt, alloc, &words, files, sink, &OpenGate),
+        Err(NoMemory) => refusal(Status::NoMemory, None),
+    }
+}
+
+/// The words of a call: all arguments behind the program's name.
+fn words(alloc: Global, mut args: Args) -> Result<Vec<String>, NoMemory>
+    ensures { IfOk result (λ words. words.items ≡ drop 1 (into_iter_items args)) }
+{
+    let _program = args.next();
+    all(alloc, args)
+}
+
+fn all(alloc: Global, mut args: Args) -> Result<Vec<String>, NoMemory>
+    ensures { IfOk result (λ all. all.items ≡ into_iter_items args) }
+{
+    let mut all = Vec::new(alloc);
+    while let Some(arg) = args.next() {
+        all.push(arg)?;
+    }
+    Ok(all)
+}
+
+/// An argument that isn't text is no word of a command.
+fn refused_words(error: &io::Error) -> Report
+    ensures no_memory { error_kind error.now ≡ ErrorKind.OutOfMemory → result.status ≡ OutOfMemory }
+    ensures no_text { error_kind error.now ≢ ErrorKind.OutOfMemory → result.status ≡ NotBuilt }
+    ensures book { result.book ≡ None }
+    ensures file { result.file ≡ None }
+{
+    if error.kind() == ErrorKind::OutOfMemory {
+        refusal(Status::NoMemory, None)
+    } else {
+        refusal(Status::NotBuilt, None)
+    }
+}
+
+fn reason_line(alloc: Global, report: &Report) -> Result<Vec<u8>, NoMemory>
+    ensures { IfOk result (λ line. line.items ≡ reason_text report.now.status report.now.file) }
+{
+    let mut line = Vec::new(alloc);
+    reason(alloc, report, &mut line)?;
+    Ok(line)
+}
+
+/// Writes the reason, where there is memory for it, and gives the number of the status.
+fn finish<E: Sink>(alloc: Global, report: &Report, errors: &mut E) -> u8
+    ensures { EndsWith report.now.status report.now.file result (record { told = E.told errors.old; faults = E.faults errors.old })
+        (record { told = E.told errors.new; faults = E.faults errors.new }) }
+{
+    end(report, reason_line(alloc, report), errors)
+}
+
+/// Writes the reason, where there was memory for it, and gives the number of the status. A reason that can't be written
+/// changes no status.
+fn end<E: Sink>(report: &Report, line: Result<Vec<u8>, NoMemory>, errors: &mut E) -> u8
+    requires { IfOk line (λ line. line.items ≡ reason_text report.now.status report.now.file) }
+    ensures number { result ≡ status_number report.now.status }
+    ensures written { IfOk line (λ _. Writes (record { told = E.told errors.old; faults = E.faults errors.old })
+        (record { told = E.told errors.new; faults = E.faults errors.new }) (reason_text report.now.status report.now.file)) }
+    ensures silent { IfErr line (λ _. Rests (record { told = E.told errors.old; faults = E.faults errors.old })
+        (record { told = E.told errors.new; faults = E.faults errors.new })) }
+{
+    match line {
+        Ok(line) => {
+            let _written = errors.put(&line);
+            report.status.number()
+        }
+        Err(NoMemory) => report.status.number(),
+    }
+}
