@@ -4,7 +4,8 @@ use Rattle.std.specs.Ordering.{nat_cmp}
 use Rattle.std.specs.Cmp.{nat_cmp_total}
 use Rattle.std.specs.FinMap.{FinMap, get, get-insert}
 use Rattle.thread_slots.specs.Slot.{Slot, changed, put_changed}
-use Rattle.thread_slots.proofs.Numbers.{cases_eq, apart, alike, flipped}
+use Rattle.thread_slots.proofs.Numbered.{cases_eq, apart, alike}
+use Rattle.thread_slots.proofs.Kept.{flipped}
 
 module _ {C : Type 0} where
   none_changed : (t u : ℕ) (o p : Option (Slot C)) → o ≡ None → (t ≡ u → p ≡ o) → p ≡ cond (nat_eq t u) None p

@@ -1,6 +1,8 @@
-pub mod Numbers
-pub mod Places
-pub mod Queues
-pub mod Kept
 pub mod CallerLemmas
+pub mod Counted
+pub mod Kept
 pub mod Layouts
+pub mod Numbered
+pub mod Placed
+pub mod Recalled
+pub mod Requeued

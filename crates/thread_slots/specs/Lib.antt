@@ -1,3 +1,4 @@
 pub mod Ready
 pub mod Slot
 pub mod Layout
+pub mod Queues

@@ -1,11 +1,12 @@
 //! The queue beside a plain list, and each call once.
 
-ghost use Rattle.std.specs.Prelude.{◌≡◌, ◌+◌, ◌≤◌, OnOk};
+ghost use Rattle.std.specs.Prelude.{◌≡◌, ◌+◌, ◌≤◌};
 
+use crate::counts::StateCounts;
 use crate::slots::Slots;
 use crate::state::State;
 use stab_base::{Generation, NoMemory, ThreadId};
-use std::alloc::{AllocError, Global};
+use std::alloc::AllocError;
 use std::test::Fail;
 
 #[derive(Clone, Copy)]
@@ -59,6 +60,16 @@ fn restore_if_live(slots: &mut Slots<u32>, t: ThreadId)
         if generation.0 < u64::MAX {
             slots.restore(t, 7);
         }
+    }
+}
+
+fn replace_if_live(slots: &mut Slots<u32>, t: ThreadId, control: u32) -> Option<u32>
+    ensures { slots.new.next ≡ slots.old.next }
+{
+    if slots.state(t).is_some() {
+        Some(slots.replace_control(t, control))
+    } else {
+        None
     }
 }
 
@@ -146,9 +157,49 @@ fn a_thread_is_put_back_and_removed(rt: HostRuntime) -> Result<(), Fail> {
     assert_eq!(rt; slots.control(ended).copied(), Some(7));
     slots.put_control(ended, 30);
     assert_eq!(rt; slots.control(ended).copied(), Some(30));
+    assert_eq!(rt; replace_if_live(&mut slots, ended, 25), Some(30));
+    assert_eq!(rt; slots.control(ended).copied(), Some(25));
     apply(&mut slots, Call::Remove(2))?;
     assert_eq!(rt; slots.state(ended), None);
     assert_eq!(rt; add_ready(&mut slots, 40), Ok(ThreadId(3)));
+    assert_eq!(rt; slots.front(), Some(ThreadId(1)));
+    Ok(())
+}
+
+#[test]
+fn leased_threads_come_back_in_the_order_of_numbers(rt: HostRuntime) -> Result<(), Fail> {
+    let mut slots = Slots::new(rt.alloc());
+    for call in [Call::Add, Call::Add, Call::Add, Call::Add, Call::Add] {
+        apply(&mut slots, call)?;
+    }
+    for t in [4, 2, 5] {
+        set_if_live(&mut slots, ThreadId(t), State::Leased);
+    }
+    set_if_live(&mut slots, ThreadId(1), State::Parked);
+    let counts = StateCounts {
+        ready: 1,
+        leased: 3,
+        parked: 1,
+        ended: 0,
+    };
+    assert_eq!(rt; slots.counts(), counts);
+    slots.recall();
+    for t in [3, 2, 4, 5] {
+        assert_eq!(rt; slots.front(), Some(ThreadId(t)));
+        set_if_live(&mut slots, ThreadId(t), State::Ended);
+    }
+    assert_eq!(rt; slots.front(), None);
+    assert_eq!(rt; slots.next_thread(), ThreadId(6));
+    Ok(())
+}
+
+#[test]
+fn room_for_many(rt: HostRuntime) -> Result<(), Fail> {
+    let mut slots = Slots::new(rt.alloc());
+    for i in 0..1000u32 {
+        assert_eq!(rt; slots.reserve(), Ok(()));
+        slots.add(i, false);
+    }
     assert_eq!(rt; slots.front(), Some(ThreadId(1)));
     Ok(())
 }

@@ -5,15 +5,15 @@ use Rattle.std.proofs.lemmas.Bool.Decides.{nat_tests}
 use Rattle.std.proofs.lemmas.List.{append-nil}
 use Rattle.std.proofs.lemmas.List.Folds.{list_any-append}
 use Rattle.std.proofs.lemmas.Map.Keys.{IsDistinct-push}
-use Rattle.thread_queue.specs.Queue.{without}
-use Rattle.thread_queue.proofs.Leaving.{not_itself, is_queued-without, IsDistinct-filter}
+use Rattle.linked_lists.specs.Lists.{without}
+use Rattle.linked_lists.proofs.Leaving.{not_itself, is_listed-without, IsDistinct-filter}
 use Rattle.thread_slots.specs.Ready.{IsQueueOf}
 
 -- t leaves the queue
 pub IsQueueOf-without : {is_ready : ℕ → Bool} (is_ready' : ℕ → Bool) (t : ℕ) (queue : List ℕ) → ((u : ℕ) → is_ready' u ≡ (not (nat_eq t u) && is_ready u)) → IsQueueOf is_ready queue → IsQueueOf is_ready' (without t queue)
 IsQueueOf-without is_ready' t queue is old = record {
   once = IsDistinct-filter nat_eq _ queue old.once;
-  ready = λ u. is_queued-without t u queue ∙ ap (λ b. not (nat_eq t u) && b) (old.ready u) ∙ sym (is u);
+  ready = λ u. is_listed-without t u queue ∙ ap (λ b. not (nat_eq t u) && b) (old.ready u) ∙ sym (is u);
 }
 
 last_of : (u t : ℕ) (q r b : Bool) → q ≡ r → b ≡ (nat_eq t u || r) → (q || (nat_eq u t || false)) ≡ b
