@@ -1,15 +1,13 @@
--- What a caller needs to know before it calls: which channels are there, and that a thread waits nowhere.
+-- What a caller needs to know before it calls: which channels are there.
 use Rattle.std.proofs.Common.{◌≡◌, ℕ, Bool, true, false, cond, ◌||◌, nat_eq, List, [], ◌∷◌, ◌++◌, Option, Some, None, IsSome, option_map, refl, sym, ap, ◌∙◌, subst}
-use Rattle.std.specs.List.{list_any}
 use Rattle.std.specs.Ordering.{nat_cmp, eq_by_cmp}
 use Rattle.std.specs.Cmp.{nat_cmp_total, unsigned_tied}
 use Rattle.std.specs.FinMap.{get, insert, remove, empty, get-insert, get-remove, get-empty}
 use Rattle.std.proofs.lemmas.Bool.Decides.{Decides-eqb}
-use Rattle.std.proofs.lemmas.List.Folds.{list_any-append}
 use Rattle.stab_base.specs.declared.numbers.ChanId.{ChanId}
 use Rattle.rendezvous.specs.declared.offer.Offer.{Offer}
 use Rattle.rendezvous.specs.declared.offer.Offer.TheVariants as offer
-use Rattle.rendezvous.specs.Line.{Line, Lines, nobody, joined, Absent, HasNoOffer, AreThere}
+use Rattle.rendezvous.specs.Line.{Line, Lines, nobody, AreThere}
 
 still : (o : Option Line) (f : Line → Line) → IsSome o → IsSome (option_map f o)
 still None f is = cc
@@ -47,32 +45,6 @@ AreThere-Recv m a there c on = at m a.0 c on there
 
 pub AreThere-Pick : (m : Lines) (a b : ChanId) → IsSome (get m a.0) → IsSome (get m b.0) → AreThere m (offer.Pick a b)
 AreThere-Pick m a b first second c on = split (nat_eq c a.0) (nat_eq c b.0) on (λ e. at m a.0 c e first) (λ e. at m b.0 c e second)
-
--- on no channel does anybody wait
-pub HasNoOffer-empty : (m : Lines) (t : ℕ) → m ≡ empty → HasNoOffer m t
-HasNoOffer-empty m t is c = subst (λ o. Absent t o) (sym (ap (λ m. get m c) is ∙ get-empty nat_cmp c)) tt
-
-none_new : (b : Bool) (t : ℕ) (o : Option Line) → Absent t o → Absent t (cond b (Some nobody) o)
-none_new true t o none = (refl, refl)
-none_new false t o none = none
-
--- nobody waits on a channel that was made
-pub HasNoOffer-made : (m n : Lines) (a t : ℕ) → n ≡ insert m a nobody → HasNoOffer m t → HasNoOffer n t
-HasNoOffer-made m n a t is none c =
-    subst (λ o. Absent t o) (sym (ap (λ n. get n c) is ∙ get-insert nat_cmp_total m a nobody c)) (none_new (eq_by_cmp nat_cmp c a) t (get m c) (none c))
-
-not_last : (t u : ℕ) (b : Bool) (ts : List ℕ) → nat_eq t u ≡ false → list_any (nat_eq t) ts ≡ false → list_any (nat_eq t) (ts ++ cond b (u ∷ []) []) ≡ false
-not_last t u true ts other none = list_any-append (nat_eq t) ts (u ∷ []) ∙ ap (λ b. b || (nat_eq t u || false)) none ∙ ap (λ b. b || false) other
-not_last t u false ts other none = list_any-append (nat_eq t) ts [] ∙ ap (λ b. b || false) none
-
-none_joined : (t u : ℕ) (offer : Offer) (c : ℕ) (o : Option Line) → nat_eq t u ≡ false → Absent t o → Absent t (option_map (joined u offer c) o)
-none_joined t u offer c None other none = none
-none_joined t u offer c (Some line) other none = (not_last t u _ line.sends other none.0, not_last t u _ line.receives other none.1)
-
--- another thread waits now
-pub HasNoOffer-parked : (m n : Lines) (t u : ℕ) (offer : Offer) → nat_eq t u ≡ false → ((c : ℕ) → get n c ≡ option_map (joined u offer c) (get m c)) → HasNoOffer m t → HasNoOffer n t
-HasNoOffer-parked m n t u offer other is none c =
-    subst (λ o. Absent t o) (sym (is c)) (none_joined t u offer c (get m c) other (none c))
 
 -- the line of a channel that was made
 pub made_line : (m n : Lines) (c : ℕ) → n ≡ insert m c nobody → get n c ≡ Some nobody

@@ -1,3 +1,4 @@
-pub mod Changes
-pub mod InLine
 pub mod CallerLemmas
+pub mod Lined
+pub mod Numbered
+pub mod Threads

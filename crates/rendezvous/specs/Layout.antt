@@ -1,47 +1,37 @@
--- What callers see, from how it is kept: the line of each channel, and what each thread offers.
-use Rattle.std.specs.Prelude.{◌≡◌, ℕ, Bool, true, false, List, ◌∷◌, [], ◌++◌, Option, Some, None, nat_eq, option_map, if◌then◌else◌}
-use Rattle.std.specs.List.{list_any}
-use Rattle.std.specs.FinSet as set
-use Rattle.rendezvous.specs.declared.offer.Side.{Side}
-use Rattle.rendezvous.specs.declared.offer.Side.TheVariants as side
+-- What callers see, from how it is kept: channels and offers in vectors by number.
+use Rattle.std.specs.Prelude.{◌≡◌, ℕ, ◌+◌, ◌*◌, ◌≤◌, Bool, true, false, List, [], ◌∷◌, Option, Some, None, nat_eq, length, get_or, if◌then◌else◌}
+use Rattle.std.specs.List.{IsDistinct}
+use Rattle.std.specs.Ordering.{nat_cmp}
+use Rattle.std.specs.FinMap as map
+use Rattle.std.specs.FinMap.{FinMap}
+use Rattle.linked_lists.specs.Lists.{Seen, is_listed, StandsNowhere}
 use Rattle.rendezvous.specs.declared.offer.Offer.{Offer}
 use Rattle.rendezvous.specs.Offer.{sends_on, receives_on}
-use Rattle.rendezvous.specs.Line.{Line}
-use Rattle.thread_queue.specs.Queue.{Queue, is_queued, without}
-use Rattle.thread_queue.specs.Found.{found}
+use Rattle.rendezvous.specs.Line.{Line, nobody, offered}
+use Rattle.rendezvous.specs.Nodes.{line_at}
 
--- each thread that has a place in the queue waits
-abbrev pub EachWaits : Queue → Type 0
-EachWaits q = (t : ℕ) → set.contains q.places t ≡ true → is_queued t q.waiting ≡ true
+module _ {X : Type 0} where
+  -- what is there, by number, where the first place has n
+  abbrev pub by_number : ℕ → List (Option X) → FinMap nat_cmp X
+  by_number n [] = map.empty
+  by_number n (None ∷ xs) = by_number (n + 1) xs
+  by_number n (Some x ∷ xs) = map.insert (by_number (n + 1) xs) n x
 
--- the line at k, with that of the channel c changed
-abbrev pub at_channel : ℕ → (Line → Line) → ℕ → Option Line → Option Line
-at_channel c f k line = if nat_eq k c then option_map f line else line
+-- the lines of the channels that are there, where the first has the number c
+abbrev pub lines_from : ℕ → List Bool → List (List ℕ) → List (Option Line)
+lines_from c [] lists = []
+lines_from c (there ∷ channels) lists = (if there then Some (line_at lists c) else None) ∷ lines_from (c + 1) channels lists
 
--- t comes last on one side
-abbrev pub joined_at : Side → ℕ → Line → Line
-joined_at side.Send t line = record { sends = line.sends ++ t ∷ []; receives = line.receives }
-joined_at side.Recv t line = record { sends = line.sends; receives = line.receives ++ t ∷ [] }
+-- t stands in the line exactly where it offers so
+abbrev pub OnLine : ℕ → ℕ → Option Offer → Line → Type 0
+OnLine c t offer line = (is_listed t line.sends ≡ offered (sends_on c) offer) × (is_listed t line.receives ≡ offered (receives_on c) offer)
 
--- t leaves one side
-abbrev pub left_at : Side → ℕ → Line → Line
-left_at side.Send t line = record { sends = without t line.sends; receives = line.receives }
-left_at side.Recv t line = record { sends = line.sends; receives = without t line.receives }
-
--- t leaves the sides of the channel c on which its offer is
-abbrev pub left_by : ℕ → Offer → ℕ → Line → Line
-left_by t offer c line = record { sends = if sends_on c offer then without t line.sends else line.sends; receives = if receives_on c offer then without t line.receives else line.receives }
-
--- whether what is offered passes the test
-abbrev pub offered : (Offer → Bool) → Option Offer → Bool
-offered p None = false
-offered p (Some o) = p o
-
--- t stands in the line of the channel c exactly where it offers so, and offers nothing on a channel that isn't there
-abbrev pub LineBacked : ℕ → ℕ → Option Offer → Option Line → Type 0
-LineBacked c t offer None = (offered (sends_on c) offer ≡ false) × (offered (receives_on c) offer ≡ false)
-LineBacked c t offer (Some l) = (list_any (nat_eq t) l.sends ≡ offered (sends_on c) offer) × (list_any (nat_eq t) l.receives ≡ offered (receives_on c) offer)
-
--- each thread stands in the lines of what it offers, and in no other
-abbrev pub Backed : List (ℕ × Line) → List (ℕ × Offer) → Type 0
-Backed lines offers = (c t : ℕ) → LineBacked c t (found offers t) (found lines c)
+-- each channel has two lists and each thread two nodes, nobody waits on a channel that isn't there, and who waits stands once on each side on which it offers and nowhere else
+pub record Backed (channels : List Bool) (offers : List (Option Offer)) (lists : Seen) : Type 0 where
+  pub many : length lists.lists ≡ 2 * length channels
+  pub nodes : lists.places ≡ 2 * length offers
+  pub few : length offers ≤ 4294967296
+  pub nought : StandsNowhere 0 lists.lists
+  pub unmade : (c : ℕ) → get_or channels c false ≡ false → line_at lists.lists c ≡ nobody
+  pub backed : (c t : ℕ) → OnLine c t (get_or offers t None) (line_at lists.lists c)
+  pub once : (c : ℕ) → IsDistinct nat_eq (line_at lists.lists c).sends × IsDistinct nat_eq (line_at lists.lists c).receives

@@ -1,3 +1,4 @@
 pub mod Offer
 pub mod Line
+pub mod Nodes
 pub mod Layout

@@ -1,11 +1,10 @@
 //! The offers of threads that wait on channels, and who meets whom.
 #![tactic(auto)]
 
-mod channels;
+mod nodes;
 mod offer;
 mod offers;
-mod queue;
-mod queues;
+mod opens;
 #[cfg(test)]
 mod tests;
 

@@ -4,114 +4,136 @@ ghost use Rattle.std.specs.Prelude.{◌≡◌, IsSome, IfSome, OnOk, OnErr, Some
 ghost use Rattle.std.specs.List.{IsDistinct};
 ghost use Rattle.std.specs.FinMap as map;
 ghost use Rattle.rendezvous.specs.Offer.{opposite};
-ghost use Rattle.rendezvous.specs.Line.{nobody, waiting, joined, left, HasNoOffer, AreThere};
+ghost use Rattle.rendezvous.specs.Line.{nobody, waiting, joined, left, HasNoOffer, AreThere, IsSound};
 
-use crate::channels;
+use crate::nodes;
 use crate::offer::{Offer, Side};
-use crate::queues::Queues;
+use crate::opens::{open_channels, open_threads};
+use linked_lists::Lists;
 use stab_base::{ChanId, NoMemory, ThreadId};
 use std::alloc::Global;
-use std::collections::BTreeMap;
 use std::marker::Model;
 
-/// The channels that are there, and who waits on each. Each call takes time that grows at most with
-/// the logarithm of the numbers of channels and of waiting threads.
+/// The channels that are there, and who waits on each with what. Each call takes constant time, but
+/// that the first of a number has to make room for all numbers below it.
 #[derive(Drop)]
 pub struct Offers {
-    /// For the lines of new channels.
-    alloc: Global,
-    /// By the number of the channel.
-    lines: BTreeMap<u32, Queues>,
-    /// What each thread that waits offers, by the number of the thread.
-    offers: BTreeMap<u32, Offer>,
+    /// Whether a channel is there, by its number.
+    channels: Vec<bool>,
+    /// What each thread that waits offers, by its number.
+    offers: Vec<Option<Offer>>,
+    /// The lines of the channels.
+    lists: Lists,
 }
 
 impl Model for Offers {
-    ghost use Rattle.std.specs.FinMap.{from_entries};
-    ghost use Rattle.rendezvous.specs.Line.{Lines, lines_code};
-    ghost use Rattle.rendezvous.specs.Layout.{Backed};
+    ghost use Rattle.rendezvous.specs.Line.{Seen, seen_code};
+    ghost use Rattle.rendezvous.specs.Layout.{by_number, lines_from, Backed};
 
-    ghost Value = { Lines };
+    ghost Value = { Seen };
 
-    ghost coded = { lines_code };
+    ghost coded = { seen_code };
 
-    ghost view = { λ o. from_entries o.lines.entries };
+    ghost view = { λ o. record {
+      lines = by_number 0 (lines_from 0 o.channels.items o.lists.lists);
+      offers = by_number 0 o.offers.items;
+    } };
 
-    ghost invariant = { λ o. Backed o.lines.entries o.offers.entries };
+    ghost invariant = { λ o. Backed o.channels.items o.offers.items o.lists };
 }
 
 impl Offers {
     /// No channels yet. It takes no memory.
     pub fn new(alloc: Global) -> Offers
-        ensures { result ≡ map.empty }
+        ensures lines { result.lines ≡ map.empty }
+        ensures offers { result.offers ≡ map.empty }
     {
         Offers {
-            alloc,
-            lines: BTreeMap::new(alloc),
-            offers: BTreeMap::new(alloc),
+            channels: Vec::new(alloc),
+            offers: Vec::new(alloc),
+            lists: Lists::new(alloc),
         }
     }
 
     /// Adds a channel on which nobody waits.
     pub fn make(&mut self, c: ChanId) -> Result<(), NoMemory>
-        requires { map.get self.old c.0 ≡ None }
-        ensures ok { OnOk result (self.new ≡ map.insert self.old c.0 nobody) }
-        ensures err { OnErr result (self.new ≡ self.old) }
+        requires { map.get self.old.lines c.0 ≡ None }
+        ensures ok { OnOk result (self.new.lines ≡ map.insert self.old.lines c.0 nobody) }
+        ensures err { OnErr result (self.new.lines ≡ self.old.lines) }
+        ensures offers { self.new.offers ≡ self.old.offers }
     {
-        let line = Queues::new(self.alloc);
-        if self.lines.insert(c.0, line).is_err() {
-            return Err(NoMemory);
-        }
+        open_channels(&mut self.channels, &mut self.lists, c)?;
+        self.channels[c.0 as usize] = true;
         Ok(())
+    }
+
+    /// Whether a channel is there.
+    pub fn contains(&self, c: ChanId) -> bool
+        ensures { result ≡ map.contains_key self.now.lines c.0 }
+    {
+        (c.0 as usize) < self.channels.len() && self.channels[c.0 as usize]
+    }
+
+    /// What a thread offers, where it waits.
+    pub fn offer(&self, t: ThreadId) -> Option<Offer>
+        ensures { result ≡ map.get self.now.offers t.0 }
+    {
+        if t.0 as usize >= self.offers.len() {
+            return None;
+        }
+        self.offers[t.0 as usize]
     }
 
     /// The thread of the longest waiting offer that meets a thread which acts at this side. No thread
     /// waits twice there.
     pub fn meet(&self, c: ChanId, side: Side) -> Option<ThreadId>
-        requires { IsSome (map.get self.now c.0) }
+        requires { IsSome (map.get self.now.lines c.0) }
         ensures met { option_map (λ t. t.0) result
-            ≡ option_and_then (λ line. slice_get (waiting (opposite side) line) 0) (map.get self.now c.0) }
-        ensures once { IfSome (map.get self.now c.0) (λ line. IsDistinct nat_eq (waiting (opposite side) line)) }
+            ≡ option_and_then (λ line. slice_get (waiting (opposite side) line) 0) (map.get self.now.lines c.0) }
+        ensures once { IfSome (map.get self.now.lines c.0) (λ line. IsDistinct nat_eq (waiting (opposite side) line)) }
+        ensures sound { IsSound self.now }
     {
-        let thread = self.lines.get(&c.0)?.first(opposite_of(side))?;
-        Some(ThreadId(thread))
+        nodes::first(&self.lists, c, opposite_of(side))
     }
 
     /// Lets a thread wait with its offer. Without memory nothing of it waits, of a pick neither part.
     pub fn park(&mut self, t: ThreadId, offer: Offer) -> Result<(), NoMemory>
-        requires none { HasNoOffer self.old t.0 }
-        requires there { AreThere self.old offer }
+        requires none { map.get self.old.offers t.0 ≡ None }
+        requires there { AreThere self.old.lines offer }
         ensures ok { OnOk result ((c : ℕ) →
-            map.get self.new c ≡ option_map (joined t.0 offer c) (map.get self.old c)) }
+            map.get self.new.lines c ≡ option_map (joined t.0 offer c) (map.get self.old.lines c)) }
+        ensures offers { OnOk result (self.new.offers ≡ map.insert self.old.offers t.0 offer) }
         ensures err { OnErr result (self.new ≡ self.old) }
     {
-        if self.offers.insert(t.0, offer).is_err() {
-            return Err(NoMemory);
-        }
-        if channels::enter_all(&mut self.lines, offer, t).is_err() {
-            let _offer = self.offers.remove(&t.0);
-            return Err(NoMemory);
-        }
+        open_threads(&mut self.offers, &mut self.lists, t)?;
+        nodes::enter(&mut self.lists, offer, t);
+        self.offers[t.0 as usize] = Some(offer);
         Ok(())
     }
 
-    /// Takes all offers of a thread away, where it has any.
+    /// Takes the offer of a thread away, where it has one.
     pub fn withdraw(&mut self, t: ThreadId)
-        ensures lines { (c : ℕ) → map.get self.new c ≡ option_map (left t.0) (map.get self.old c) }
-        ensures gone { HasNoOffer self.new t.0 }
-        ensures absent { HasNoOffer self.old t.0 → self.new ≡ self.old }
+        ensures lines { (c : ℕ) → map.get self.new.lines c ≡ option_map (left t.0) (map.get self.old.lines c) }
+        ensures offers { self.new.offers ≡ map.remove self.old.offers t.0 }
+        ensures gone { HasNoOffer self.new.lines t.0 }
+        ensures absent { map.get self.old.offers t.0 ≡ None → self.new ≡ self.old }
     {
-        if let Some(offer) = self.offers.remove(&t.0) {
-            channels::leave_all(&mut self.lines, offer, t);
+        if t.0 as usize >= self.offers.len() {
+            return;
         }
+        nodes::leave(&mut self.lists, t);
+        self.offers[t.0 as usize] = None;
     }
 
     /// Removes a channel, as one whose making was undone.
     pub fn unmake(&mut self, c: ChanId)
-        requires { map.get self.old c.0 ≡ Some nobody }
-        ensures { self.new ≡ map.remove self.old c.0 }
+        requires { map.get self.old.lines c.0 ≡ Some nobody }
+        ensures lines { self.new.lines ≡ map.remove self.old.lines c.0 }
+        ensures offers { self.new.offers ≡ self.old.offers }
     {
-        let _line = self.lines.remove(&c.0);
+        if (c.0 as usize) < self.channels.len() {
+            self.channels[c.0 as usize] = false;
+        }
     }
 }
 

@@ -1,30 +1,22 @@
-use Rattle.std.proofs.Common.{Some, None, cond, sym, ap, ◌∙◌, subst}
-use Rattle.std.specs.Ordering.{nat_cmp}
-use Rattle.std.specs.BTreeMap.{is_at}
+use Rattle.std.proofs.Common.{false, true, cond, nat_eq, set, ap, ◌∙◌}
 use Rattle.std.specs.FinMap as map
 use Rattle.rendezvous.specs.Line.{nobody}
-use Rattle.rendezvous.specs.Layout.{Backed, LineBacked}
-use Rattle.thread_queue.specs.Found.{found}
-use Rattle.rendezvous.proofs.Changes.{backed_made, made_line, at_entry}
-use Rattle.thread_queue.proofs.Outcomes.{on_ok, on_err}
+use Rattle.rendezvous.proofs.Numbered.{get_or-at, lines-same, lines-put}
+use Rattle.rendezvous.proofs.Lined.{always, opened_line, same_lines_at, line_made, unmade_there}
 use Rattle.rendezvous.proofs.offers.Offers.make.Goals as goal
 
-pub invariant_of-self : goal.invariant_of-self
-invariant_of-self c =
-    let same = on_err c.insert.result _ (sym c.is_err.ensures.value ∙ c.if-is_err.true) c.insert.ensures.err in
-    subst (λ es. Backed es c.self.inside.offers.entries) (sym same) c.self.invariant
-
-pub invariant_of-self-2 : goal.invariant_of-self-2
-invariant_of-self-2 c d u =
-    let inserted = on_ok c.insert.result _ (sym c.is_err.ensures.value ∙ c.if-is_err.false) c.insert.ensures.updates in
-    let new = inserted.0 d ∙ ap (λ l. cond (is_at (nat_cmp c.args.c.0) d) (Some l) (found c.self.inside.lines.entries d)) c.new-line.ensures in
-    subst (λ o. LineBacked d u (found c.self.inside.offers.entries u) o) (sym new)
-    (backed_made d u (is_at (nat_cmp c.args.c.0) d) (found c.self.inside.offers.entries u) (found c.self.inside.lines.entries d)
-    (λ same. at_entry c.self.inside.lines.entries c.args.self.now c.args.c.0 d None c.self.view_is c.requires same) (c.self.invariant d u))
+pub returns-in_err-open_channels-clause-err : goal.returns-in_err-open_channels-clause-err
+returns-in_err-open_channels-clause-err c =
+    always c.from_residual.result
+    (lines-same c.self.inside.channels.items c.open_channels.new.channels.items c.self.inside.lists.lists c.open_channels.new.lists.lists
+    (λ d. opened_line c.self.inside.channels.items c.open_channels.new.channels.items c.self.inside.lists.lists c.open_channels.new.lists.lists d (c.open_channels.ensures.there d) (same_lines_at c.self.inside.lists.lists c.open_channels.new.lists.lists c.open_channels.ensures.lists d))
+    ∙ ap (λ s. s.lines) c.self.view_is)
 
 pub returns-clause-ok : goal.returns-clause-ok
 returns-clause-ok c =
-    let inserted = on_ok c.insert.result _ (sym c.is_err.ensures.value ∙ c.if-is_err.false) c.insert.ensures.updates in
-    made_line c.self.inside.lines.entries c.insert.new.self.entries c.args.c.0 c.new-line.result inserted.0
-    ∙ ap (λ l. map.insert (map.from_entries c.self.inside.lines.entries) c.args.c.0 l) c.new-line.ensures
-    ∙ ap (λ m. map.insert m c.args.c.0 nobody) c.self.view_is
+    lines-put c.self.inside.channels.items (set c.open_channels.new.channels.items c.args.c.0 true) c.self.inside.lists.lists c.open_channels.new.lists.lists c.args.c.0 nobody
+    (λ d. line_made c.self.inside.channels.items (set c.open_channels.new.channels.items c.args.c.0 true) c.self.inside.lists.lists c.open_channels.new.lists.lists c.args.c.0 d
+    (get_or-at c.open_channels.new.channels.items c.args.c.0 d true false c.in_ok-open_channels.ensures.enough ∙ ap (λ b. cond (nat_eq d c.args.c.0) true b) (c.open_channels.ensures.there d))
+    (same_lines_at c.self.inside.lists.lists c.open_channels.new.lists.lists c.open_channels.ensures.lists d)
+    (c.self.invariant.unmade c.args.c.0 (unmade_there c.self.inside.channels.items c.self.inside.lists.lists c.args.self.now.lines c.args.c.0 (ap (λ s. s.lines) c.self.view_is) c.requires)))
+    ∙ ap (λ s. map.insert s.lines c.args.c.0 nobody) c.self.view_is

@@ -1,50 +1,46 @@
-use Rattle.std.proofs.Common.{cond, None, IsSome, option_map, sym, ap, ◌∙◌, subst}
-use Rattle.std.specs.Ordering.{nat_cmp}
-use Rattle.std.specs.BTreeMap.{is_at}
+use Rattle.std.proofs.Common.{◌≡◌, Some, None, false, cond, nat_eq, get_or, set, option_map, sym, ap, ◌∙◌, subst}
 use Rattle.std.specs.FinMap as map
+use Rattle.std.proofs.lemmas.List.{length-set}
 use Rattle.rendezvous.specs.Line.{joined}
-use Rattle.rendezvous.specs.Layout.{Backed}
-use Rattle.thread_queue.specs.Found.{found}
-use Rattle.rendezvous.proofs.Changes.{get_found, same_lines, absent_at, backed_by, backed_joined, backed_undone}
-use Rattle.thread_queue.proofs.Outcomes.{on_ok, on_err}
+use Rattle.rendezvous.specs.Nodes.{line_at, IsAway, AreListed}
+use Rattle.rendezvous.specs.Layout.{by_number, lines_from}
+use Rattle.rendezvous.proofs.Numbered.{get-lines, get-by_number, get_or-at, by_number-same, by_number-put}
+use Rattle.rendezvous.proofs.Lined.{always, away, listed, made_there, option_line, Backed-threads, Backed-joined}
 use Rattle.rendezvous.proofs.offers.Offers.park.Goals as goal
 
-pub invariant_of-self : goal.invariant_of-self
-invariant_of-self c =
-    let same = on_err c.insert.result _ (sym c.is_err.ensures.value ∙ c.if-is_err.true) c.insert.ensures.err in
-    subst (λ es. Backed c.self.inside.lines.entries es) (sym same) c.self.invariant
+pub returns-in_err-open_threads-clause-err : goal.returns-in_err-open_threads-clause-err
+returns-in_err-open_threads-clause-err c =
+    let lines : by_number 0 (lines_from 0 c.self.inside.channels.items c.open_threads.new.lists.lists) ≡ by_number 0 (lines_from 0 c.self.inside.channels.items c.self.inside.lists.lists) = ap (λ ls. by_number 0 (lines_from 0 c.self.inside.channels.items ls)) c.open_threads.ensures.lists in
+    let offers : by_number 0 c.open_threads.new.offers.items ≡ by_number 0 c.self.inside.offers.items = by_number-same c.self.inside.offers.items c.open_threads.new.offers.items c.open_threads.ensures.offers in
+    always c.from_residual.result ((λ i. record { lines = lines i; offers = offers i }) ∙ c.self.view_is)
 
-pub enter_all-requires : goal.enter_all-requires
-enter_all-requires c = absent_at c.self.inside.lines.entries c.args.self.now c.args.t.0 c.self.view_is c.requires.none
+pub enter-requires-clause-away : goal.enter-requires-clause-away
+enter-requires-clause-away c =
+    subst (IsAway c.args.t.0) (sym c.open_threads.ensures.lists) (away c.self.invariant c.args.t.0 (sym (get-by_number c.self.inside.offers.items c.args.t.0) ∙ ap (λ s. map.get s.offers c.args.t.0) c.self.view_is ∙ c.requires.none))
 
-pub invariant_of-self-then-is_err-2 : goal.invariant_of-self-then-is_err-2
-invariant_of-self-then-is_err-2 c d u =
-    let t = c.args.t.0 in
-    let inserted = on_ok c.insert.result _ (sym c.is_err.ensures.value ∙ c.if-is_err.false) c.insert.ensures.updates in
-    let same = on_err c.enter_all.result _ (sym c.is_err-2.ensures.value ∙ c.if-is_err-2.true) c.enter_all.ensures.err in
-    let gone = c.remove-offer.ensures.updates.0 u ∙ ap (cond (is_at (nat_cmp t) u) None) (inserted.0 u) in
-    backed_by d u gone (same d)
-    (backed_undone d t u c.args.offer (found c.self.inside.offers.entries u) (found c.self.inside.lines.entries d)
-    (absent_at c.self.inside.lines.entries c.args.self.now t c.self.view_is c.requires.none d) (c.self.invariant d u))
+pub enter-requires-clause-listed : goal.enter-requires-clause-listed
+enter-requires-clause-listed c =
+    subst (AreListed c.args.offer) (sym c.open_threads.ensures.lists) (listed c.self.invariant c.args.self.now.lines c.args.offer (ap (λ s. s.lines) c.self.view_is) c.requires.there)
 
-pub returns-then-is_err-2-clause-err : goal.returns-then-is_err-2-clause-err
-returns-then-is_err-2-clause-err c =
-    let same = on_err c.enter_all.result _ (sym c.is_err-2.ensures.value ∙ c.if-is_err-2.true) c.enter_all.ensures.err in
-    same_lines c.self.inside.lines.entries c.enter_all.new.lines.entries same ∙ c.self.view_is
-
-pub invariant_of-self-else-is_err-2 : goal.invariant_of-self-else-is_err-2
-invariant_of-self-else-is_err-2 c d u =
-    let t = c.args.t.0 in
-    let inserted = on_ok c.insert.result _ (sym c.is_err.ensures.value ∙ c.if-is_err.false) c.insert.ensures.updates in
-    let entered = on_ok c.enter_all.result _ (sym c.is_err-2.ensures.value ∙ c.if-is_err-2.false) c.enter_all.ensures.ok in
-    backed_by d u (inserted.0 u) (entered d)
-    (backed_joined d t u c.args.offer (found c.self.inside.offers.entries u) (found c.self.inside.lines.entries d)
-    (absent_at c.self.inside.lines.entries c.args.self.now t c.self.view_is c.requires.none d)
-    (λ on. subst (λ o. IsSome o) (sym (ap (λ m. map.get m d) c.self.view_is) ∙ get_found c.self.inside.lines.entries d) (c.requires.there d on))
-    (c.self.invariant d u))
+pub invariant_of-self-2 : goal.invariant_of-self-2
+invariant_of-self-2 c =
+    let room = Backed-threads c.self.invariant c.open_threads.new.offers.items c.open_threads.new.lists c.open_threads.ensures.offers c.open_threads.ensures.lists c.open_threads.ensures.nodes c.open_threads.ensures.few in
+    Backed-joined room (set c.open_threads.new.offers.items c.args.t.0 (Some c.args.offer)) c.enter.new.lists c.args.t.0 c.args.offer
+    (c.open_threads.ensures.offers c.args.t.0 ∙ sym (get-by_number c.self.inside.offers.items c.args.t.0) ∙ ap (λ s. map.get s.offers c.args.t.0) c.self.view_is ∙ c.requires.none)
+    (λ d on. made_there c.self.inside.channels.items c.self.inside.lists.lists c.args.self.now.lines d (ap (λ s. s.lines) c.self.view_is) (c.requires.there d on))
+    (λ u. get_or-at c.open_threads.new.offers.items c.args.t.0 u (Some c.args.offer) None c.in_ok-open_threads.ensures.enough)
+    (length-set c.open_threads.new.offers.items c.args.t.0 (Some c.args.offer))
+    c.enter.ensures.lines (c.enter.ensures.nought room.nought) c.enter.ensures.many c.enter.ensures.places
 
 pub returns-clause-ok : goal.returns-clause-ok
-returns-clause-ok c d =
-    let entered = on_ok c.enter_all.result _ (sym c.is_err-2.ensures.value ∙ c.if-is_err-2.false) c.enter_all.ensures.ok in
-    get_found c.enter_all.new.lines.entries d ∙ entered d
-    ∙ ap (option_map (joined c.args.t.0 c.args.offer d)) (sym (get_found c.self.inside.lines.entries d) ∙ ap (λ m. map.get m d) c.self.view_is)
+returns-clause-ok c = λ d.
+    get-lines c.self.inside.channels.items c.enter.new.lists.lists d
+    ∙ option_line (get_or c.self.inside.channels.items d false) (joined c.args.t.0 c.args.offer d) (line_at c.self.inside.lists.lists d) (line_at c.enter.new.lists.lists d)
+    (c.enter.ensures.lines d ∙ ap (λ ls. joined c.args.t.0 c.args.offer d (line_at ls d)) c.open_threads.ensures.lists)
+    ∙ ap (option_map (joined c.args.t.0 c.args.offer d)) (sym (get-lines c.self.inside.channels.items c.self.inside.lists.lists d) ∙ ap (λ s. map.get s.lines d) c.self.view_is)
+
+pub returns-clause-offers : goal.returns-clause-offers
+returns-clause-offers c =
+    by_number-put c.self.inside.offers.items (set c.open_threads.new.offers.items c.args.t.0 (Some c.args.offer)) c.args.t.0 c.args.offer
+    (λ u. get_or-at c.open_threads.new.offers.items c.args.t.0 u (Some c.args.offer) None c.in_ok-open_threads.ensures.enough ∙ ap (cond (nat_eq u c.args.t.0) (Some c.args.offer)) (c.open_threads.ensures.offers u))
+    ∙ ap (λ s. map.insert s.offers c.args.t.0 c.args.offer) c.self.view_is

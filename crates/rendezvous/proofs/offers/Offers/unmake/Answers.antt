@@ -1,20 +1,26 @@
-use Rattle.std.proofs.Common.{Some, sym, ap, ◌∙◌, subst}
-use Rattle.std.specs.Ordering.{nat_cmp}
-use Rattle.std.specs.BTreeMap.{is_at}
+use Rattle.std.proofs.Common.{◌+◌, ◌*◌, ◌<◌, false, length, set, is_some, sym, ap, ◌∙◌, arith}
 use Rattle.std.specs.FinMap as map
+use Rattle.std.proofs.lemmas.List.{length-set}
 use Rattle.rendezvous.specs.Line.{nobody}
-use Rattle.rendezvous.specs.Layout.{LineBacked}
-use Rattle.thread_queue.specs.Found.{found}
-use Rattle.rendezvous.proofs.Changes.{unmade_line, backed_unmade, at_entry}
+use Rattle.rendezvous.proofs.Numbered.{get_or-at, lines-taken}
+use Rattle.rendezvous.proofs.Lined.{Backed-set, line_seen, line_unmade, listed_one}
 use Rattle.rendezvous.proofs.offers.Offers.unmake.Goals as goal
 
 pub invariant_of-self : goal.invariant_of-self
-invariant_of-self c d u =
-    subst (λ o. LineBacked d u (found c.self.inside.offers.entries u) o) (sym (c.remove-line.ensures.updates.0 d))
-    (backed_unmade d u (is_at (nat_cmp c.args.c.0) d) (found c.self.inside.offers.entries u) (found c.self.inside.lines.entries d)
-    (λ same. at_entry c.self.inside.lines.entries c.args.self.now c.args.c.0 d (Some nobody) c.self.view_is c.requires same) (c.self.invariant d u))
+invariant_of-self c =
+    let low : c.args.c.0 < length c.self.inside.channels.items = omega (arith, c.self.inside.channels.ok.0) in
+    Backed-set c.self.invariant (set c.self.inside.channels.items c.args.c.0 false) c.args.c.0 false (length-set c.self.inside.channels.items c.args.c.0 false)
+    (line_seen c.self.inside.channels.items c.self.inside.lists.lists c.args.self.now.lines c.args.c.0 nobody (ap (λ s. s.lines) c.self.view_is) c.requires)
+    (λ d. get_or-at c.self.inside.channels.items c.args.c.0 d false false low)
 
-pub returns : goal.returns
-returns c =
-    unmade_line c.self.inside.lines.entries c.remove-line.new.self.entries c.args.c.0 c.remove-line.ensures.updates.0
-    ∙ ap (λ m. map.remove m c.args.c.0) c.self.view_is
+pub returns-then-c-len-clause-lines : goal.returns-then-c-len-clause-lines
+returns-then-c-len-clause-lines c =
+    let low : c.args.c.0 < length c.self.inside.channels.items = omega (arith, c.self.inside.channels.ok.0) in
+    lines-taken c.self.inside.channels.items (set c.self.inside.channels.items c.args.c.0 false) c.self.inside.lists.lists c.self.inside.lists.lists c.args.c.0
+    (λ d. line_unmade c.self.inside.channels.items (set c.self.inside.channels.items c.args.c.0 false) c.self.inside.lists.lists c.args.c.0 d (get_or-at c.self.inside.channels.items c.args.c.0 d false false low))
+    ∙ ap (λ s. map.remove s.lines c.args.c.0) c.self.view_is
+
+pub returns-else-c-len-clause-lines : goal.returns-else-c-len-clause-lines
+returns-else-c-len-clause-lines c =
+    let there : 2 * c.args.c.0 + 1 < length c.self.inside.lists.lists = (listed_one c.self.invariant c.args.self.now.lines c.args.c.0 (ap (λ s. s.lines) c.self.view_is) (ap is_some c.requires)).0 in
+    absurd (omega (arith, c.self.invariant.many, c.self.inside.channels.ok.0))

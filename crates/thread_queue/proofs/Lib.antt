@@ -1,4 +1,0 @@
-pub mod Leaving
-pub mod Links
-pub mod Outcomes
-pub mod Rings
