@@ -6,6 +6,12 @@ use stab_base::{NoMemory, Seq, ThreadId};
 use stab_journal::{Event, History, Label, What};
 use std::alloc::Global;
 
+/// How often the container is called at this size.
+pub fn calls(n: u32) -> u64 {
+    // Reserved and pushed once each, asked for three times, and half of them struck.
+    5 * u64::from(n) + u64::from(n) / 2
+}
+
 /// How many steps were still live after half of all were struck.
 pub fn run(alloc: Global, n: u32) -> Result<u32, NoMemory>
     requires { n ≤ 1000000 }

@@ -1,6 +1,7 @@
 //! How long the containers of a run take with many entries, the lexer with long texts, and a program of many nodes.
 //!
-//! With the word `counts` it prints, for few entries, how many calls found what they were for.
+//! With the word `counts` it prints, for few entries, how many calls found what they were for; with `bytes` and
+//! the name of a container, how many bytes that takes for an entry.
 #![tactic(auto)]
 
 mod events;
@@ -20,6 +21,10 @@ fn main(rt: HostRuntime) -> io::Result<()> {
     let _program = words.next();
     match words.next() {
         Some(word) if word.as_str() == "counts" => table::print_counts(&rt),
+        Some(word) if word.as_str() == "bytes" => match words.next() {
+            Some(name) => table::print_bytes(&rt, name.as_str()),
+            None => Ok(()),
+        },
         _ => table::print_times(&rt),
     }
 }

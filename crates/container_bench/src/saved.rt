@@ -1,10 +1,17 @@
 //! Controls that are saved, taken out and dropped.
-ghost use Rattle.std.specs.Prelude.{◌<◌, ◌≤◌, ◌+◌};
+ghost use Rattle.std.specs.Prelude.{◌≡◌, ◌<◌, ◌≤◌, ◌+◌, None};
+ghost use Rattle.checkpoint_store.specs.Saved.{saved_at};
 
 use crate::scatter::scattered;
 use checkpoint_store::Store;
 use stab_base::{NoMemory, Seq, ThreadId};
 use std::alloc::Global;
+
+/// How often the container is called at this size.
+pub fn calls(n: u32) -> u64 {
+    // Reserved and saved once each, taken out once for two, dropped once for four, and below once for twenty.
+    2 * u64::from(n) + u64::from(n) / 2 + u64::from(n) / 4 + u64::from(n) / 20
+}
 
 /// How many controls were taken out: those under even numbers.
 pub fn run(alloc: Global, n: u32) -> Result<u32, NoMemory> {
@@ -16,12 +23,12 @@ pub fn run(alloc: Global, n: u32) -> Result<u32, NoMemory> {
     Ok(taken)
 }
 
-fn save_all(store: &mut Store<u32>, n: u32) -> Result<(), NoMemory> {
-    for i in 0..n {
-        let q = scattered(i, n);
-        if store.save(Seq(u64::from(q)), ThreadId(1), i).is_err() {
-            return Err(NoMemory);
-        }
+fn save_all(store: &mut Store<u32>, n: u32) -> Result<(), NoMemory>
+    requires { (q : Seq) (t : ThreadId) → saved_at store.old q t ≡ None }
+{
+    for q in 0..n {
+        store.reserve(1)?;
+        store.save(Seq(u64::from(q)), ThreadId(1), q);
     }
     Ok(())
 }

@@ -4,9 +4,9 @@ ghost use Rattle.std.specs.Prelude.{◌<◌, ◌≤◌, ◌+◌};
 use crate::{events, offers, programs, saved, threads, tokens, writes};
 use stab_base::NoMemory;
 use std::alloc::Global;
-use std::io;
-use std::rt::Clock;
+use std::rt::{Clock, Files};
 use std::time::Instant;
+use std::{fs, io};
 
 #[derive(Clone, Copy)]
 enum Container {
@@ -49,6 +49,18 @@ impl Container {
         }
     }
 
+    /// How often it is called in a run of this size; for the lexer, how many bytes it reads.
+    fn calls(self, n: u32) -> u64 {
+        match self {
+            Container::ThreadSlots => threads::calls(n),
+            Container::Rendezvous => offers::calls(n),
+            Container::RefLog => writes::calls(n),
+            Container::CheckpointStore => saved::calls(n),
+            Container::StabJournal => events::calls(n),
+            Container::StabLex => tokens::calls(n),
+        }
+    }
+
     fn run(self, alloc: Global, n: u32) -> Result<u32, NoMemory>
         requires { n ≤ 1000000 }
     {
@@ -75,24 +87,24 @@ fn count<R: AllocGlobal>(rt: &R, container: Container, n: u32) -> io::Result<u32
 }
 
 // The least time of five runs of this size.
-fn micros<R: AllocGlobal + Clock>(rt: &R, container: Container, n: u32) -> io::Result<u64>
+fn nanos<R: AllocGlobal + Clock>(rt: &R, container: Container, n: u32) -> io::Result<u64>
     requires { n ≤ 1000000 }
 {
     let _untimed = count(rt, container, n)?;
     let mut least = u64::MAX;
     for _ in 0..TIMED {
-        least = least.min(micros_of_one(rt, container, n)?);
+        least = least.min(nanos_of_one(rt, container, n)?);
     }
     Ok(least)
 }
 
-fn micros_of_one<R: AllocGlobal + Clock>(rt: &R, container: Container, n: u32) -> io::Result<u64>
+fn nanos_of_one<R: AllocGlobal + Clock>(rt: &R, container: Container, n: u32) -> io::Result<u64>
     requires { n ≤ 1000000 }
 {
     let start = Instant::now(rt)?;
     let _count = count(rt, container, n)?;
     let taken = start.elapsed(rt)?;
-    Ok(u64::try_from(taken.as_micros()).unwrap_or(u64::MAX))
+    Ok(u64::try_from(taken.as_nanos()).unwrap_or(u64::MAX))
 }
 
 /// The counts at three small sizes, which are the same at each run.
@@ -107,29 +119,60 @@ pub fn print_counts<R: AllocGlobal + Print>(rt: &R) -> io::Result<()> {
     Ok(())
 }
 
-/// The times at the three sizes in microseconds, and by how much each is more than the one before.
+/// The nanoseconds of a call at the three sizes.
 ///
 /// A time is the least of five runs, before which one of the same size isn't timed. The first run of a size
 /// pays for what the allocator does with new memory, and any run for what else the machine does meanwhile.
 pub fn print_times<R: AllocGlobal + Clock + Print>(rt: &R) -> io::Result<()> {
     for container in ALL {
         let name = container.name();
-        let a = micros(rt, container, MANY[0])?;
-        let b = micros(rt, container, MANY[1])?;
-        let c = micros(rt, container, MANY[2])?;
-        let first = hundredths(b, a);
-        let second = hundredths(c, b);
+        let a = tenths(rt, container, MANY[0])?;
+        let b = tenths(rt, container, MANY[1])?;
+        let c = tenths(rt, container, MANY[2])?;
         println!(rt;
-            "{name}: {a} us, {b} us, {c} us; ratios {}.{:02}, {}.{:02}",
-            first / 100,
-            first % 100,
-            second / 100,
-            second % 100
+            "{name}: {}.{}, {}.{}, {}.{} ns a call",
+            a / 10,
+            a % 10,
+            b / 10,
+            b % 10,
+            c / 10,
+            c % 10
         )?;
     }
     Ok(())
 }
 
-fn hundredths(a: u64, b: u64) -> u64 {
-    a.saturating_mul(100) / b.max(1)
+// The tenths of a nanosecond that a call takes.
+fn tenths<R: AllocGlobal + Clock>(rt: &R, container: Container, n: u32) -> io::Result<u64>
+    requires { n ≤ 1000000 }
+{
+    Ok(nanos(rt, container, n)?.saturating_mul(10) / container.calls(n).max(1))
+}
+
+/// By how much the memory that the process had at most rose in one run with the most entries, by entry.
+///
+/// It is for a process that does nothing else, since a container takes what an earlier one gave back.
+pub fn print_bytes<R: AllocGlobal + Files + Print>(rt: &R, word: &str) -> io::Result<()> {
+    for container in ALL {
+        if container.name() == word {
+            let before = peak(rt)?;
+            let _count = count(rt, container, MANY[2])?;
+            let after = peak(rt)?;
+            let bytes = after.saturating_sub(before).saturating_mul(1024) / u64::from(MANY[2]);
+            println!(rt; "{word}: {bytes} bytes an entry")?;
+        }
+    }
+    Ok(())
+}
+
+// The kibibytes that this process has had at most.
+fn peak<R: AllocGlobal + Files>(rt: &R) -> io::Result<u64> {
+    let status = fs::read_to_string(rt, "/proc/self/status")?;
+    for line in status.lines() {
+        if let Some(rest) = line.strip_prefix("VmHWM:") {
+            let word = rest.split_whitespace().next().unwrap_or("0");
+            return Ok(word.parse::<u64>().unwrap_or(0));
+        }
+    }
+    Ok(0)
 }

@@ -6,6 +6,12 @@ use stab_base::{NoMemory, ThreadId};
 use std::alloc::Global;
 use thread_slots::{Slots, State};
 
+/// How often the container is called at this size.
+pub fn calls(n: u32) -> u64 {
+    // Reserved and added once each, looked at and set twice, and found in front, looked at and removed once.
+    9 * u64::from(n)
+}
+
 /// How many threads were removed from the front of the queue.
 pub fn run(alloc: Global, n: u32) -> Result<u32, NoMemory>
     requires { n ≤ 1000000 }

@@ -8,6 +8,11 @@ use std::alloc::Global;
 /// Marks, one name, one number, one comment and blanks.
 const BYTES: [u8; 5] = [b'+', b'a', b'0', b'/', b' '];
 
+/// How many bytes are read at this size.
+pub fn calls(n: u32) -> u64 {
+    5 * u64::from(n)
+}
+
 /// How many tokens texts of `n` bytes have.
 pub fn run(alloc: Global, n: u32) -> Result<u32, NoMemory>
     requires { n ≤ 1000000 }

@@ -10,6 +10,12 @@ use std::alloc::Global;
 
 const LONG: RefId = RefId(0);
 
+/// How often the container is called at this size.
+pub fn calls(n: u32) -> u64 {
+    // Made, written and read once each, written once more in one reference, and half of that struck.
+    4 * u64::from(n) + u64::from(n) / 2
+}
+
 /// How many references had a value after each was written twice and the log was cut.
 pub fn run(alloc: Global, n: u32) -> Result<u32, NoMemory>
     requires { n ≤ 1000000 }
