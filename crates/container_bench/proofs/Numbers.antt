@@ -28,7 +28,7 @@ some-written q v [] h = cc
 some-written q v (w ∷ ws) h = cc
 
 -- the others stay where one is taken out
-pub has-other : (p q : ℕ) (ws : List Write) → q < p → has_write p ws ≡ true → has_write p (without q ws) ≡ true
+pub has-other : (p q : ℕ) (ws : List Write) → p < q → has_write p ws ≡ true → has_write p (without q ws) ≡ true
 has-other p q [] low h = absurd (cc)
 has-other p q (w ∷ ws) low h =
     elim (nat_eq q w.number) as (λ b. nat_eq q w.number ≡ b → has_write p (cond (not b) (w ∷ without q ws) (without q ws)) ≡ true) [

@@ -7,6 +7,11 @@ use stab_base::{FnId, NoMemory, Texts};
 use stab_code::{Function, Head, NodeId, Nodes, Op, Program, Slots, Ty, TyForm};
 use std::alloc::Global;
 
+/// How many nodes each of the two programs has.
+pub fn calls(n: u32) -> u64 {
+    4 * (u64::from(n) * 5 / 2 + 1) + 2
+}
+
 /// How many parts the nodes have, 0 where the program isn't equal to another that was made in the same way.
 pub fn run(alloc: Global, n: u32) -> Result<u32, NoMemory>
     requires { n ≤ 1000000 }

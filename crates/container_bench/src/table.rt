@@ -49,7 +49,7 @@ impl Container {
         }
     }
 
-    /// How often it is called in a run of this size; for the lexer, how many bytes it reads.
+    /// How often it is called in a run of this size; for the lexer, how many bytes it reads, and for programs, how many nodes one has.
     fn calls(self, n: u32) -> u64 {
         match self {
             Container::ThreadSlots => threads::calls(n),
@@ -58,6 +58,7 @@ impl Container {
             Container::CheckpointStore => saved::calls(n),
             Container::StabJournal => events::calls(n),
             Container::StabLex => tokens::calls(n),
+            Container::StabCode => programs::calls(n),
         }
     }
 

@@ -8,7 +8,7 @@ use ref_log::RefLog;
 use stab_base::{NoMemory, RefId, Seq, Value};
 use std::alloc::Global;
 
-const LONG: RefId = RefId(0);
+const LONG: RefId = RefId(1);
 
 /// How often the container is called at this size.
 pub fn calls(n: u32) -> u64 {
@@ -37,12 +37,8 @@ fn make_all(log: &mut RefLog, n: u32) -> Result<(), NoMemory>
     ensures { OnOk result (IsFilled n (n + 1) log.new) }
 {
     for r in 0..n {
-        if log
-            .make(RefId(r), Seq(u64::from(r) + 1), Value::unit())
-            .is_err()
-        {
-            return Err(NoMemory);
-        }
+        log.reserve(RefId(r + 1))?;
+        log.make(RefId(r + 1), Seq(u64::from(r) + 1), Value::unit());
     }
     Ok(())
 }
@@ -54,9 +50,8 @@ fn write_again(log: &mut RefLog, n: u32) -> Result<(), NoMemory>
 {
     for r in 0..n {
         let q = Seq(u64::from(n) + u64::from(r) + 1);
-        if log.write(RefId(r), q, Value::unit()).is_err() {
-            return Err(NoMemory);
-        }
+        log.reserve(RefId(r + 1))?;
+        log.write(RefId(r + 1), q, Value::unit());
     }
     Ok(())
 }
@@ -72,7 +67,7 @@ fn cut_all(log: &mut RefLog, n: u32)
 fn read_all(log: &RefLog, n: u32) -> u32 {
     let mut there = 0u32;
     for r in 0..n {
-        if log.read(RefId(r)).is_some() {
+        if log.read(RefId(r + 1)).is_some() {
             there = there.saturating_add(1);
         }
     }
@@ -84,28 +79,23 @@ fn write_all(log: &mut RefLog, n: u32) -> Result<(), NoMemory>
     requires uncut { log.old.last_cut ≡ 0 }
     requires empty { (r : ℕ) → writes_of log.old r ≡ [] }
     ensures uncut { log.new.last_cut ≡ 0 }
-    ensures written { OnOk result ((q : ℕ) → 1 ≤ q → q ≤ n → IsTrue (has_write q (writes_of log.new 0))) }
+    ensures written { OnOk result ((q : ℕ) → 1 ≤ q → q ≤ n → IsTrue (has_write q (writes_of log.new 1))) }
 {
-    if log.make(LONG, Seq(1), Value::unit()).is_err() {
-        return Err(NoMemory);
-    }
+    log.reserve(LONG)?;
+    log.make(LONG, Seq(1), Value::unit());
     for q in 1..n {
-        if log
-            .write(LONG, Seq(u64::from(q) + 1), Value::unit())
-            .is_err()
-        {
-            return Err(NoMemory);
-        }
+        log.reserve(LONG)?;
+        log.write(LONG, Seq(u64::from(q) + 1), Value::unit());
     }
     Ok(())
 }
 
-// Strikes the upper half of the writes, each of which but the last has others on both sides.
+// Strikes the upper half of the writes, each of which is the last one then.
 fn strike_half(log: &mut RefLog, n: u32)
     requires uncut { log.old.last_cut ≡ 0 }
-    requires written { (q : ℕ) → 1 ≤ q → q ≤ n → IsTrue (has_write q (writes_of log.old 0)) }
+    requires written { (q : ℕ) → 1 ≤ q → q ≤ n → IsTrue (has_write q (writes_of log.old 1)) }
 {
-    for q in n / 2..n {
-        log.strike(LONG, Seq(u64::from(q) + 1));
+    for i in 0..n / 2 {
+        log.strike(LONG, Seq(u64::from(n - i)));
     }
 }

@@ -7,7 +7,7 @@ use Rattle.container_bench.proofs.writes.write_all.Given as goal
 abbrev pub invariant-loop-q : goal.invariant-loop-q
 invariant-loop-q l = record {
   uncut : l.log.last_cut ≡ 0;
-  there : writes_of l.log 0 ≢ [];
-  below : All (λ w. w.number < l.q + 1) (writes_of l.log 0);
-  written : (p : ℕ) → 1 ≤ p → p ≤ l.q → IsTrue (has_write p (writes_of l.log 0));
+  there : writes_of l.log 1 ≢ [];
+  below : All (λ w. w.number < l.q + 1) (writes_of l.log 1);
+  written : (p : ℕ) → 1 ≤ p → p ≤ l.q → IsTrue (has_write p (writes_of l.log 1));
 }
