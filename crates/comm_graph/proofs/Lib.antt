@@ -1,0 +1,14 @@
+pub mod Lines
+pub mod Tables
+pub mod Touches
+pub mod Relinks
+pub mod Joins
+pub mod ThreadLines
+pub mod ReaderLines
+pub mod Ends
+pub mod Kept
+pub mod Grown
+pub mod Shrunk
+pub mod Reading
+pub mod Ahead
+pub mod Turns

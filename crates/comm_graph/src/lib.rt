@@ -1,0 +1,17 @@
+//! The graph of the steps on which others may depend: what a rollback walks over.
+#![tactic(auto)]
+
+mod edges;
+mod graph;
+mod line;
+mod node;
+mod readers;
+mod table;
+#[cfg(test)]
+mod tests;
+mod threads;
+mod walk;
+
+pub use edges::Edges;
+pub use graph::Graph;
+pub use node::NodeFor;

@@ -1,0 +1,299 @@
+//! The edges of graphs, beside those of plain lists.
+ghost use Rattle.std.specs.Prelude.{◌≡◌, ◌<◌, ◌≤◌, ◌+◌, ℕ, [], true, IsSome};
+ghost use Rattle.std.specs.List.{All};
+ghost use Rattle.comm_graph.specs.Node.{Node, reads};
+ghost use Rattle.comm_graph.specs.Edge.{kind_of};
+
+use super::*;
+use stab_base::{NoMemory, Seq, ThreadId};
+use std::alloc::Global;
+use std::marker::Brand;
+use std::sync::ledger::{Blank, Ledger};
+use std::test::Fail;
+use step_counter::Steps;
+
+// A graph with a number below which all its nodes are.
+#[derive(Drop)]
+struct Growing {
+    graph: Graph,
+    top: u64,
+    ghost above: { All (λ (n : Node). n.number < top) graph.nodes },
+}
+
+fn may_follow(q: u64, node: &NodeFor) -> bool
+    ensures { result ≡ true → (p : ℕ) → reads p node.now ≡ true → p < q }
+{
+    match *node {
+        NodeFor::Get(_, write) => write.0 < q,
+        _ => true,
+    }
+}
+
+impl Growing {
+    fn new(alloc: Global) -> Growing {
+        Growing {
+            graph: Graph::new(alloc),
+            top: 0,
+        }
+    }
+
+    fn put(&mut self, q: u64, node: NodeFor) -> Result<(), NoMemory> {
+        if q >= self.top && q < 5_000_000_000 && may_follow(q, &node) {
+            self.graph.reserve()?;
+            self.graph.add(Seq(q), node);
+            self.top = q + 1;
+        }
+        Ok(())
+    }
+
+    fn put_all(&mut self, nodes: &[(u64, NodeFor)]) -> Result<(), NoMemory> {
+        for (q, node) in nodes {
+            self.put(*q, *node)?;
+        }
+        Ok(())
+    }
+
+    fn strike<L: Ledger>(&mut self, q: u64, steps: &mut Steps<L>) {
+        if self.graph.node(Seq(q), steps).is_some() {
+            self.graph.strike(Seq(q));
+        }
+    }
+
+    fn cut(&mut self, q: u64) {
+        self.graph.cut(Seq(q));
+    }
+}
+
+// Where the edges of a node lead, by `out` and by `next_edge`, which agree.
+fn ends_of<L: Ledger>(
+    alloc: Global,
+    graph: &Graph,
+    q: u64,
+    steps: &mut Steps<L>,
+) -> Result<Vec<u64>, Fail> {
+    let mut ends = Vec::new(alloc);
+    if graph.node(Seq(q), steps).is_some() {
+        let mut edges = graph.edges(Seq(q));
+        for i in 0..100 {
+            let end = graph.out(Seq(q), i, steps);
+            if graph.next_edge(&mut edges, steps) != end {
+                return Err(Fail::from("out"));
+            }
+            match end {
+                Some(end) => ends.push(end.0)?,
+                None => return Ok(ends),
+            }
+        }
+    }
+    Ok(ends)
+}
+
+// The same by the definition, over a plain list.
+fn plain_ends(alloc: Global, nodes: &[(u64, NodeFor)], q: u64) -> Result<Vec<u64>, NoMemory> {
+    let mut ends = Vec::new(alloc);
+    let Some(kind) = kind_at(nodes, q) else {
+        return Ok(ends);
+    };
+    let (first, second) = threads_of(&kind);
+    push_next(nodes, q, first, &mut ends)?;
+    if let Some(second) = second {
+        push_next(nodes, q, second, &mut ends)?;
+    }
+    if matches!(kind, NodeFor::Set(_) | NodeFor::NewRef(_)) {
+        for (number, node) in nodes.iter().rev() {
+            if matches!(node, NodeFor::Get(_, write) if write.0 == q) {
+                ends.push(*number)?;
+            }
+        }
+    }
+    Ok(ends)
+}
+
+fn kind_at(nodes: &[(u64, NodeFor)], q: u64) -> Option<NodeFor> {
+    for (number, node) in nodes {
+        if *number == q {
+            return Some(*node);
+        }
+    }
+    None
+}
+
+fn threads_of(node: &NodeFor) -> (ThreadId, Option<ThreadId>) {
+    match *node {
+        NodeFor::Spawn(t, u) | NodeFor::Comm(t, u) => (t, Some(u)),
+        NodeFor::Enter(t)
+        | NodeFor::Get(t, _)
+        | NodeFor::Set(t)
+        | NodeFor::NewRef(t)
+        | NodeFor::Pin(t) => (t, None),
+    }
+}
+
+fn does_act(node: &NodeFor, t: ThreadId) -> bool {
+    match *node {
+        NodeFor::Comm(sender, receiver) => sender == t || receiver == t,
+        _ => threads_of(node).0 == t,
+    }
+}
+
+fn push_next(
+    nodes: &[(u64, NodeFor)],
+    q: u64,
+    t: ThreadId,
+    ends: &mut Vec<u64>,
+) -> Result<(), NoMemory> {
+    for (number, node) in nodes {
+        if *number > q && does_act(node, t) {
+            ends.push(*number)?;
+            return Ok(());
+        }
+    }
+    Ok(())
+}
+
+#[derive(Clone, Copy)]
+enum Call {
+    Put(u64, NodeFor),
+    Strike(u64),
+    Cut(u64),
+}
+
+const MAIN: ThreadId = ThreadId(1);
+
+const TWO: ThreadId = ThreadId(2);
+
+const THREE: ThreadId = ThreadId(3);
+
+const FAR: ThreadId = ThreadId(4_000_000_000);
+
+// Thread 2 is struck out of the middle, and a thread whose number is far from the others' takes part.
+const CALLS: [Call; 31] = [
+    Call::Put(1, NodeFor::NewRef(MAIN)),
+    Call::Put(2, NodeFor::Spawn(MAIN, TWO)),
+    Call::Put(4, NodeFor::Get(TWO, Seq(1))),
+    Call::Put(5, NodeFor::Get(MAIN, Seq(1))),
+    Call::Put(7, NodeFor::Enter(TWO)),
+    Call::Put(8, NodeFor::Spawn(MAIN, FAR)),
+    Call::Put(9, NodeFor::Comm(TWO, FAR)),
+    Call::Put(10, NodeFor::Get(FAR, Seq(1))),
+    Call::Strike(5),
+    Call::Strike(10),
+    Call::Put(11, NodeFor::Set(FAR)),
+    Call::Put(12, NodeFor::Get(TWO, Seq(11))),
+    Call::Put(13, NodeFor::Get(MAIN, Seq(11))),
+    Call::Put(14, NodeFor::Pin(TWO)),
+    Call::Strike(14),
+    Call::Strike(12),
+    Call::Put(15, NodeFor::Get(TWO, Seq(1))),
+    Call::Cut(4),
+    Call::Put(16, NodeFor::Comm(MAIN, TWO)),
+    Call::Put(17, NodeFor::Spawn(TWO, THREE)),
+    Call::Put(18, NodeFor::Set(THREE)),
+    Call::Put(19, NodeFor::Get(TWO, Seq(18))),
+    Call::Put(20, NodeFor::Get(THREE, Seq(18))),
+    Call::Strike(20),
+    Call::Cut(12),
+    Call::Put(21, NodeFor::Comm(THREE, THREE)),
+    Call::Put(22, NodeFor::Enter(THREE)),
+    Call::Strike(18),
+    Call::Cut(22),
+    Call::Cut(30),
+    Call::Put(30, NodeFor::NewRef(THREE)),
+];
+
+fn play<L: Ledger>(alloc: Global, blank: Blank) -> Result<bool, Fail>
+    requires name { blank.name ≡ L.name }
+    requires parts { blank.parts ≡ L.parts }
+    requires one { blank.parts ≡ 1 }
+{
+    let mut steps: Steps<L> = Steps::new(blank);
+    let mut growing = Growing::new(alloc);
+    let mut plain: Vec<(u64, NodeFor)> = Vec::new(alloc);
+    for call in CALLS {
+        match call {
+            Call::Put(q, node) => {
+                growing.put(q, node)?;
+                plain.push((q, node))?;
+            }
+            Call::Strike(q) => {
+                growing.strike(q, &mut steps);
+                plain.retain(|(number, _)| *number != q);
+            }
+            Call::Cut(q) => {
+                growing.cut(q);
+                plain.retain(|(number, _)| *number >= q);
+            }
+        }
+        if growing.graph.len() != plain.len() as u64 {
+            return Ok(false);
+        }
+        for q in 0..32 {
+            let ends = ends_of(alloc, &growing.graph, q, &mut steps)?;
+            let wanted = plain_ends(alloc, &plain, q)?;
+            if ends.as_slice() != wanted.as_slice() {
+                return Ok(false);
+            }
+        }
+    }
+    Ok(true)
+}
+
+#[test]
+fn a_graph_beside_a_list(rt: HostRuntime) -> Result<(), Fail> {
+    assert!(rt; play::<Brand>(rt.alloc(), Blank::new(1))?);
+    Ok(())
+}
+
+// A cascade: thread 1 enters a section at 17, and thread 3 reads at 26 what thread 2 then writes at 23.
+const CASCADE: [(u64, NodeFor); 13] = [
+    (5, NodeFor::NewRef(MAIN)),
+    (7, NodeFor::Spawn(MAIN, TWO)),
+    (9, NodeFor::Spawn(MAIN, THREE)),
+    (10, NodeFor::Get(THREE, Seq(5))),
+    (12, NodeFor::Spawn(MAIN, ThreadId(4))),
+    (14, NodeFor::Get(THREE, Seq(5))),
+    (17, NodeFor::Enter(MAIN)),
+    (19, NodeFor::Get(THREE, Seq(5))),
+    (20, NodeFor::Comm(MAIN, TWO)),
+    (22, NodeFor::Get(THREE, Seq(5))),
+    (23, NodeFor::Set(TWO)),
+    (26, NodeFor::Get(THREE, Seq(23))),
+    (28, NodeFor::Comm(THREE, MAIN)),
+];
+
+fn cascade_ends<L: Ledger>(alloc: Global, blank: Blank, q: u64) -> Result<Vec<u64>, Fail>
+    requires name { blank.name ≡ L.name }
+    requires parts { blank.parts ≡ L.parts }
+    requires one { blank.parts ≡ 1 }
+{
+    let mut steps: Steps<L> = Steps::new(blank);
+    let mut growing = Growing::new(alloc);
+    growing.put_all(&CASCADE)?;
+    ends_of(alloc, &growing.graph, q, &mut steps)
+}
+
+#[test]
+fn the_edges_of_a_cascade(rt: HostRuntime) -> Result<(), Fail> {
+    let alloc = rt.alloc();
+    assert_eq!(rt;
+        cascade_ends::<Brand>(alloc, Blank::new(1), 5)?.as_slice(),
+        [7, 22, 19, 14, 10].as_slice()
+    );
+    assert_eq!(rt;
+        cascade_ends::<Brand>(alloc, Blank::new(1), 7)?.as_slice(),
+        [9, 20].as_slice()
+    );
+    assert_eq!(rt;
+        cascade_ends::<Brand>(alloc, Blank::new(1), 12)?.as_slice(),
+        [17].as_slice()
+    );
+    assert_eq!(rt;
+        cascade_ends::<Brand>(alloc, Blank::new(1), 20)?.as_slice(),
+        [28, 23].as_slice()
+    );
+    assert_eq!(rt;
+        cascade_ends::<Brand>(alloc, Blank::new(1), 23)?.as_slice(),
+        [26].as_slice()
+    );
+    Ok(())
+}
