@@ -44,13 +44,22 @@ fn called<R: Threads + Wait + Sync>(
     text: &[u8],
     fails: [&[u64]; 2],
 ) -> Result<Answer, Fail> {
-    let words = texts(alloc, words)?;
+    called_by(rt, alloc, &texts(alloc, words)?, text, fails)
+}
+
+fn called_by<R: Threads + Wait + Sync>(
+    rt: &R,
+    alloc: Global,
+    words: &[String],
+    text: &[u8],
+    fails: [&[u64]; 2],
+) -> Result<Answer, Fail> {
     let mut files = holding(alloc, text, fails[0])?;
     let mut sink = MemSink::new(alloc, 1_048_576, fails[1].to_vec(alloc)?)?;
     let gate = Counting {
         calls: AtomicU32::new(0),
     };
-    let report = stab(rt, alloc, &words, &mut files, &mut sink, &gate);
+    let report = stab(rt, alloc, words, &mut files, &mut sink, &gate);
     Ok(Answer {
         status: report.status,
         file: report.file,
@@ -79,14 +88,25 @@ fn texts(alloc: Global, words: &[&str]) -> Result<Vec<String>, Fail> {
     Ok(texts)
 }
 
-// A program of one function whose block is the piece so many times.
-fn block_of(alloc: Global, piece: &[u8], count: u32) -> Result<Vec<u8>, Fail> {
-    let mut text = b"fn main(): unit {".to_vec(alloc)?;
+// The piece so many times, between two others.
+fn repeated(
+    alloc: Global,
+    front: &[u8],
+    piece: &[u8],
+    count: u32,
+    end: &[u8],
+) -> Result<Vec<u8>, Fail> {
+    let mut text = front.to_vec(alloc)?;
     for _ in 0..count {
         text.extend_from_slice(piece)?;
     }
-    text.push(b'}')?;
+    text.extend_from_slice(end)?;
     Ok(text)
+}
+
+// A program of one function whose block is the piece so many times.
+fn block_of(alloc: Global, piece: &[u8], count: u32) -> Result<Vec<u8>, Fail> {
+    repeated(alloc, b"fn main(): unit {", piece, count, b"}")
 }
 
 fn holding(alloc: Global, text: &[u8], fails: &[u64]) -> Result<MemFiles, Fail> {
@@ -158,20 +178,20 @@ fn kinds_and_order(rt: HostRuntime) -> Result<(), Fail> {
 #[test]
 fn each_line_is_one_put(rt: HostRuntime) -> Result<(), Fail> {
     let program = b"fn main(): unit { print(1); print(22); print(333) }";
-    let text = b"1\n22\n333\nended 1 faulted 0 waiting 0\n".as_slice();
-    for (failing, written) in [(1, 0), (2, 2), (3, 5), (4, 9), (5, text.len())] {
+    for (failing, status, written) in [
+        (1, Status::SinkFault, b"".as_slice()),
+        (2, Status::SinkFault, b"1\n".as_slice()),
+        (3, Status::SinkFault, b"1\n22\n".as_slice()),
+        (4, Status::SinkFault, b"1\n22\n333\n".as_slice()),
+        (
+            5,
+            Status::Done,
+            b"1\n22\n333\nended 1 faulted 0 waiting 0\n".as_slice(),
+        ),
+    ] {
         let call = called(&rt, rt.alloc(), &["run", "p"], program, [&[], &[failing]])?;
-        let status = if failing < 5 {
-            Status::SinkFault
-        } else {
-            Status::Done
-        };
         assert_eq!(rt; call.status, status, "at put {failing}");
-        assert_eq!(rt;
-            call.written.as_slice(),
-            &text[..written],
-            "at put {failing}"
-        );
+        assert_eq!(rt; call.written.as_slice(), written, "at put {failing}");
         assert_eq!(rt; call.events.len(), 5);
     }
     Ok(())
@@ -204,9 +224,10 @@ fn the_program_is_loaded_once(rt: HostRuntime) -> Result<(), Fail> {
 
 #[test]
 fn other_numbers_of_words(rt: HostRuntime) -> Result<(), Fail> {
-    let words = ["run", "p", "p", "p", "p"];
     for count in [0, 1, 3, 4, 5] {
-        let call = called(&rt, rt.alloc(), &words[..count], SUM, [&[], &[]])?;
+        let mut words = texts(rt.alloc(), &["run", "p", "p", "p", "p"])?;
+        words.truncate(count);
+        let call = called_by(&rt, rt.alloc(), &words, SUM, [&[], &[]])?;
         assert_eq!(rt; call.status, Status::NotBuilt, "of {count} words");
         assert_eq!(rt; call.written.len(), 0, "of {count} words");
     }
@@ -220,9 +241,14 @@ fn fifty_thousand_prints(rt: HostRuntime) -> Result<(), Fail> {
     assert_eq!(rt; call.status, Status::Done);
     // Each print is an event, and so is the step that leaves it behind.
     assert_eq!(rt; call.events.len(), 100_000);
-    let (values, end) = call.written.as_slice().split_at(100_000);
-    assert_eq!(rt; values, b"7\n".repeat(rt.alloc(), 50_000)?.as_slice());
-    assert_eq!(rt; end, b"ended 1 faulted 0 waiting 0\n".as_slice());
+    let shown = repeated(
+        rt.alloc(),
+        b"",
+        b"7\n",
+        50_000,
+        b"ended 1 faulted 0 waiting 0\n",
+    )?;
+    assert_eq!(rt; call.written, shown);
     Ok(())
 }
 
