@@ -5,6 +5,8 @@ pub mod Finding
 pub mod Inside
 pub mod Lists
 pub mod Looking
+pub mod Maps
+pub mod Marking
 pub mod Operands
 pub mod Putting
 pub mod Resting

@@ -5,6 +5,7 @@ pub mod ExpressionCode
 pub mod Falls
 pub mod Frames
 pub mod Given
+pub mod Held
 pub mod Look
 pub mod Next
 pub mod Numbers

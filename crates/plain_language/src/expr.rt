@@ -105,6 +105,13 @@ impl Expr {
         matches!(&self.node, Node::Value(_))
     }
 
+    /// An equal expression.
+    pub fn copy(&self, alloc: Global) -> Result<Expr, NoMemory>
+        ensures { IfOk result (λ copy. copy ≡ self.now) }
+    {
+        self.put_copy(alloc, Given::Nothing)
+    }
+
     /// An expression with the values at hand in place of its variables.
     #[cycle(copies)]
     pub(crate) fn put_copy(&self, alloc: Global, given: Given<'_>) -> Result<Expr, NoMemory>

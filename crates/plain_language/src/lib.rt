@@ -11,6 +11,7 @@ mod look;
 mod operators;
 mod pure;
 mod redex;
+mod state;
 #[cfg(test)]
 mod tests;
 
@@ -20,3 +21,4 @@ pub use laws::{
     one_redex, quiet_states_rest, shown_text_is_determined, steps_change_what_they_name,
 };
 pub use look::{ActKind, Look};
+pub use state::PlainState;

@@ -1,19 +1,21 @@
 //! What is next for an expression, and its next pure step.
-ghost use Rattle.std.specs.Prelude.{◌≡◌, ℕ, None, IfOk, MatchOption};
+ghost use Rattle.std.specs.Prelude.{◌≡◌, ℕ, None, IfOk, IsSome, MatchOption};
+ghost use Rattle.plain_language.specs.declared.head.Head.TheVariants.{Section};
 ghost use Rattle.plain_language.specs.Acts.{act_of};
-ghost use Rattle.plain_language.specs.Expression.{Expr as Expression, value};
+ghost use Rattle.plain_language.specs.Expression.{Expr as Expression, form, none, part};
 ghost use Rattle.plain_language.specs.Look.{answered, entered, language, look};
 ghost use Rattle.plain_language.specs.Next.{IsNext};
 ghost use Rattle.plain_language.specs.Pures.{made_of};
 ghost use Rattle.plain_language.specs.Program.{body};
-ghost use Rattle.plain_language.specs.Redex.{cap};
+ghost use Rattle.plain_language.specs.Redex.{cap, redex};
 ghost use Rattle.plain_language.specs.Seen.{kind_of, seen};
 ghost use Rattle.plain_language.specs.Table.{pure_of, pure_steps};
 
 use crate::act::{Act, act_at};
 use crate::expr::{Expr, Node};
+use crate::head::Head;
 use crate::pure::{Pure, pure_at};
-use stab_base::{Fault, NoMemory};
+use stab_base::{Fault, NoMemory, Seq, Value};
 use stab_code::Program;
 use std::alloc::Global;
 
@@ -149,4 +151,31 @@ impl Expr {
         }
         Ok(Some(e))
     }
+
+    /// The expression with a value in place of its redex.
+    pub(crate) fn answered(&self, alloc: Global, v: Value) -> Result<Expr, NoMemory>
+        requires { IsSome (redex self.now) }
+        ensures { IfOk result (λ e. e ≡ answered self.now v) }
+    {
+        let copy = self.copy(alloc)?;
+        Ok(copy.rebuilt(Expr::value(v)).capped())
+    }
+
+    /// The expression with a body in place of its redex, in the section entered at a number.
+    pub(crate) fn entered(&self, alloc: Global, m: Seq, body: Expr) -> Result<Expr, NoMemory>
+        requires { IsSome (redex self.now) }
+        ensures { IfOk result (λ e. e ≡ entered self.now m.0 body) }
+    {
+        let copy = self.copy(alloc)?;
+        Ok(copy.rebuilt(section(alloc, m, body)?).capped())
+    }
+}
+
+/// A section that was entered at a number.
+fn section(alloc: Global, m: Seq, body: Expr) -> Result<Expr, NoMemory>
+    ensures { IfOk result (λ e. e ≡ form (Section m) (part body none)) }
+{
+    let mut parts = Vec::new(alloc);
+    parts.push(body)?;
+    Ok(Expr::form(Head::Section(m), parts))
 }
