@@ -1,2 +1,3 @@
-pub mod Machine
 pub mod Completeness
+pub mod Machine
+pub mod Soundness

@@ -239,7 +239,7 @@ put_if (if_primary c) f = put_primary c (in_if f)
 put_if (after_else i e b l c) f = put_if c (if_else_if i e b l f)
 
 abbrev pub put_block : RoundBlock → Block → State
-put_block (body (opening ps f x o) params e q t) b = between (next_function ps (function f x o params e q t b))
+put_block (body (opening ps f x o) xs e q t) b = between (next_function ps (function f x o xs e q t b))
 put_block (block_primary c) b = put_primary c (in_block b)
 put_block (then_block i e c) b = then_read i e b c
 put_block (else_block i e b l c) d = put_if c (if_else i e b l d)
