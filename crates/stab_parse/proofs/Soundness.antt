@@ -380,7 +380,7 @@ keeps_ref_type : (q : Span) (c : RoundType) (k : Symbol) (p : Span) → Keeps (s
 keeps_ref_type q c OpenBracket p = λ rest. refl
 keeps_ref_type q c _ p = tt
 
-spell_params_there : (c : RoundParam) (x : Param) (rest : List Piece) → spell_round_param c (spell_param 1 x rest) ≡ spell_opening (opening_of c) (spell_param_list 1 (params_with c x) rest)
+pub spell_params_there : (c : RoundParam) (x : Param) (rest : List Piece) → spell_round_param c (spell_param 1 x rest) ≡ spell_opening (opening_of c) (spell_param_list 1 (params_with c x) rest)
 spell_params_there (first_param o) (param x q t) rest = refl
 spell_params_there (later_param o xs m) (param x q t) rest = refl
 
