@@ -1,2 +1,5 @@
+pub mod Faults
+pub mod FormList
+pub mod Forms
 pub mod Grammar
 pub mod Symbols
