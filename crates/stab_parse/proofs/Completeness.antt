@@ -1,11 +1,11 @@
 -- The machine reads what the grammar spells.
-use Rattle.std.proofs.Common.{◌≡◌, ℕ, suc, ◌==◌, List, [], ◌∷◌, Option, Some, None, refl, sym, ap, ◌∙◌, eq-eqb, cond, true}
-use Rattle.std.specs.Prelude.{option_and_then, if◌then◌else◌}
+use Rattle.std.proofs.Common.{◌≡◌, ℕ, suc, List, ◌∷◌, Some, None, refl, sym, ap, ◌∙◌, eq-eqb, cond}
+use Rattle.std.specs.Prelude.{option_and_then}
 use Rattle.stab_parse.specs.declared.symbol.Span.{Span}
 use Rattle.stab_parse.specs.declared.symbol.Symbol.{Symbol}
 use Rattle.stab_parse.specs.declared.symbol.Symbol.TheVariants.{Name, Number, Greatest, Text, Truth, WordFn, WordLet, WordIf, WordElse, WordChan, Basic, Call, ActAlone, ActOne, ActTwo, OrOr, AndAnd, Relation, Plus, Minus, Product, Not, OpenParen, CloseParen, OpenBrace, CloseBrace, OpenBracket, CloseBracket, Comma, Semicolon, Colon, Equal}
-use Rattle.stab_parse.specs.Grammar.{WrittenType, basic_type, chan_type, ref_type, pair_type, Param, param, ParamList, one_param, next_param, Params, no_params, some_params, Callee, called, started, Block, block, block_with_last, Items, no_items, next_item, Item, let_item, form_item, Expr, one_and, or, And, one_cmp, and, Cmp, one_sum, compare, Sum, one_term, plus, minus, Term, one_unary, times, Unary, number, other, Other, literal, least, negate, not, primary, Primary, text, truth, variable, call, call_with, unit, group, pair, in_block, in_if, act, Args, one_arg, next_arg, If, if_then, if_else, if_else_if, Act, new_chan, act_one, act_two, act_alone, Function, function, Program, no_functions, next_function, Piece, plain, opener, spell_type, spell_param, spell_param_list, spell_params, spell_callee, spell_block, spell_items, spell_item, spell_expr, spell_and, spell_cmp, spell_sum, spell_term, spell_unary, spell_other, spell_primary, spell_args, spell_if, spell_act, spell_function, spell_program}
-use Rattle.stab_parse.proofs.Machine.{Opening, opening, RoundParam, first_param, later_param, RoundType, of_param, of_result, in_chan, in_ref, pair_left, pair_right, of_chan, RoundItems, items_in, RoundBlock, body, block_primary, then_block, else_block, RoundIf, if_primary, after_else, RoundExpr, group_in, second_in, first_arg, later_arg, one_in, two_left, two_right, let_value, item_in, condition, RoundAnd, first_and, after_or, RoundCmp, first_cmp, after_and, RoundSum, first_sum, after_compare, RoundTerm, first_term, after_plus, after_minus, RoundUnary, first_unary, after_times, after_not, RoundOther, no_sign, after_negate, open_items, open_block, open_if, open_expr, open_and, open_cmp, open_sum, open_term, open_unary, open_other, open_type, State, between, fn_read, fn_named, params_open, param_owed, param_named, params_closed, owes_type, chan_type_read, ref_type_read, has_type, owes, signed, opened, named, call_open, word_read, word_named, alone_read, alone_open, one_read, two_read, chan_read, chan_typed, chan_open, in_items, let_read, let_named, has, then_read, else_read, open_of, unary_at, put, put_other, put_primary, put_if, put_block, sum_with, round_term, cmp_with, round_sum, and_with, round_cmp, expr_with, round_and, params_with, opening_of, Move, fails, goes, opens, close_paren, comma, semicolon, close_brace, open_brace, ends_expr, ends_and, ends_cmp, ends_sum, ends_term, step_done, begin_other, step_owes, step_signed, step_named, step_then, step, follow_plain, follow_opener, follow_by, run, run_by, start}
+use Rattle.stab_parse.specs.Grammar.{WrittenType, basic_type, chan_type, ref_type, pair_type, param, ParamList, one_param, next_param, Params, no_params, some_params, Callee, called, started, Block, block, block_with_last, Items, no_items, next_item, Item, let_item, form_item, Expr, one_and, or, And, one_cmp, and, Cmp, one_sum, compare, Sum, one_term, plus, minus, Term, one_unary, times, Unary, number, other, Other, literal, least, negate, not, primary, Primary, text, truth, variable, call, call_with, unit, group, pair, in_block, in_if, act, Args, one_arg, next_arg, If, if_then, if_else, if_else_if, Act, new_chan, act_one, act_two, act_alone, Function, function, Program, no_functions, next_function, Piece, plain, opener, spell_type, spell_param_list, spell_params, spell_callee, spell_block, spell_items, spell_item, spell_expr, spell_and, spell_cmp, spell_sum, spell_term, spell_unary, spell_other, spell_primary, spell_args, spell_if, spell_act, spell_function, spell_program}
+use Rattle.stab_parse.proofs.Machine.{Opening, opening, first_param, later_param, RoundType, of_param, of_result, in_chan, in_ref, pair_left, pair_right, of_chan, RoundItems, items_in, RoundBlock, body, block_primary, then_block, else_block, RoundIf, if_primary, after_else, RoundExpr, group_in, second_in, first_arg, later_arg, one_in, two_left, two_right, let_value, item_in, condition, RoundAnd, first_and, after_or, RoundCmp, first_cmp, after_and, RoundSum, first_sum, after_compare, RoundTerm, first_term, after_plus, after_minus, RoundUnary, first_unary, after_times, after_not, RoundOther, no_sign, after_negate, open_block, open_if, open_expr, open_and, open_cmp, open_sum, open_term, open_unary, open_other, open_type, State, between, fn_named, params_open, param_owed, params_closed, owes_type, chan_type_read, ref_type_read, has_type, owes, signed, opened, named, call_open, word_named, alone_read, alone_open, one_read, two_read, chan_read, chan_typed, chan_open, in_items, then_read, else_read, open_of, unary_at, put, put_other, put_primary, put_if, put_block, sum_with, round_term, cmp_with, round_sum, and_with, round_cmp, expr_with, round_and, Move, goes, opens, close_paren, comma, ends_expr, ends_and, ends_cmp, ends_sum, ends_term, step_done, begin_other, step_owes, step_named, step_then, step, follow_plain, follow_opener, run, run_by, start}
 
 -- ---- the state behind what was read
 
@@ -493,7 +493,7 @@ mutual
       run_callee f c o (spell_args (suc (open_other c)) a (plain CloseParen e ∷ rest))
       ∙ run_args a f o c (plain CloseParen e ∷ rest)
       ∙ by_goes (step (after_expr (round_args f o a c) (last_arg a))) (put_primary c (call_with f o a e)) CloseParen e rest
-        (expr_settled (round_args f o a c) (last_arg a) CloseParen e Closed ∙ close_args f o a c e)
+      (expr_settled (round_args f o a c) (last_arg a) CloseParen e Closed ∙ close_args f o a c e)
   run_primary (unit o e) c rest = by_opens (begin_other c) (opened o c) (suc (open_other c)) OpenParen o (plain CloseParen e ∷ rest) refl refl
   run_primary (group o x e) c rest =
       by_opens (begin_other c) (opened o c) (suc (open_other c)) OpenParen o (spell_expr (suc (open_other c)) x (plain CloseParen e ∷ rest)) refl refl
@@ -518,7 +518,7 @@ mutual
   run_args (next_arg a m e) f o c rest =
       run_args a f o c (plain Comma m ∷ spell_expr (suc (open_other c)) e rest)
       ∙ by_goes (step (after_expr (round_args f o a c) (last_arg a))) (owes (unary_at (later_arg f o a m c))) Comma m (spell_expr (suc (open_other c)) e rest)
-        (expr_settled (round_args f o a c) (last_arg a) Comma m Closed ∙ comma_args f o a c m)
+      (expr_settled (round_args f o a c) (last_arg a) Comma m Closed ∙ comma_args f o a c m)
       ∙ run_expr e (later_arg f o a m c) rest
 
   run_act : (a : Act) (c : RoundOther) (rest : List Piece) → run_by (begin_other c) (spell_act (open_other c) a rest) ≡ run (put_primary c (act a)) rest
@@ -564,12 +564,12 @@ mutual
   run_item (let_item l x q v) e o is c rest =
       run_expr v (let_value l x q (items_in o is c)) (plain Semicolon e ∷ rest)
       ∙ by_goes (step (after_expr (let_value l x q (items_in o is c)) v)) (in_items (items_in o (next_item is (let_item l x q v) e) c)) Semicolon e rest
-        (expr_settled (let_value l x q (items_in o is c)) v Semicolon e Closed)
+      (expr_settled (let_value l x q (items_in o is c)) v Semicolon e Closed)
   run_item (form_item v) e o is c rest =
       like_expr (in_items (items_in o is c)) (unary_at (item_in (items_in o is c))) (items_like (items_in o is c)) (suc (open_block c)) v (plain Semicolon e ∷ rest)
       ∙ run_expr v (item_in (items_in o is c)) (plain Semicolon e ∷ rest)
       ∙ by_goes (step (after_expr (item_in (items_in o is c)) v)) (in_items (items_in o (next_item is (form_item v) e) c)) Semicolon e rest
-        (expr_settled (item_in (items_in o is c)) v Semicolon e Closed)
+      (expr_settled (item_in (items_in o is c)) v Semicolon e Closed)
 
   -- where a step takes the word
   run_if : (f : If) (by : Symbol → Span → Move) (word : Span → Piece) (c : RoundIf) (rest : List Piece) → ((i : Span) (more : List Piece) → run_by by (word i ∷ more) ≡ run (owes (unary_at (condition i c))) more) → run_by by (spell_if (open_if c) word f rest) ≡ run (after_if c f) rest
@@ -586,7 +586,7 @@ mutual
       ∙ run_then i e b c behind (run_expr e) (run_block b)
       ∙ if_by f (else_read i e b l c) (suc (open_if c)) (opener (suc (open_if c)) WordIf) rest
       ∙ run_if f (step (else_read i e b l c)) (opener (suc (open_if c)) WordIf) (after_else i e b l c) rest
-        (λ j more. by_opens (step (else_read i e b l c)) (owes (unary_at (condition j (after_else i e b l c)))) (suc (open_if c)) WordIf j more refl refl)
+      (λ j more. by_opens (step (else_read i e b l c)) (owes (unary_at (condition j (after_else i e b l c)))) (suc (open_if c)) WordIf j more refl refl)
 
 -- ---- functions
 

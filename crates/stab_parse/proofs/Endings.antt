@@ -1,19 +1,15 @@
 -- What is owed can be written.
-use Rattle.std.proofs.Common.{◌≡◌, ℕ, suc, Bool, true, List, [], ◌∷◌, refl, sym, ap, ◌∙◌}
+use Rattle.std.proofs.Common.{◌≡◌, ℕ, suc, true, List, [], ◌∷◌, refl, ap, ◌∙◌}
 use Rattle.std.specs.Prelude.{map}
 use Rattle.stab_lex.specs.declared.kind.Kind.{Kind}
 use Rattle.stab_lex.specs.declared.kind.Kind.TheVariants as kind
 use Rattle.stab_lex.specs.declared.token.Token.{Token}
 use Rattle.stab_parse.specs.declared.symbol.BasicType.TheVariants as basic
-use Rattle.stab_parse.specs.Symbols.{Sign, symbol_of, sign_of}
-use Rattle.stab_parse.specs.declared.symbol.ActWord.{ActWord}
-use Rattle.stab_parse.specs.declared.symbol.ActWord.TheVariants.{Ref}
-use Rattle.stab_parse.specs.declared.symbol.CallWord.{CallWord}
+use Rattle.stab_parse.specs.Symbols.{symbol_of, sign_of}
 use Rattle.stab_parse.specs.declared.symbol.Span.{Span}
-use Rattle.stab_parse.specs.declared.symbol.Symbol.{Symbol}
-use Rattle.stab_parse.specs.declared.symbol.Symbol.TheVariants.{Name, Number, Greatest, Text, Truth, WordFn, WordLet, WordIf, WordElse, WordChan, Basic, Call, ActAlone, ActOne, ActTwo, OrOr, AndAnd, Relation, Plus, Minus, Product, Not, OpenParen, CloseParen, OpenBrace, CloseBrace, OpenBracket, CloseBracket, Comma, Semicolon, Colon, Equal}
-use Rattle.stab_parse.specs.Grammar.{WrittenType, basic_type, chan_type, ref_type, pair_type, Param, param, ParamList, one_param, next_param, Params, no_params, some_params, Callee, called, started, Block, block, block_with_last, Items, no_items, next_item, Item, let_item, form_item, Expr, one_and, or, And, one_cmp, and, Cmp, one_sum, compare, Sum, one_term, plus, minus, Term, one_unary, times, Unary, number, other, Other, literal, least, negate, not, primary, Primary, text, truth, variable, call, call_with, unit, group, pair, in_block, in_if, act, Args, one_arg, next_arg, If, if_then, if_else, if_else_if, Act, new_chan, act_one, act_two, act_alone, Function, function, Program, no_functions, next_function, Piece, plain, opener, spell_type, spell_param, spell_param_list, spell_params, spell_callee, spell_block, spell_items, spell_item, spell_expr, spell_and, spell_cmp, spell_sum, spell_term, spell_unary, spell_other, spell_primary, spell_args, spell_if, spell_act, spell_function, spell_program, pieces_of, sign_of_piece}
-use Rattle.stab_parse.proofs.Machine.{Opening, opening, RoundParam, first_param, later_param, RoundType, of_param, of_result, in_chan, in_ref, pair_left, pair_right, of_chan, RoundItems, items_in, RoundBlock, body, block_primary, then_block, else_block, RoundIf, if_primary, after_else, RoundExpr, group_in, second_in, first_arg, later_arg, one_in, two_left, two_right, let_value, item_in, condition, RoundAnd, first_and, after_or, RoundCmp, first_cmp, after_and, RoundSum, first_sum, after_compare, RoundTerm, first_term, after_plus, after_minus, RoundUnary, first_unary, after_times, after_not, RoundOther, no_sign, after_negate, open_items, open_block, open_if, open_expr, open_and, open_cmp, open_sum, open_term, open_unary, open_other, open_type, State, between, fn_read, fn_named, params_open, param_owed, param_named, params_closed, owes_type, chan_type_read, ref_type_read, has_type, owes, signed, opened, named, call_open, word_read, word_named, alone_read, alone_open, one_read, two_read, chan_read, chan_typed, chan_open, in_items, let_read, let_named, has, then_read, else_read, open_of, unary_at, put, put_other, put_primary, put_if, put_block, sum_with, round_term, cmp_with, round_sum, and_with, round_cmp, expr_with, round_and, params_with, opening_of, Move, fails, goes, opens, close_paren, comma, semicolon, close_brace, open_brace, ends_expr, ends_and, ends_cmp, ends_sum, ends_term, step_done, begin_other, step_owes, step_signed, step_opened, step_call_open, step_items, step_named, step_then, step_else, step_word_read, step_word_named, step_alone_read, step_alone_open, step_one_read, step_two_read, step_chan_read, step_chan_typed, step_chan_open, step_let_read, step_let_named, step_owes_type, step_chan_type_read, step_ref_type_read, step_has_type, step_between, step_fn_read, step_fn_named, step_params_open, step_param_owed, step_param_named, step_params_closed, relate, step, follow_plain, follow_opener, follow_by, run, run_by, start}
+use Rattle.stab_parse.specs.declared.symbol.Symbol.TheVariants.{Name, Truth, Basic, OpenParen, CloseParen, OpenBrace, CloseBracket, Comma, Semicolon, Colon}
+use Rattle.stab_parse.specs.Grammar.{WrittenType, basic_type, chan_type, ref_type, pair_type, param, ParamList, Params, no_params, some_params, started, Block, block, block_with_last, no_items, next_item, let_item, Expr, one_and, or, And, one_cmp, and, Cmp, one_sum, compare, Sum, one_term, plus, minus, Term, one_unary, times, Unary, other, Other, negate, not, primary, truth, variable, call, call_with, unit, group, pair, in_block, in_if, act, one_arg, next_arg, If, if_then, if_else, if_else_if, new_chan, act_one, act_two, act_alone, function, Program, next_function, Piece, plain, opener, spell_type, spell_param_list, spell_params, spell_block, spell_expr, spell_and, spell_cmp, spell_sum, spell_term, spell_unary, spell_other, spell_if, pieces_of, sign_of_piece}
+use Rattle.stab_parse.proofs.Machine.{Opening, opening, RoundParam, later_param, RoundType, of_param, of_result, in_chan, in_ref, pair_left, pair_right, of_chan, RoundItems, items_in, RoundBlock, body, block_primary, then_block, else_block, RoundIf, if_primary, after_else, RoundExpr, group_in, second_in, first_arg, later_arg, one_in, two_left, two_right, let_value, item_in, condition, RoundAnd, first_and, after_or, RoundCmp, first_cmp, after_and, RoundSum, first_sum, after_compare, RoundTerm, first_term, after_plus, after_minus, RoundUnary, first_unary, after_times, after_not, RoundOther, no_sign, after_negate, open_block, open_if, open_expr, open_and, open_cmp, open_sum, open_term, open_unary, open_other, open_type, State, between, fn_read, fn_named, params_open, param_owed, param_named, params_closed, owes_type, chan_type_read, ref_type_read, has_type, owes, signed, opened, named, call_open, word_read, word_named, alone_read, alone_open, one_read, two_read, chan_read, chan_typed, chan_open, in_items, let_read, let_named, has, then_read, else_read, params_with, opening_of}
 use Rattle.stab_parse.proofs.Soundness.{spell_opening, spell_round_param, spell_round_items, spell_round_block, spell_round_if, spell_round_expr, spell_round_and, spell_round_cmp, spell_round_sum, spell_round_term, spell_round_unary, spell_round_other, spell_round_type, spell_state, word_of, spell_params_there}
 
 -- Behind what was read, tokens can be written to the end of a program.

@@ -7,7 +7,7 @@ use Rattle.stab_parse.specs.declared.symbol.CallWord.{CallWord}
 use Rattle.stab_parse.specs.declared.symbol.Span.{Span}
 use Rattle.stab_parse.specs.declared.symbol.Symbol.{Symbol}
 use Rattle.stab_parse.specs.declared.symbol.Symbol.TheVariants.{Name, Number, Greatest, Text, Truth, WordFn, WordLet, WordIf, WordElse, WordChan, Basic, Call, ActAlone, ActOne, ActTwo, OrOr, AndAnd, Relation, Plus, Minus, Product, Not, OpenParen, CloseParen, OpenBrace, CloseBrace, OpenBracket, CloseBracket, Comma, Semicolon, Colon, Equal}
-use Rattle.stab_parse.specs.Grammar.{WrittenType, basic_type, chan_type, ref_type, pair_type, Param, param, ParamList, one_param, next_param, Params, no_params, some_params, Callee, called, started, Block, block, block_with_last, Items, no_items, next_item, Item, let_item, form_item, Expr, one_and, or, And, one_cmp, and, Cmp, one_sum, compare, Sum, one_term, plus, minus, Term, one_unary, times, Unary, number, other, Other, literal, least, negate, not, primary, Primary, text, truth, variable, call, call_with, unit, group, pair, in_block, in_if, act, Args, one_arg, next_arg, If, if_then, if_else, if_else_if, Act, new_chan, act_one, act_two, act_alone, Function, function, Program, no_functions, next_function, Piece, plain, opener}
+use Rattle.stab_parse.specs.Grammar.{WrittenType, basic_type, chan_type, ref_type, pair_type, Param, param, ParamList, one_param, next_param, Params, no_params, some_params, Callee, called, started, Block, block, block_with_last, Items, no_items, next_item, let_item, form_item, Expr, one_and, or, And, one_cmp, and, Cmp, one_sum, compare, Sum, one_term, plus, minus, Term, one_unary, times, Unary, number, other, Other, literal, least, negate, not, primary, Primary, text, truth, variable, call, call_with, unit, group, pair, in_block, in_if, act, Args, one_arg, next_arg, If, if_then, if_else, if_else_if, new_chan, act_one, act_two, act_alone, function, Program, no_functions, next_function, Piece, plain, opener}
 
 -- ---- what stands round a place
 

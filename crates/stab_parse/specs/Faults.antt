@@ -1,10 +1,10 @@
 -- The faults of a list of tokens, from the grammar alone.
-use Rattle.std.specs.Prelude.{◌≡◌, ℕ, ◌≤◌, suc, List, [], ◌∷◌, ◌++◌, length, take, slice_get, Some, ◌⊎◌}
+use Rattle.std.specs.Prelude.{◌≡◌, ℕ, ◌<◌, ◌≤◌, List, [], ◌∷◌, ◌++◌, length, take, slice_get, Some, ◌⊎◌}
 use Rattle.std.specs.List.{AllByRecursion}
 use Rattle.stab_lex.specs.declared.token.Token.{Token}
 use Rattle.stab_parse.specs.declared.fault.ParseFault.{ParseFault}
 use Rattle.stab_parse.specs.declared.fault.ParseFault.TheVariants.{Unexpected, EarlyEnd, TooNested, NoMemory}
-use Rattle.stab_parse.specs.FormList.{IsLeast, deep_in_program}
+use Rattle.stab_parse.specs.FormList.{least_of, deep_in_program}
 use Rattle.stab_parse.specs.Grammar.{Piece, plain, opener, Program, pieces_of, IsProgram}
 use Rattle.stab_parse.specs.Symbols.{symbol_of, span_of}
 
@@ -27,12 +27,14 @@ pub record CanStand (tokens : List Token) : Type 0 where
   pub written : IsProgram (tokens ++ rest) program
   pub within : AllByRecursion IsWithin (take (length tokens) (pieces_of program))
 
--- The token may stand behind the others, and is the first beyond what may be open.
+-- The token may stand behind the others, and with it more is open than may be.
 pub record IsBeyond (before : List Token) (token : Token) : Type 0 where
   pub rest : List Token
   pub program : Program
   pub written : IsProgram (before ++ token ∷ rest) program
-  pub open_with_it : slice_get (pieces_of program) (length before) ≡ Some (opener (suc max_open) (symbol_of token.kind) (span_of token))
+  pub open_with_it : ℕ
+  pub beyond : max_open < open_with_it
+  pub opens : slice_get (pieces_of program) (length before) ≡ Some (opener open_with_it (symbol_of token.kind) (span_of token))
 
 -- At this place stands a token that can't stand behind those before it.
 pub record IsUnexpected (tokens : List Token) (at : ℕ) : Type 0 where
@@ -68,7 +70,7 @@ pub record IsOpenWithin (tokens : List Token) (p : Program) : Type 0 where
 pub record IsTooDeep (tokens : List Token) (at : ℕ) : Type 0 where
   pub program : Program
   pub is_program : IsOpenWithin tokens program
-  pub least : IsLeast (deep_in_program program) at
+  pub least : least_of (deep_in_program program) ≡ Some at
 
 -- The tokens are the program, and nothing in it is nested too far.
 pub record IsParsed (tokens : List Token) (p : Program) : Type 0 where

@@ -1,6 +1,6 @@
 -- How deep forms stand in each other, and the list of a program's forms.
-use Rattle.std.specs.Prelude.{◌≡◌, ℕ, ◌+◌, ◌≤◌, suc, ◌==◌, max, min, if◌then◌else◌, List, [], ◌∷◌, ◌++◌, length, Contains}
-use Rattle.std.specs.List.{All}
+use Rattle.std.specs.Prelude.{ℕ, ◌+◌, suc, ◌==◌, max, min, if◌then◌else◌, List, [], ◌∷◌, ◌++◌, length, Option, Some, None}
+use Rattle.std.specs.Option.{option_map_or}
 use Rattle.stab_parse.specs.declared.tree.FormNode.{FormNode}
 use Rattle.stab_parse.specs.declared.tree.Function as declared
 use Rattle.stab_parse.specs.declared.tree.Param as declared_param
@@ -32,9 +32,10 @@ abbrev pub deep_in_program : Program → List ℕ
 deep_in_program no_functions = []
 deep_in_program (next_function p f) = deep_in_program p ++ deep_in (body_of f)
 
--- the number is the least of the list
-abbrev pub IsLeast : List ℕ → ℕ → Type 0
-IsLeast ns n = Contains ns n × All (λ m. n ≤ m) ns
+-- the least number of a list
+abbrev pub least_of : List ℕ → Option ℕ
+least_of [] = None
+least_of (n ∷ ns) = Some (option_map_or (min n) (least_of ns) n)
 
 -- how many parts there are
 abbrev pub count_of : Parts → ℕ

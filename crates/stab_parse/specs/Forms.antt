@@ -1,5 +1,5 @@
 -- What is written means: the forms of a program. A form is its first byte, its head and its parts.
-use Rattle.std.specs.Prelude.{ℕ, ◌^◌, suc, ℤ, pos, neg_ℤ, List, [], ◌∷◌, ◌++◌, Option, Some, None}
+use Rattle.std.specs.Prelude.{ℕ, ◌^◌, pos, neg_ℤ, List, [], ◌∷◌, ◌++◌, Option, Some, None}
 use Rattle.stab_code.specs.declared.node.Op.TheVariants as op
 use Rattle.stab_code.specs.Written.{Written}
 use Rattle.stab_code.specs.Written as written
@@ -8,7 +8,7 @@ use Rattle.stab_parse.specs.declared.symbol.BasicType.TheVariants as basic
 use Rattle.stab_parse.specs.declared.symbol.Span.{Span}
 use Rattle.stab_parse.specs.declared.tree.Head.{Head}
 use Rattle.stab_parse.specs.declared.tree.Head.TheVariants as head
-use Rattle.stab_parse.specs.Grammar.{WrittenType, basic_type, chan_type, ref_type, pair_type, Param, param, ParamList, one_param, next_param, Params, no_params, some_params, Callee, called, started, Block, block, block_with_last, Items, no_items, next_item, Item, let_item, form_item, Expr, one_and, or, And, one_cmp, and, Cmp, one_sum, compare, Sum, one_term, plus, minus, Term, one_unary, times, Unary, number, other, Other, literal, least, negate, not, primary, Primary, text, truth, variable, call, call_with, unit, group, pair, in_block, in_if, act, Args, one_arg, next_arg, If, if_then, if_else, if_else_if, Act, new_chan, act_one, act_two, act_alone, Function, function, Program, no_functions, next_function}
+use Rattle.stab_parse.specs.Grammar.{WrittenType, basic_type, chan_type, ref_type, pair_type, Callee, called, started, Block, block, block_with_last, Items, no_items, next_item, Item, let_item, form_item, Expr, one_and, or, And, one_cmp, and, Cmp, one_sum, compare, Sum, one_term, plus, minus, Term, one_unary, times, Unary, number, other, Other, literal, least, negate, not, primary, Primary, text, truth, variable, call, call_with, unit, group, pair, in_block, in_if, act, Args, one_arg, next_arg, If, if_then, if_else, if_else_if, Act, new_chan, act_one, act_two, act_alone, Function, function}
 
 mutual
   pub data Form : Type 0 where

@@ -90,7 +90,6 @@ pub struct Params {
 impl Model for Params {
     ghost use Rattle.std.specs.Prelude.{List};
     ghost use Rattle.stab_parse.specs.declared.tree.Param.{Param};
-
     ghost use Rattle.std.specs.Coded.{codes};
     ghost use Rattle.stab_code.specs.WrittenCode.{coded_written};
 
