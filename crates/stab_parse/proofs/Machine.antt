@@ -1,6 +1,6 @@
 -- The reader of the grammar as a machine: its state is what was read last and what stands round it, and each step takes a token.
 use Rattle.std.specs.Prelude.{ℕ, suc, ◌==◌, List, [], ◌∷◌, Option, Some, None, option_and_then, if◌then◌else◌}
-use Rattle.stab_code.specs.declared.node.Op.{Op}
+use Rattle.stab_code.specs.declared.head.Op.{Op}
 use Rattle.stab_parse.specs.declared.symbol.ActWord.{ActWord}
 use Rattle.stab_parse.specs.declared.symbol.ActWord.TheVariants.{Ref}
 use Rattle.stab_parse.specs.declared.symbol.CallWord.{CallWord}

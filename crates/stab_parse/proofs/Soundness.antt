@@ -1,6 +1,6 @@
 -- What the machine has read, written out: a step keeps it.
 use Rattle.std.proofs.Common.{◌≡◌, suc, List, ◌∷◌, refl, subst, ◌∙◌}
-use Rattle.stab_code.specs.declared.node.Op.{Op}
+use Rattle.stab_code.specs.declared.head.Op.{Op}
 use Rattle.stab_parse.specs.declared.symbol.ActWord.{ActWord}
 use Rattle.stab_parse.specs.declared.symbol.ActWord.TheVariants.{Ref}
 use Rattle.stab_parse.specs.declared.symbol.CallWord.{CallWord}

@@ -1,6 +1,6 @@
 -- What is written means: the forms of a program. A form is its first byte, its head and its parts.
 use Rattle.std.specs.Prelude.{ℕ, ◌^◌, pos, neg_ℤ, List, [], ◌∷◌, ◌++◌, Option, Some, None}
-use Rattle.stab_code.specs.declared.node.Op.TheVariants as op
+use Rattle.stab_code.specs.declared.head.Op.TheVariants as op
 use Rattle.stab_code.specs.Written.{Written}
 use Rattle.stab_code.specs.Written as written
 use Rattle.stab_parse.specs.declared.symbol.BasicType.{BasicType}

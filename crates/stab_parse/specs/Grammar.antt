@@ -1,7 +1,7 @@
 -- The grammar. Each rule is a type, each way of writing it a constructor, with the spans of the tokens that it writes. A `{ .. }` of a rule
 -- is a list that grows at its end, so chains of operators group to the left.
 use Rattle.std.specs.Prelude.{◌≡◌, ℕ, suc, Bool, List, [], ◌∷◌, map}
-use Rattle.stab_code.specs.declared.node.Op.{Op}
+use Rattle.stab_code.specs.declared.head.Op.{Op}
 use Rattle.stab_lex.specs.declared.token.Token.{Token}
 use Rattle.stab_parse.specs.declared.symbol.ActWord.{ActWord}
 use Rattle.stab_parse.specs.declared.symbol.ActWord.TheVariants.{Ref}

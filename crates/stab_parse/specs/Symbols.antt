@@ -1,6 +1,6 @@
 -- What the grammar sees of a token: its symbol, and where it stands.
 use Rattle.std.specs.Prelude.{◌^◌, true, false, nat_lt, if◌then◌else◌}
-use Rattle.stab_code.specs.declared.node.Op.TheVariants.{Eq, Ne, Lt, Le, Gt, Ge, Mul, Div, Rem}
+use Rattle.stab_code.specs.declared.head.Op.TheVariants.{Eq, Ne, Lt, Le, Gt, Ge, Mul, Div, Rem}
 use Rattle.stab_lex.specs.declared.kind.Kind.{Kind}
 use Rattle.stab_lex.specs.declared.kind.Kind.TheVariants as kind
 use Rattle.stab_lex.specs.declared.token.Token.{Token}

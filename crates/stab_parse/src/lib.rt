@@ -1,4 +1,4 @@
-//! The syntax of a program from its tokens.
+//! The grammar of programs as data: what tokens are a program, which fault others have, and what forms are written.
 #![tactic(auto)]
 
 mod fault;
@@ -8,5 +8,5 @@ mod tree;
 
 pub use fault::ParseFault;
 pub use laws::{not_both, one_fault, one_syntax, program_or_fault};
-pub use symbol::{ActWord, BasicType, CallWord, Span, Symbol};
+pub use symbol::{ActWord, BasicType, CallWord, Span, Symbol, kind_symbol, token_span};
 pub use tree::{FormNode, Function, Head, Lets, Param, Params};

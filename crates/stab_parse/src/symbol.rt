@@ -91,7 +91,7 @@ pub enum Symbol {
 const GREATEST: u64 = 9_223_372_036_854_775_808;
 
 /// Where a token is written.
-pub(crate) fn token_span(token: &Token) -> Span
+pub fn token_span(token: &Token) -> Span
     ensures { result ≡ span_of token.now }
 {
     Span {
@@ -101,7 +101,7 @@ pub(crate) fn token_span(token: &Token) -> Span
 }
 
 /// What the grammar sees of a kind of token.
-pub(crate) fn kind_symbol(kind: Kind) -> Symbol
+pub fn kind_symbol(kind: Kind) -> Symbol
     ensures { result ≡ symbol_of kind }
 {
     match kind {
