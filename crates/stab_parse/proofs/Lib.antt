@@ -1,6 +1,11 @@
 pub mod Completeness
 pub mod Endings
+pub mod Keeping
+pub mod Kept
 pub mod Machine
+pub mod OpenFrames
 pub mod Reading
+pub mod Settling
+pub mod Simulation
 pub mod Soundness
 pub mod Verdicts

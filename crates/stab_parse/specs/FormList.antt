@@ -1,5 +1,5 @@
 -- How deep forms stand in each other, and the list of a program's forms.
-use Rattle.std.specs.Prelude.{ℕ, ◌+◌, suc, ◌==◌, max, min, if◌then◌else◌, List, [], ◌∷◌, ◌++◌, length, Option, Some, None}
+use Rattle.std.specs.Prelude.{ℕ, ◌+◌, ◌-◌, ◌^◌, suc, ◌==◌, max, min, if◌then◌else◌, List, [], ◌∷◌, ◌++◌, length, Option, Some, None}
 use Rattle.std.specs.Option.{option_map_or}
 use Rattle.stab_parse.specs.declared.tree.FormNode.{FormNode}
 use Rattle.stab_parse.specs.declared.tree.Function as declared
@@ -37,16 +37,25 @@ abbrev pub least_of : List ℕ → Option ℕ
 least_of [] = None
 least_of (n ∷ ns) = Some (option_map_or (min n) (least_of ns) n)
 
--- how many parts there are
+-- how many parts there are, as far as 64 bits count
 abbrev pub count_of : Parts → ℕ
 count_of no_parts = 0
-count_of (next_part ps f) = count_of ps + 1
+count_of (next_part ps f) = min (count_of ps + 1) (2 ^ 64 - 1)
+
+-- the depth as far as a byte counts
+abbrev mutual
+  pub height_of : Form → ℕ
+  height_of (form at h parts) = min (suc (height_of_parts parts)) 255
+
+  pub height_of_parts : Parts → ℕ
+  height_of_parts no_parts = 0
+  height_of_parts (next_part ps f) = max (height_of_parts ps) (height_of f)
 
 -- a form and those in it, each directly behind its parts
 abbrev mutual
   pub nodes_of : Form → List FormNode
   nodes_of (form at h parts) =
-      nodes_of_parts parts ++ record { head = h; parts = count_of parts; at = at; depth = min (suc (depth_of_parts parts)) 255 } ∷ []
+      nodes_of_parts parts ++ record { head = h; parts = count_of parts; at = at; depth = min (suc (height_of_parts parts)) 255 } ∷ []
 
   pub nodes_of_parts : Parts → List FormNode
   nodes_of_parts no_parts = []

@@ -1,5 +1,7 @@
 pub mod Faults
 pub mod FormList
 pub mod Forms
+pub mod Frames
 pub mod Grammar
+pub mod Moves
 pub mod Symbols

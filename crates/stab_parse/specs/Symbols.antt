@@ -1,5 +1,5 @@
 -- What the grammar sees of a token: its symbol, and where it stands.
-use Rattle.std.specs.Prelude.{◌^◌, true, false, nat_lt, if◌then◌else◌}
+use Rattle.std.specs.Prelude.{◌^◌, ◌<◌, true, false, nat_lt, if◌then◌else◌}
 use Rattle.stab_code.specs.declared.head.Op.TheVariants.{Eq, Ne, Lt, Le, Gt, Ge, Mul, Div, Rem}
 use Rattle.stab_lex.specs.declared.kind.Kind.{Kind}
 use Rattle.stab_lex.specs.declared.kind.Kind.TheVariants as kind
@@ -78,3 +78,8 @@ pub record Sign : Type 0 where
 
 abbrev pub sign_of : Token → Sign
 sign_of token = record { symbol = symbol_of token.kind; span = span_of token }
+
+-- a number that the symbol has fits 64 signed bits
+abbrev pub IsSmall : Symbol → Type 0
+IsSmall (Number value) = value < 2 ^ 63
+IsSmall _ = Unit {0}

@@ -1,13 +1,17 @@
 //! The syntax of a program, as a flat list of forms.
-ghost use Rattle.std.specs.Prelude.{◌≡◌};
+ghost use Rattle.stab_code.specs.Written.{chan_type, ref_type, pair_type};
+ghost use Rattle.stab_code.specs.WrittenType.{written_by};
+ghost use Rattle.std.specs.Prelude.{◌≡◌, IfOk, ◌++◌, ◌∷◌, [], length, reverse, OnOk, IfErr, IsTrue, ◌↔◌};
 
+use crate::fault::ParseFault;
 use crate::symbol::{ActWord, CallWord, Span};
-use stab_code::{Op, Ty};
+use stab_code::{Op, Ty, TyForm};
+use std::alloc::Global;
 use std::marker::Model;
 
 /// The names of a block's items in the order of writing, none for an item without `let`. Contracts see them
 /// as a list.
-#[derive(Debug, Drop)]
+#[derive(Drop)]
 pub struct Lets {
     names: Vec<Option<Span>>,
 }
@@ -22,10 +26,26 @@ impl Model for Lets {
 }
 
 impl Lets {
-    pub(crate) fn new(names: Vec<Option<Span>>) -> Lets
-        ensures { result ≡ names.items }
+    pub(crate) fn new(alloc: Global) -> Lets
+        ensures { result ≡ [] }
     {
-        Lets { names }
+        Lets {
+            names: Vec::new(alloc),
+        }
+    }
+
+    pub(crate) fn push(&mut self, name: Option<Span>) -> Result<(), ParseFault>
+        ensures ok { OnOk result (self.new ≡ self.old ++ name ∷ []) }
+        ensures fault { IfErr result (λ fault. fault ≡ ParseFault.NoMemory) }
+    {
+        self.names.push(name)?;
+        Ok(())
+    }
+
+    pub(crate) fn is_empty(&self) -> bool
+        ensures { IsTrue result ↔ (self.now ≡ []) }
+    {
+        self.names.is_empty()
     }
 
     /// The names in the order of writing.
@@ -36,8 +56,69 @@ impl Lets {
     }
 }
 
+/// A type as it is written. Contracts see it as a `Written`.
+#[derive(Drop)]
+pub struct ParsedType {
+    form: TyForm,
+}
+
+impl Model for ParsedType {
+    ghost use Rattle.stab_code.specs.Written.{Written};
+    ghost use Rattle.stab_code.specs.WrittenCode.{coded_written};
+    ghost use Rattle.stab_code.specs.WrittenType.{written_by};
+
+    ghost Value = { Written };
+
+    ghost coded = { coded_written };
+
+    ghost view = { λ t. written_by t.form };
+}
+
+impl ParsedType {
+    pub(crate) fn new(form: TyForm) -> ParsedType
+        ensures { result ≡ written_by form }
+    {
+        ParsedType { form }
+    }
+
+    pub(crate) fn chan(self, alloc: Global) -> Result<ParsedType, ParseFault>
+        ensures ok { IfOk result (λ outer. outer ≡ chan_type self) }
+        ensures fault { IfErr result (λ fault. fault ≡ ParseFault.NoMemory) }
+    {
+        let ParsedType { form } = self;
+        Ok(ParsedType::new(TyForm::Chan(Box::new(alloc, form)?)))
+    }
+
+    pub(crate) fn reference(self, alloc: Global) -> Result<ParsedType, ParseFault>
+        ensures ok { IfOk result (λ outer. outer ≡ ref_type self) }
+        ensures fault { IfErr result (λ fault. fault ≡ ParseFault.NoMemory) }
+    {
+        let ParsedType { form } = self;
+        Ok(ParsedType::new(TyForm::Ref(Box::new(alloc, form)?)))
+    }
+
+    pub(crate) fn pair(self, alloc: Global, second: ParsedType) -> Result<ParsedType, ParseFault>
+        ensures ok { IfOk result (λ outer. outer ≡ pair_type self second) }
+        ensures fault { IfErr result (λ fault. fault ≡ ParseFault.NoMemory) }
+    {
+        let ParsedType { form: left } = self;
+        let ParsedType { form: right } = second;
+        let left = Box::new(alloc, left)?;
+        let right = Box::new(alloc, right)?;
+        Ok(ParsedType::new(TyForm::Pair(left, right)))
+    }
+
+    /// The type of a program's node or function.
+    pub fn into_ty(self) -> Ty
+        ensures { result ≡ self }
+    {
+        let ParsedType { form } = self;
+        Ty::new(form)
+    }
+}
+
 /// What a form is, without its parts. A name is given by where it is written.
-#[derive(Debug, Drop)]
+#[derive(Drop)]
 pub enum Head {
     /// Written `()` or `{}`, or not written at all: a missing `else`, and the end of a block behind its last item.
     Unit,
@@ -58,12 +139,12 @@ pub enum Head {
     Call(Span),
     /// A function that is started by the word, by its name.
     Start(CallWord, Span),
-    NewChan(Ty),
+    NewChan(ParsedType),
     Act(ActWord),
 }
 
 /// A form in the list of a tree, in which its parts are the last complete forms before it.
-#[derive(Debug, Drop)]
+#[derive(Drop)]
 pub struct FormNode {
     pub head: Head,
     /// How many parts it has.
@@ -75,14 +156,14 @@ pub struct FormNode {
 }
 
 /// A parameter as it is written.
-#[derive(Debug, Drop)]
+#[derive(Drop)]
 pub struct Param {
     pub name: Span,
-    pub ty: Ty,
+    pub ty: ParsedType,
 }
 
 /// The parameters of a function in the order of writing. Contracts see them as a list.
-#[derive(Debug, Drop)]
+#[derive(Drop)]
 pub struct Params {
     params: Vec<Param>,
 }
@@ -101,10 +182,20 @@ impl Model for Params {
 }
 
 impl Params {
-    pub(crate) fn new(params: Vec<Param>) -> Params
-        ensures { result ≡ params.items }
+    pub(crate) fn new(alloc: Global) -> Params
+        ensures { result ≡ [] }
     {
-        Params { params }
+        Params {
+            params: Vec::new(alloc),
+        }
+    }
+
+    pub(crate) fn push(&mut self, param: Param) -> Result<(), ParseFault>
+        ensures ok { OnOk result (self.new ≡ self.old ++ param ∷ []) }
+        ensures fault { IfErr result (λ fault. fault ≡ ParseFault.NoMemory) }
+    {
+        self.params.push(param)?;
+        Ok(())
     }
 
     /// The parameters in the order of writing.
@@ -117,11 +208,105 @@ impl Params {
 
 /// A function as it is written. The forms of its body stand in the tree's list from where those of the function
 /// before it end, the body itself last.
-#[derive(Debug, Drop)]
+#[derive(Drop)]
 pub struct Function {
     pub name: Span,
     pub params: Params,
-    pub gives: Ty,
+    pub gives: ParsedType,
     /// How many forms of the tree stand up to the end of this function.
     pub forms_end: usize,
+}
+
+/// The forms of a program in order. Contracts see the last one first.
+#[derive(Drop)]
+pub struct Forms {
+    forms: Vec<FormNode>,
+}
+
+impl Model for Forms {
+    ghost use Rattle.std.specs.Prelude.{List, reverse};
+    ghost use Rattle.std.specs.Coded.{codes};
+    ghost use Rattle.stab_code.specs.WrittenCode.{coded_written};
+    ghost use Rattle.stab_parse.specs.declared.tree.FormNode.{FormNode};
+
+    ghost Value = { List FormNode };
+
+    ghost coded = { Prim.hlevel (codes, coded_written) };
+
+    ghost view = { λ forms. reverse forms.forms.items };
+}
+
+impl Forms {
+    pub(crate) fn new(alloc: Global) -> Forms
+        ensures { result ≡ [] }
+    {
+        Forms {
+            forms: Vec::new(alloc),
+        }
+    }
+
+    pub(crate) fn push(&mut self, form: FormNode) -> Result<(), ParseFault>
+        ensures ok { OnOk result (self.new ≡ form ∷ self.old) }
+        ensures fault { IfErr result (λ fault. fault ≡ ParseFault.NoMemory) }
+    {
+        self.forms.push(form)?;
+        Ok(())
+    }
+
+    pub(crate) fn len(&self) -> usize
+        ensures { result ≡ length self.now }
+    {
+        self.forms.len()
+    }
+
+    /// The forms in order.
+    pub fn all(&self) -> &[FormNode]
+        ensures { result.now ≡ reverse self.now }
+    {
+        self.forms.as_slice()
+    }
+}
+
+/// The functions of a program in order. Contracts see them as a list.
+#[derive(Drop)]
+pub struct Functions {
+    functions: Vec<Function>,
+}
+
+impl Model for Functions {
+    ghost use Rattle.std.specs.Prelude.{List};
+    ghost use Rattle.std.specs.Coded.{codes};
+    ghost use Rattle.stab_code.specs.WrittenCode.{coded_written};
+    ghost use Rattle.stab_parse.specs.declared.tree.Function.{Function};
+
+    ghost Value = { List Function };
+
+    ghost coded = { Prim.hlevel (codes, coded_written) };
+
+    ghost view = { λ functions. functions.functions.items };
+}
+
+impl Functions {
+    pub(crate) fn new(alloc: Global) -> Functions
+        ensures { result ≡ [] }
+    {
+        Functions {
+            functions: Vec::new(alloc),
+        }
+    }
+
+    pub(crate) fn push(&mut self, function: Function) -> Result<(), ParseFault>
+        ensures ok { OnOk result (self.new ≡ self.old ++ function ∷ []) }
+        ensures fault { IfErr result (λ fault. fault ≡ ParseFault.NoMemory) }
+    {
+        self.functions.push(function)?;
+        Ok(())
+    }
+
+    /// The functions in order.
+    pub fn all(&self) -> &[Function]
+        ensures { result.now ≡ self.now }
+    {
+        self.functions.as_slice()
+    }
 }

@@ -1,0 +1,215 @@
+//! What a parser keeps beside the phase that it is in, and how forms that were read go into it.
+ghost use Rattle.std.specs.Prelude.{◌≡◌, IfOk, IfErr};
+ghost use Rattle.stab_parse.specs.Frames.{top_of};
+ghost use Rattle.stab_parse.specs.Moves.{alone, both, complete, deeper, else_frame, else_top, formed, if_step, join_frame, join_top, joined, more, popped, seen_at, settle, settle_frame, settle_if, settle_step, settle_top, settled};
+
+use crate::fault::ParseFault;
+use crate::frame::{Frame, Level, Phase, Seen, Stack};
+use crate::tree::{FormNode, Forms, Functions, Head};
+use stab_code::Op;
+
+/// Whether a token may stand where it stands.
+#[derive(Drop)]
+pub enum Step {
+    Refused,
+    Goes(Phase),
+    /// The token opens something.
+    Opens(Phase),
+}
+
+/// What stands round the place, and the forms and functions that were read.
+#[derive(Drop)]
+pub struct Reader {
+    pub frames: Stack,
+    pub forms: Forms,
+    pub functions: Functions,
+}
+
+/// One more than the depth of the parts.
+pub(crate) fn above(depth: u8) -> u8
+    ensures { result ≡ deeper depth }
+{
+    depth.saturating_add(1)
+}
+
+/// The depth of two parts.
+pub(crate) fn deepest(a: u8, b: u8) -> u8
+    ensures { result ≡ both a b }
+{
+    a.max(b)
+}
+
+/// The depth of one part.
+pub(crate) fn only(a: u8) -> u8
+    ensures { result ≡ alone a }
+{
+    a
+}
+
+/// One part more.
+pub(crate) fn one_more(parts: usize) -> usize
+    ensures { result ≡ more parts }
+{
+    parts.saturating_add(1)
+}
+
+impl Reader {
+    /// A form is complete: how many parts it has, its first byte, and the depth of its parts.
+    pub(crate) fn form(
+        &mut self,
+        head: Head,
+        parts: usize,
+        at: u32,
+        depth: u8,
+    ) -> Result<Seen, ParseFault>
+        ensures ok { IfOk result (λ seen. settled seen self.new
+            ≡ settled (seen_at at (deeper depth)) (formed head parts at depth self.old)) }
+        ensures fault { IfErr result (λ fault. fault ≡ ParseFault.NoMemory) }
+    {
+        let depth = above(depth);
+        self.forms.push(FormNode {
+            head,
+            parts,
+            at,
+            depth,
+        })?;
+        Ok(Seen { first: at, depth })
+    }
+
+    /// An operator has both sides.
+    pub(crate) fn two(&mut self, op: Op, left: Seen, right: Seen) -> Result<Seen, ParseFault>
+        ensures ok { IfOk result (λ seen. settled seen self.new ≡ joined op left right self.old) }
+        ensures fault { IfErr result (λ fault. fault ≡ ParseFault.NoMemory) }
+    {
+        self.form(
+            Head::Two(op),
+            2,
+            left.first,
+            deepest(left.depth, right.depth),
+        )
+    }
+
+    fn settle_frame(&mut self, top: Frame, seen: Seen) -> Result<Option<Seen>, ParseFault>
+        ensures ok { IfOk result (λ next. settle_step next self.new ≡ settle_frame top seen self.old) }
+        ensures fault { IfErr result (λ fault. fault ≡ ParseFault.NoMemory) }
+    {
+        match top {
+            Frame::Not(at) => Ok(Some(self.form(Head::Not, 1, at, only(seen.depth))?)),
+            Frame::Negate(at) => Ok(Some(self.form(Head::Neg, 1, at, only(seen.depth))?)),
+            Frame::Operator(Level::Product, op, left) => Ok(Some(self.two(op, left, seen)?)),
+            other => {
+                self.frames.push(other)?;
+                Ok(None)
+            }
+        }
+    }
+
+    fn settle_top(&mut self, seen: Seen) -> Result<Option<Seen>, ParseFault>
+        ensures ok { IfOk result (λ next. settle_step next self.new
+            ≡ settle_top (top_of self.old.frames) seen (popped self.old)) }
+        ensures fault { IfErr result (λ fault. fault ≡ ParseFault.NoMemory) }
+    {
+        match self.frames.pop() {
+            Some(top) => self.settle_frame(top, seen),
+            None => Ok(None),
+        }
+    }
+
+    /// An operand is complete: it joins the prefix operators and the product before it.
+    pub(crate) fn settle(&mut self, seen: Seen) -> Result<Seen, ParseFault>
+        ensures ok { IfOk result (λ whole. settled whole self.new ≡ settle seen self.old) }
+        ensures fault { IfErr result (λ fault. fault ≡ ParseFault.NoMemory) }
+    {
+        let mut operand = seen;
+        while let Some(next) = self.settle_top(operand)? {
+            operand = next;
+        }
+        Ok(operand)
+    }
+
+    /// A form that isn't an operation is complete.
+    pub(crate) fn complete(
+        &mut self,
+        head: Head,
+        parts: usize,
+        at: u32,
+        depth: u8,
+    ) -> Result<Seen, ParseFault>
+        ensures ok { IfOk result (λ seen. settled seen self.new ≡ complete head parts at depth self.old) }
+        ensures fault { IfErr result (λ fault. fault ≡ ParseFault.NoMemory) }
+    {
+        let seen = self.form(head, parts, at, depth)?;
+        self.settle(seen)
+    }
+
+    fn join_frame(&mut self, level: Level, top: Frame, seen: Seen) -> Result<Seen, ParseFault>
+        ensures ok { IfOk result (λ whole. settled whole self.new ≡ join_frame level top seen self.old) }
+        ensures fault { IfErr result (λ fault. fault ≡ ParseFault.NoMemory) }
+    {
+        match (level, top) {
+            (Level::Sum, Frame::Operator(Level::Sum, op, left)) => self.two(op, left, seen),
+            (Level::Relation, Frame::Operator(Level::Relation, op, left)) => {
+                self.two(op, left, seen)
+            }
+            (Level::And, Frame::Operator(Level::And, op, left)) => self.two(op, left, seen),
+            (Level::Or, Frame::Operator(Level::Or, op, left)) => self.two(op, left, seen),
+            (_, other) => {
+                self.frames.push(other)?;
+                Ok(seen)
+            }
+        }
+    }
+
+    /// A form joins the operator of this level that stands next.
+    pub(crate) fn join(&mut self, level: Level, seen: Seen) -> Result<Seen, ParseFault>
+        ensures ok { IfOk result (λ whole. settled whole self.new
+            ≡ join_top level (top_of self.old.frames) seen (popped self.old)) }
+        ensures fault { IfErr result (λ fault. fault ≡ ParseFault.NoMemory) }
+    {
+        match self.frames.pop() {
+            Some(top) => self.join_frame(level, top, seen),
+            None => Ok(seen),
+        }
+    }
+
+    fn else_frame(&mut self, top: Frame, at: u32, depth: u8) -> Result<Option<Seen>, ParseFault>
+        ensures ok { IfOk result (λ next. if_step next self.new ≡ else_frame top at depth self.old) }
+        ensures fault { IfErr result (λ fault. fault ≡ ParseFault.NoMemory) }
+    {
+        if let Frame::ElseIf(first, before) = top {
+            let seen = self.form(Head::If, 3, at, depth)?;
+            return Ok(Some(Seen {
+                first,
+                depth: before.max(seen.depth),
+            }));
+        }
+        self.frames.push(top)?;
+        Ok(None)
+    }
+
+    fn else_top(&mut self, at: u32, depth: u8) -> Result<Option<Seen>, ParseFault>
+        ensures ok { IfOk result (λ next. if_step next self.new
+            ≡ else_top (top_of self.old.frames) at depth (popped self.old)) }
+        ensures fault { IfErr result (λ fault. fault ≡ ParseFault.NoMemory) }
+    {
+        match self.frames.pop() {
+            Some(top) => self.else_frame(top, at, depth),
+            None => Ok(None),
+        }
+    }
+
+    /// An `if` is complete, and with it each one that it stands in behind an `else`: its place, and the depth of
+    /// its parts.
+    pub(crate) fn settle_if(&mut self, at: u32, depth: u8) -> Result<Seen, ParseFault>
+        ensures ok { IfOk result (λ seen. settled seen self.new ≡ settle_if at depth self.old) }
+        ensures fault { IfErr result (λ fault. fault ≡ ParseFault.NoMemory) }
+    {
+        let mut place = at;
+        let mut parts = depth;
+        while let Some(outer) = self.else_top(place, parts)? {
+            place = outer.first;
+            parts = outer.depth;
+        }
+        self.complete(Head::If, 3, place, parts)
+    }
+}
