@@ -12,10 +12,11 @@ use Rattle.plain_language.specs.Plain.{PlainState, effect_of, language_of, start
 use Rattle.plain_language.specs.Outcome.{called}
 use Rattle.plain_language.specs.Program.{body}
 use Rattle.journal_laws.specs.Known.{Known, known_in, sections_alone, IsExprIn, IsKnown}
-use Rattle.journal_laws.specs.Surviving.{Survives}
+use Rattle.journal_laws.specs.Surviving.{SurvivesFrom, Survives}
 use Rattle.journal_laws.proofs.Without.{IsClosedTable}
 use Rattle.journal_laws.specs.Entered.{is_entered_by}
 use Rattle.stab_journal.specs.Dependence.{IsUpward}
+use Rattle.stab_journal.specs.Journal.{RiseFrom}
 use Rattle.journal_laws.proofs.Applying.{get_inserted}
 use Rattle.journal_laws.proofs.Closed.{closed_table}
 use Rattle.journal_laws.proofs.Occurring.{body_in, put_in, got_in, kept}
@@ -63,11 +64,14 @@ steps_append effect (n ∷ ns) bs o = steps_append effect ns bs (next effect o n
 pub run_entered : (p : ProgramParts) (s : PlainState) (run : List Numbered) → IsRun p run s → (t : ℕ) (e : Expr) → map.get s.threads t ≡ Some e → IsExprIn (sections_alone (is_entered_by t run)) e
 run_entered p s run r = marks_entered (language_of p) IsExprIn (kept p) run (start p) s (λ t e at. first_in p (sections_alone (λ m. false)) t e at) r.ends
 
--- the law of surviving runs
+-- the law of surviving runs, from any state in which what occurs is
+pub survivor_from : (p : ProgramParts) (gone : ℕ → Bool) (s : PlainState) (run : List Numbered) (end : PlainState) → IsKnown IsExprIn s → RiseFrom 1 run → IsUpward (λ (n : Numbered). gone n.seq.0 ≡ true) run → after_steps (effect_of p) (Some s) run ≡ Some end → SurvivesFrom p gone s run end
+survivor_from p gone s run end known rise up is =
+    let law = survive gone (effect_of p) (IsKnown IsExprIn) (closed p) s end run known is (closed_run gone run up) in
+    record { at = law.0; rises = rise_rest gone 1 run rise; known = law.1; lawful = law.2 }
+
 pub survivor : (p : ProgramParts) (gone : ℕ → Bool) (run : List Numbered) (s : PlainState) → IsUpward (λ (n : Numbered). gone n.seq.0 ≡ true) run → IsRun p run s → Survives p gone run s
-survivor p gone run s up r =
-    let law = survive gone (effect_of p) (IsKnown IsExprIn) (closed p) (start p) s run (start_known p) r.ends (closed_run gone run up) in
-    record { at = law.0; known = law.1; is_run = record { rises = rise_rest gone 1 run r.rises; ends = law.2.run }; lawful = law.2 }
+survivor p gone run s up r = survivor_from p gone (start p) run s (start_known p) r.rises up r.ends
 
 -- the pass of the law over a run
 pub run_beside : (p : ProgramParts) (gone : ℕ → Bool) (run : List Numbered) (s : PlainState) → IsUpward (λ (n : Numbered). gone n.seq.0 ≡ true) run → IsRun p run s → Beside (effect_of p) gone nothing_lost (start p) (start p) run

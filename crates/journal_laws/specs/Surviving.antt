@@ -5,11 +5,12 @@ use Rattle.std.specs.FinSet as set
 use Rattle.stab_base.specs.Datum.{Datum}
 use Rattle.stab_base.specs.declared.numbers.Seq.{Seq}
 use Rattle.stab_journal.specs.declared.event.Numbered.{Numbered}
+use Rattle.stab_journal.specs.Journal.{RiseFrom}
 use Rattle.stab_journal.specs.Label.{touched, written}
 use Rattle.stab_journal.specs.Names.{has, is_at}
 use Rattle.stab_journal.specs.Reached.{rest}
 use Rattle.stab_code.specs.Program.{ProgramParts}
-use Rattle.plain_language.specs.Plain.{PlainState, IsRun, effect_of, start}
+use Rattle.plain_language.specs.Plain.{PlainState, effect_of, start}
 use Rattle.plain_language.specs.Steps.{State, Effect, Table, effect_in, next, after_steps}
 use Rattle.journal_laws.specs.Known.{IsExprIn, IsKnown}
 use Rattle.journal_laws.specs.Lost.{is_hit, is_unmade, is_written, is_stale}
@@ -61,9 +62,13 @@ module _ {E : Type 0} (effect : Table E) where
     -- the output is that of the steps that stay
     pub output : at.output ≡ start.output ++ prints effect gone (Some start) steps
 
--- the steps of a run of the program that stay are a run, and where it ends
-pub record Survives (p : ProgramParts) (gone : ℕ → Bool) (run : List Numbered) (end : PlainState) : Type 0 where
+-- the steps that stay of a run from a state, whose numbers rise, are a run from it, and where it ends
+pub record SurvivesFrom (p : ProgramParts) (gone : ℕ → Bool) (start : PlainState) (run : List Numbered) (end : PlainState) : Type 0 where
   pub at : PlainState
-  pub is_run : IsRun p (rest gone run) at
+  pub rises : RiseFrom 1 (rest gone run)
   pub known : IsKnown IsExprIn at
-  pub lawful : IsLawful (effect_of p) gone (start p) run end at
+  pub lawful : IsLawful (effect_of p) gone start run end at
+
+-- the same from the start state of the program
+abbrev pub Survives : ProgramParts → (ℕ → Bool) → List Numbered → PlainState → Type 0
+Survives p gone run end = SurvivesFrom p gone (start p) run end

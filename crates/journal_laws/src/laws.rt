@@ -1,7 +1,7 @@
 //! Laws on runs: lists of numbered steps that the plain language can make. Each call does nothing, takes no memory
 //! and answers nothing; what it says is its contract.
 
-ghost use Rattle.std.specs.Prelude.{◌≡◌, ◌⊎◌, ◌↔◌, ◌≤◌, ◌<◌, ◌++◌, ◌∷◌, ℕ, true, false, List, IfSome};
+ghost use Rattle.std.specs.Prelude.{◌≡◌, ◌⊎◌, ◌↔◌, ◌≤◌, ◌<◌, ◌++◌, ◌∷◌, ℕ, true, false, List, Some, IfSome};
 ghost use Rattle.std.specs.FinMap as map;
 ghost use Rattle.stab_journal.specs.declared.event.Event.{Event};
 ghost use Rattle.stab_journal.specs.declared.event.Numbered.{Numbered};
@@ -12,14 +12,16 @@ ghost use Rattle.stab_journal.specs.Label.{actors, spawned};
 ghost use Rattle.stab_journal.specs.Names.{has, is_at};
 ghost use Rattle.stab_journal.specs.Reached.{reached};
 ghost use Rattle.stab_journal.specs.Surviving.{run_of};
-ghost use Rattle.plain_language.specs.Plain.{IsRun, PlainState};
+ghost use Rattle.plain_language.specs.Plain.{IsRun, PlainState as State, effect_of};
+ghost use Rattle.plain_language.specs.Steps.{after_steps};
 ghost use Rattle.plain_language.specs.Standing.{StandsFor};
 ghost use Rattle.journal_laws.specs.Entered.{is_entered_by};
 ghost use Rattle.journal_laws.specs.Known.{sections_alone, IsExprIn, IsKnown};
 ghost use Rattle.journal_laws.specs.Lines.{is_node, is_meeting, is_touched, Marked, IsFromLine};
 ghost use Rattle.journal_laws.specs.Lost.{is_hit};
-ghost use Rattle.journal_laws.specs.Surviving.{is_among, Survives};
+ghost use Rattle.journal_laws.specs.Surviving.{is_among, SurvivesFrom, Survives};
 
+use plain_language::PlainState;
 use stab_base::Seq;
 use stab_code::Program;
 use stab_journal::Numbered;
@@ -44,19 +46,29 @@ pub fn upward_closed(run: &[Numbered], m: Seq)
 
 /// Each channel and each reference that occurs in the state in which a run ends, its output too, is in it.
 pub fn closed_ids(program: &Program, run: &[Numbered])
-    ensures { (s : PlainState) → IsRun program.now run.now s → IsKnown IsExprIn s }
+    ensures { (s : State) → IsRun program.now run.now s → IsKnown IsExprIn s }
 {}
 
 /// Each section in a thread's expression, in the state in which a run ends, was entered in that run by that thread.
 pub fn marks_entered(program: &Program, run: &[Numbered])
-    ensures { (s : PlainState) → IsRun program.now run.now s → (t : ℕ) → IfSome (map.get s.threads t) (λ e. IsExprIn (sections_alone (is_entered_by t run.now)) e) }
+    ensures { (s : State) → IsRun program.now run.now s → (t : ℕ) → IfSome (map.get s.threads t) (λ e. IsExprIn (sections_alone (is_entered_by t run.now)) e) }
+{}
+
+/// The law of surviving runs, from any state in which the channels and references that occur, in its output too, are there:
+/// where the steps that go are closed under direct dependence, the others are a run from it.
+pub fn survive_from(state: &PlainState, run: &[Numbered], gone: &[Seq])
+    requires known { IsKnown IsExprIn state.now.state }
+    requires rise { RiseFrom 1 run.now }
+    requires closed { IsUpward (λ (n : Numbered). is_among gone.now n.seq.0 ≡ true) run.now }
+    ensures { (end : State) → after_steps (effect_of state.now.program) (Some state.now.state) run.now ≡ Some end
+        → SurvivesFrom state.now.program (is_among gone.now) state.now.state run.now end }
 {}
 
 /// The law of surviving runs: where the steps that go are closed under direct dependence, the others are a run. Where it
 /// ends is said of each thread, reference and channel, and of the output.
 pub fn survive(program: &Program, run: &[Numbered], gone: &[Seq])
     requires { IsUpward (λ (n : Numbered). is_among gone.now n.seq.0 ≡ true) run.now }
-    ensures { (s : PlainState) → IsRun program.now run.now s → Survives program.now (is_among gone.now) run.now s }
+    ensures { (s : State) → IsRun program.now run.now s → Survives program.now (is_among gone.now) run.now s }
 {}
 
 /// What is reached from an Enter, by the graph of those steps that can pass a dependence on to another thread: a step
@@ -72,8 +84,8 @@ pub fn lines_are_reached(run: &[Numbered], m: Seq)
 /// thread whose spawn goes loses all its steps. The first step that any other thread loses, in which it acts, is the Enter, a Comm or a Get.
 pub fn first_lost(program: &Program, run: &[Numbered], m: Seq)
     requires { is_entered m.0 run.now ≡ true }
-    ensures unspawned { (s : PlainState) → IsRun program.now run.now s → (before : List Numbered) (n : Numbered) (after : List Numbered) (u : ℕ) → run.now ≡ before ++ n ∷ after → is_at (spawned n.label) u ≡ true → is_touched u before ≡ false }
-    ensures all { (s : PlainState) → IsRun program.now run.now s → (before : List Numbered) (n : Numbered) (after : List Numbered) (u : ℕ) → run.now ≡ before ++ n ∷ after → is_at (spawned n.label) u ≡ true → has (reached run.now m.0) n.seq.0 ≡ true
+    ensures unspawned { (s : State) → IsRun program.now run.now s → (before : List Numbered) (n : Numbered) (after : List Numbered) (u : ℕ) → run.now ≡ before ++ n ∷ after → is_at (spawned n.label) u ≡ true → is_touched u before ≡ false }
+    ensures all { (s : State) → IsRun program.now run.now s → (before : List Numbered) (n : Numbered) (after : List Numbered) (u : ℕ) → run.now ≡ before ++ n ∷ after → is_at (spawned n.label) u ≡ true → has (reached run.now m.0) n.seq.0 ≡ true
         → (front : List Numbered) (f : Numbered) (back : List Numbered) → run.now ≡ front ++ f ∷ back → has (actors f.label) u ≡ true → has (reached run.now m.0) f.seq.0 ≡ true }
     ensures first { RiseFrom 1 run.now → (before : List Numbered) (f : Numbered) (after : List Numbered) (t : ℕ) → run.now ≡ before ++ f ∷ after → has (reached run.now m.0) f.seq.0 ≡ true → has (actors f.label) t ≡ true
         → is_hit (has (reached run.now m.0)) t before ≡ false → (m.0 ≡ f.seq.0) ⊎ (is_meeting f.label ≡ true) }
@@ -95,5 +107,5 @@ pub fn pins_hold(run: &[Numbered], m: Seq)
 /// Where a history stands for a run and a state, the run is what its undos left of its steps, and ends in the state. So
 /// the laws hold again of what is left after each undo.
 pub fn undone_twice(program: &Program)
-    ensures { (events : List Event) (run : List Numbered) (s : PlainState) → StandsFor program.now events run s → (run ≡ run_of events) × IsRun program.now run s }
+    ensures { (events : List Event) (run : List Numbered) (s : State) → StandsFor program.now events run s → (run ≡ run_of events) × IsRun program.now run s }
 {}
