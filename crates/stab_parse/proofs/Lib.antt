@@ -1,5 +1,8 @@
 pub mod Completeness
+pub mod Defaults
 pub mod Endings
+pub mod Ended
+pub mod FormsKept
 pub mod Keeping
 pub mod Kept
 pub mod Machine

@@ -1,8 +1,9 @@
 -- How deep forms stand in each other, and the list of a program's forms.
-use Rattle.std.specs.Prelude.{ℕ, ◌+◌, ◌-◌, ◌^◌, suc, ◌==◌, max, min, if◌then◌else◌, List, [], ◌∷◌, ◌++◌, length, Option, Some, None}
+use Rattle.std.specs.Prelude.{◌≡◌, ℕ, ◌+◌, ◌-◌, ◌^◌, suc, ◌==◌, max, min, if◌then◌else◌, List, [], ◌∷◌, ◌++◌, length, reverse, Option, Some, None}
 use Rattle.std.specs.Option.{option_map_or}
 use Rattle.stab_parse.specs.declared.tree.FormNode.{FormNode}
 use Rattle.stab_parse.specs.declared.tree.Function as declared
+use Rattle.stab_parse.specs.declared.tree.Tree.{Tree}
 use Rattle.stab_parse.specs.declared.tree.Param as declared_param
 use Rattle.stab_parse.specs.Forms.{Form, form, Parts, no_parts, next_part, type_of, body_of}
 use Rattle.stab_parse.specs.Grammar.{Param, param, ParamList, one_param, next_param, Params, no_params, some_params, Function, function, Program, no_functions, next_function}
@@ -83,3 +84,17 @@ function_of end (function f x o ps e q t b) = record { name = x; params = params
 abbrev pub functions_of : Program → List declared.Function
 functions_of no_functions = []
 functions_of (next_function p f) = functions_of p ++ function_of (length (nodes_of_program (next_function p f))) f ∷ []
+
+-- the first bytes of the forms in a list that are just too deep
+abbrev pub deep_among : List FormNode → List ℕ
+deep_among [] = []
+deep_among (n ∷ ns) = if n.depth == max_depth + 1 then n.at ∷ deep_among ns else deep_among ns
+
+-- the functions and forms of a program, the last form first
+abbrev pub IsTreeOf : Tree → Program → Type 0
+IsTreeOf tree p = (tree.functions ≡ functions_of p) × (reverse tree.forms ≡ nodes_of_program p)
+
+-- the lesser of a number that may be missing and another
+abbrev pub least_with : Option ℕ → ℕ → Option ℕ
+least_with None n = Some n
+least_with (Some m) n = Some (min n m)

@@ -1,14 +1,20 @@
-//! The grammar of programs as data: what tokens are a program, which fault others have, and what forms are written.
+//! The syntax of a program from its tokens.
 #![tactic(auto)]
 
+mod begin;
+mod behind;
 mod fault;
 mod frame;
+mod header;
 mod laws;
+mod parser;
 mod reader;
+mod step;
 mod symbol;
 mod tree;
 
 pub use fault::ParseFault;
 pub use laws::{not_both, one_fault, one_syntax, program_or_fault};
-pub use symbol::{ActWord, BasicType, CallWord, Span, Symbol, kind_symbol, token_span};
-pub use tree::{FormNode, Forms, Function, Functions, Head, Lets, Param, Params, ParsedType};
+pub use parser::parse;
+pub use symbol::{ActWord, BasicType, CallWord, Span, Symbol};
+pub use tree::{FormNode, Forms, Function, Functions, Head, Lets, Param, Params, ParsedType, Tree};

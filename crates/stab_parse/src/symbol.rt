@@ -1,6 +1,6 @@
 //! What the grammar sees of a token.
 ghost use Rattle.std.specs.Prelude.{◌≡◌};
-ghost use Rattle.stab_parse.specs.Symbols.{symbol_of, span_of};
+ghost use Rattle.stab_parse.specs.Symbols.{IsSmall, symbol_of, span_of};
 
 use stab_code::Op;
 use stab_lex::{Kind, Token};
@@ -91,7 +91,7 @@ pub enum Symbol {
 const GREATEST: u64 = 9_223_372_036_854_775_808;
 
 /// Where a token is written.
-pub fn token_span(token: &Token) -> Span
+pub(crate) fn token_span(token: &Token) -> Span
     ensures { result ≡ span_of token.now }
 {
     Span {
@@ -101,8 +101,9 @@ pub fn token_span(token: &Token) -> Span
 }
 
 /// What the grammar sees of a kind of token.
-pub fn kind_symbol(kind: Kind) -> Symbol
-    ensures { result ≡ symbol_of kind }
+pub(crate) fn kind_symbol(kind: Kind) -> Symbol
+    ensures symbol { result ≡ symbol_of kind }
+    ensures small { IsSmall result }
 {
     match kind {
         Kind::Name => Symbol::Name,
@@ -163,7 +164,8 @@ pub fn kind_symbol(kind: Kind) -> Symbol
 }
 
 fn number(value: u64) -> Symbol
-    ensures { result ≡ symbol_of (Kind.Number value) }
+    ensures symbol { result ≡ symbol_of (Kind.Number value) }
+    ensures small { IsSmall result }
 {
     if value < GREATEST {
         Symbol::Number(value)

@@ -310,3 +310,10 @@ impl Functions {
         self.functions.as_slice()
     }
 }
+
+/// The syntax of a program.
+#[derive(Drop)]
+pub struct Tree {
+    pub functions: Functions,
+    pub forms: Forms,
+}

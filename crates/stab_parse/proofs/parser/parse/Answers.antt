@@ -1,0 +1,39 @@
+use Rattle.std.proofs.Common.{ap, sym, ◌∙◌, inr}
+use Rattle.std.proofs.lemmas.Result.{err_from_is_err_and}
+use Rattle.stab_parse.specs.FormList.{deep_among, least_of}
+use Rattle.stab_parse.proofs.Ended.{reaches_new, reaches_more, fault_or_memory, reaches_end, end_early, end_parsed, end_deep}
+use Rattle.stab_parse.proofs.parser.parse.Goals as goal
+
+pub loop-token-init : goal.loop-token-init
+loop-token-init c =
+    reaches_new (record { frames = c.new.result; forms = c.new-2.result; functions = c.new-3.result }) c.new.ensures c.new-2.ensures c.new-3.ensures
+
+pub loop-token-preserved : goal.loop-token-preserved
+loop-token-preserved c =
+    reaches_more c.args.tokens.now c.loop-token.token-index _ c.loop-token.phase c.in_ok-phase.phase c.loop-token.reader c.advance.new.self
+    c.loop-token-test.true c.loop-token.invariant c.in_ok-phase.ensures.ok
+
+pub returns-in_err-phase-clause-fault : goal.returns-in_err-phase-clause-fault
+returns-in_err-phase-clause-fault c =
+    let p = err_from_is_err_and c.from_residual.result c.from_residual.ensures.1 in
+    rw (p.1, p.2) (fault_or_memory c.args.tokens.now c.loop-token.token-index _ c.loop-token.phase c.loop-token.reader c.in_err-phase.field-0.0
+    c.loop-token-test.true c.loop-token.invariant c.in_err-phase.ensures.fault)
+
+pub returns-in_default : goal.returns-in_default
+returns-in_default c = record {
+  parsed = tt;
+  fault = inr (end_early c.args.tokens.now c.loop-token.phase c.loop-token.reader
+      (reaches_end c.args.tokens.now c.loop-token.token-index c.loop-token.phase c.loop-token.reader c.loop-token-test.false c.loop-token.auto.token-index-end c.loop-token.invariant)
+      c.in_default.not-Between);
+}
+
+pub returns-in-Some-clause-fault : goal.returns-in-Some-clause-fault
+returns-in-Some-clause-fault c =
+    let whole = reaches_end c.args.tokens.now c.loop-token.token-index c.loop-token.phase c.loop-token.reader c.loop-token-test.false c.loop-token.auto.token-index-end c.loop-token.invariant in
+    inr (end_deep c.args.tokens.now c.loop-token.reader c.in-Some.at (rw c.in-Between.is at whole) (sym (c.in-Some.ensures ∙ ap (λ l. least_of (deep_among l)) c.all.ensures)))
+
+pub returns-clause-parsed : goal.returns-clause-parsed
+returns-clause-parsed c =
+    let whole = reaches_end c.args.tokens.now c.loop-token.token-index c.loop-token.phase c.loop-token.reader c.loop-token-test.false c.loop-token.auto.token-index-end c.loop-token.invariant in
+    let e = end_parsed c.args.tokens.now c.loop-token.reader (rw c.in-Between.is at whole) (sym (c.in_default-first_too_deep.ensures ∙ ap (λ l. least_of (deep_among l)) c.all.ensures)) in
+    (e.0, e.1, (e.2, e.3))

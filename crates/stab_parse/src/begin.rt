@@ -1,0 +1,358 @@
+//! What a token does where a form may begin, and behind the first token of a form.
+ghost use Rattle.std.specs.Prelude.{◌≡◌, ◌<◌, ◌≤◌, ◌^◌, [], neg_ℤ, pos, IfOk, IfErr};
+ghost use Rattle.stab_parse.specs.Moves.{begins, bracket, call_open, complete, else_read, ends, in_items, is_close_brace, is_close_paren, is_else, is_let, is_open_paren, let_named, let_read, named, negative_of, opened, outcome, owed_in, paren, paren_end, paren_in, pushed, settled_outcome, signed, signed_by, then_read, word_read};
+ghost use Rattle.stab_parse.specs.Symbols.{IsSmall};
+
+use crate::fault::ParseFault;
+use crate::frame::{BlockPlace, Callee, Frame, Phase, Seen};
+use crate::reader::{Reader, Step};
+use crate::symbol::{CallWord, Span, Symbol};
+use crate::tree::{Head, Lets};
+use std::alloc::Global;
+
+fn closes_paren(symbol: Symbol) -> bool
+    ensures { result ≡ is_close_paren symbol }
+{
+    matches!(symbol, Symbol::CloseParen)
+}
+
+fn opens_paren(symbol: Symbol) -> bool
+    ensures { result ≡ is_open_paren symbol }
+{
+    matches!(symbol, Symbol::OpenParen)
+}
+
+fn closes_brace(symbol: Symbol) -> bool
+    ensures { result ≡ is_close_brace symbol }
+{
+    matches!(symbol, Symbol::CloseBrace)
+}
+
+fn begins_let(symbol: Symbol) -> bool
+    ensures { result ≡ is_let symbol }
+{
+    matches!(symbol, Symbol::WordLet)
+}
+
+fn begins_else(symbol: Symbol) -> bool
+    ensures { result ≡ is_else symbol }
+{
+    matches!(symbol, Symbol::WordElse)
+}
+
+fn minus(value: u64) -> i64
+    requires { value < 2 ^ 63 }
+    ensures { result ≡ neg_ℤ (pos value) }
+{
+    -(value as i64)
+}
+
+/// The number that a token is behind a minus.
+fn negative(symbol: Symbol) -> Option<i64>
+    requires { IsSmall symbol }
+    ensures { result ≡ negative_of symbol }
+{
+    match symbol {
+        Symbol::Number(value) => Some(minus(value)),
+        Symbol::Greatest => Some(i64::MIN),
+        _ => None,
+    }
+}
+
+impl Reader {
+    /// Pushes a frame.
+    pub(crate) fn push(&mut self, frame: Frame) -> Result<(), ParseFault>
+        ensures ok { IfOk result (λ _. self.new ≡ pushed frame self.old) }
+        ensures fault { IfErr result (λ fault. fault ≡ ParseFault.NoMemory) }
+    {
+        self.frames.push(frame)
+    }
+
+    /// A form that isn't an operation is complete, and may go on.
+    fn leaf(&mut self, head: Head, at: u32) -> Result<Step, ParseFault>
+        ensures ok { IfOk result (λ step. outcome step self.new
+            ≡ settled_outcome (complete head 0 at 0 self.old)) }
+        ensures fault { IfErr result (λ fault. fault ≡ ParseFault.NoMemory) }
+    {
+        let seen = self.complete(head, 0, at, 0)?;
+        Ok(Step::Goes(Phase::Has(seen)))
+    }
+
+    /// A block opens.
+    pub(crate) fn block(
+        &mut self,
+        alloc: Global,
+        at: u32,
+        place: BlockPlace,
+    ) -> Result<Step, ParseFault>
+        ensures ok { IfOk result (λ step. outcome step self.new
+            ≡ outcome (Step.Opens Phase.InItems) (pushed (Frame.Items at [] 0 0 place) self.old)) }
+        ensures fault { IfErr result (λ fault. fault ≡ ParseFault.NoMemory) }
+    {
+        self.push(Frame::Items(at, Lets::new(alloc), 0, 0, place))?;
+        Ok(Step::Opens(Phase::InItems))
+    }
+
+    /// A token where a form is owed.
+    pub(crate) fn begins(
+        &mut self,
+        alloc: Global,
+        symbol: Symbol,
+        span: Span,
+    ) -> Result<Step, ParseFault>
+        requires { IsSmall symbol }
+        ensures ok { IfOk result (λ step. outcome step self.new ≡ begins symbol span self.old) }
+        ensures fault { IfErr result (λ fault. fault ≡ ParseFault.NoMemory) }
+    {
+        let at = span.start;
+        match symbol {
+            Symbol::Number(value) => self.leaf(Head::Int(value as i64), at),
+            Symbol::Minus => Ok(Step::Opens(Phase::Signed(at))),
+            Symbol::Not => {
+                self.push(Frame::Not(at))?;
+                Ok(Step::Opens(Phase::Owes))
+            }
+            Symbol::Text => self.leaf(Head::Text(span), at),
+            Symbol::Truth(truth) => self.leaf(Head::Truth(truth), at),
+            Symbol::Name => Ok(Step::Goes(Phase::Named(span))),
+            Symbol::Call(word) => Ok(Step::Goes(Phase::WordRead(word, at))),
+            Symbol::OpenParen => Ok(Step::Opens(Phase::Opened(at))),
+            Symbol::OpenBrace => self.block(alloc, at, BlockPlace::Form),
+            Symbol::WordIf => self.owed_in(Frame::Condition(at)),
+            Symbol::WordChan => Ok(Step::Goes(Phase::ChanRead(at))),
+            Symbol::ActOne(word) => Ok(Step::Goes(Phase::OneRead(word, at))),
+            Symbol::ActTwo(word) => Ok(Step::Goes(Phase::TwoRead(word, at))),
+            Symbol::ActAlone(word) => Ok(Step::Goes(Phase::AloneRead(word, at))),
+            _ => Ok(Step::Refused),
+        }
+    }
+
+    /// A token behind a minus.
+    pub(crate) fn signed(
+        &mut self,
+        alloc: Global,
+        at: u32,
+        symbol: Symbol,
+        span: Span,
+    ) -> Result<Step, ParseFault>
+        requires { IsSmall symbol }
+        ensures ok { IfOk result (λ step. outcome step self.new ≡ signed at symbol span self.old) }
+        ensures fault { IfErr result (λ fault. fault ≡ ParseFault.NoMemory) }
+    {
+        match negative(symbol) {
+            Some(value) => self.leaf(Head::Int(value), at),
+            None => {
+                self.push(Frame::Negate(at))?;
+                self.begins(alloc, symbol, span)
+            }
+        }
+    }
+
+    /// A token behind a bracket that begins a form.
+    pub(crate) fn opened(
+        &mut self,
+        alloc: Global,
+        at: u32,
+        symbol: Symbol,
+        span: Span,
+    ) -> Result<Step, ParseFault>
+        requires { IsSmall symbol }
+        ensures ok { IfOk result (λ step. outcome step self.new ≡ opened at symbol span self.old) }
+        ensures fault { IfErr result (λ fault. fault ≡ ParseFault.NoMemory) }
+    {
+        if closes_paren(symbol) {
+            return self.leaf(Head::Unit, at);
+        }
+        self.push(Frame::Group(at))?;
+        self.begins(alloc, symbol, span)
+    }
+
+    /// A token behind the bracket of a call.
+    pub(crate) fn call_open(
+        &mut self,
+        alloc: Global,
+        callee: Callee,
+        symbol: Symbol,
+        span: Span,
+    ) -> Result<Step, ParseFault>
+        requires { IsSmall symbol }
+        ensures ok { IfOk result (λ step. outcome step self.new ≡ call_open callee symbol span self.old) }
+        ensures fault { IfErr result (λ fault. fault ≡ ParseFault.NoMemory) }
+    {
+        if closes_paren(symbol) {
+            let seen = self.call(callee, 0, 0)?;
+            return Ok(Step::Goes(Phase::Has(seen)));
+        }
+        self.push(Frame::Args(callee, 0, 0))?;
+        self.begins(alloc, symbol, span)
+    }
+
+    /// A token where an item may begin.
+    pub(crate) fn in_items(
+        &mut self,
+        alloc: Global,
+        symbol: Symbol,
+        span: Span,
+    ) -> Result<Step, ParseFault>
+        requires { IsSmall symbol }
+        ensures ok { IfOk result (λ step. outcome step self.new ≡ in_items symbol span self.old) }
+        ensures fault { IfErr result (λ fault. fault ≡ ParseFault.NoMemory) }
+    {
+        if begins_let(symbol) {
+            return Ok(Step::Goes(Phase::LetRead));
+        }
+        if closes_brace(symbol) {
+            return self.end_items(span.start);
+        }
+        self.begins(alloc, symbol, span)
+    }
+
+    /// A token behind a name.
+    pub(crate) fn named(
+        &mut self,
+        alloc: Global,
+        name: Span,
+        symbol: Symbol,
+        span: Span,
+    ) -> Result<Step, ParseFault>
+        ensures ok { IfOk result (λ step. outcome step self.new ≡ named name symbol span self.old) }
+        ensures fault { IfErr result (λ fault. fault ≡ ParseFault.NoMemory) }
+    {
+        if opens_paren(symbol) {
+            return Ok(Step::Opens(Phase::CallOpen(Callee::Called(name))));
+        }
+        let seen = self.complete(Head::Variable(name), 0, name.start, 0)?;
+        self.ends(alloc, symbol, span, seen)
+    }
+
+    /// A token behind the block that follows a condition.
+    pub(crate) fn then_read(
+        &mut self,
+        alloc: Global,
+        at: u32,
+        depth: u8,
+        symbol: Symbol,
+        span: Span,
+    ) -> Result<Step, ParseFault>
+        ensures ok { IfOk result (λ step. outcome step self.new ≡ then_read at depth symbol span self.old) }
+        ensures fault { IfErr result (λ fault. fault ≡ ParseFault.NoMemory) }
+    {
+        if begins_else(symbol) {
+            return Ok(Step::Goes(Phase::ElseRead(at, depth)));
+        }
+        self.form(Head::Unit, 0, at, 0)?;
+        let seen = self.settle_if(at, depth.max(1))?;
+        self.ends(alloc, symbol, span, seen)
+    }
+
+    /// A token behind an `else`.
+    pub(crate) fn else_read(
+        &mut self,
+        alloc: Global,
+        at: u32,
+        depth: u8,
+        symbol: Symbol,
+        span: Span,
+    ) -> Result<Step, ParseFault>
+        ensures ok { IfOk result (λ step. outcome step self.new ≡ else_read at depth symbol span self.old) }
+        ensures fault { IfErr result (λ fault. fault ≡ ParseFault.NoMemory) }
+    {
+        match symbol {
+            Symbol::OpenBrace => self.block(alloc, span.start, BlockPlace::Else(at, depth)),
+            Symbol::WordIf => {
+                self.push(Frame::ElseIf(at, depth))?;
+                self.push(Frame::Condition(span.start))?;
+                Ok(Step::Opens(Phase::Owes))
+            }
+            _ => Ok(Step::Refused),
+        }
+    }
+
+    /// The bracket behind a word, with the frame that it opens.
+    pub(crate) fn bracket(&mut self, frame: Frame, symbol: Symbol) -> Result<Step, ParseFault>
+        ensures ok { IfOk result (λ step. outcome step self.new ≡ bracket frame symbol self.old) }
+        ensures fault { IfErr result (λ fault. fault ≡ ParseFault.NoMemory) }
+    {
+        match symbol {
+            Symbol::OpenBracket => {
+                self.push(frame)?;
+                Ok(Step::Opens(Phase::OwesType))
+            }
+            _ => Ok(Step::Refused),
+        }
+    }
+
+    pub(crate) fn paren(&mut self, next: Phase, symbol: Symbol) -> Result<Step, ParseFault>
+        ensures ok { IfOk result (λ step. outcome step self.new ≡ paren next symbol self.old) }
+        ensures fault { IfErr result (λ fault. fault ≡ ParseFault.NoMemory) }
+    {
+        match symbol {
+            Symbol::OpenParen => Ok(Step::Opens(next)),
+            _ => Ok(Step::Refused),
+        }
+    }
+
+    pub(crate) fn paren_in(&mut self, frame: Frame, symbol: Symbol) -> Result<Step, ParseFault>
+        ensures ok { IfOk result (λ step. outcome step self.new ≡ paren_in frame symbol self.old) }
+        ensures fault { IfErr result (λ fault. fault ≡ ParseFault.NoMemory) }
+    {
+        match symbol {
+            Symbol::OpenParen => {
+                self.push(frame)?;
+                Ok(Step::Opens(Phase::Owes))
+            }
+            _ => Ok(Step::Refused),
+        }
+    }
+
+    pub(crate) fn paren_end(
+        &mut self,
+        head: Head,
+        at: u32,
+        symbol: Symbol,
+    ) -> Result<Step, ParseFault>
+        ensures ok { IfOk result (λ step. outcome step self.new ≡ paren_end head at symbol self.old) }
+        ensures fault { IfErr result (λ fault. fault ≡ ParseFault.NoMemory) }
+    {
+        match symbol {
+            Symbol::CloseParen => self.leaf(head, at),
+            _ => Ok(Step::Refused),
+        }
+    }
+
+    pub(crate) fn word_read(
+        &mut self,
+        word: CallWord,
+        at: u32,
+        symbol: Symbol,
+        span: Span,
+    ) -> Result<Step, ParseFault>
+        ensures ok { IfOk result (λ step. outcome step self.new ≡ word_read word at symbol span self.old) }
+        ensures fault { IfErr result (λ fault. fault ≡ ParseFault.NoMemory) }
+    {
+        match symbol {
+            Symbol::Name => Ok(Step::Goes(Phase::WordNamed(word, at, span))),
+            _ => Ok(Step::Refused),
+        }
+    }
+
+    pub(crate) fn let_read(&mut self, symbol: Symbol, span: Span) -> Result<Step, ParseFault>
+        ensures ok { IfOk result (λ step. outcome step self.new ≡ let_read symbol span self.old) }
+        ensures fault { IfErr result (λ fault. fault ≡ ParseFault.NoMemory) }
+    {
+        match symbol {
+            Symbol::Name => Ok(Step::Goes(Phase::LetNamed(span))),
+            _ => Ok(Step::Refused),
+        }
+    }
+
+    pub(crate) fn let_named(&mut self, name: Span, symbol: Symbol) -> Result<Step, ParseFault>
+        ensures ok { IfOk result (λ step. outcome step self.new ≡ let_named name symbol self.old) }
+        ensures fault { IfErr result (λ fault. fault ≡ ParseFault.NoMemory) }
+    {
+        match symbol {
+            Symbol::Equal => self.owed_in(Frame::Let(name)),
+            _ => Ok(Step::Refused),
+        }
+    }
+}
