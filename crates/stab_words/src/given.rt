@@ -2,7 +2,6 @@
 ghost use Rattle.std.specs.Prelude.{◌≡◌, IfOk, OnOk, IsNone, None, Some, Ok};
 ghost use Rattle.stab_words.specs.Given.{fill, is_filled, is_given, name_in, nothing, set};
 ghost use Rattle.stab_words.specs.Asked.{Gives, or_fault};
-ghost use Rattle.stab_words.specs.Within.{IsGiven};
 ghost use Rattle.stab_words.specs.declared.request.WordFault.TheVariants.{BadValue};
 
 use crate::command::{Place, Setting};
@@ -35,8 +34,7 @@ pub struct Given {
 impl Given {
     /// Nothing yet.
     pub fn nothing() -> Given
-        ensures nothing { result ≡ nothing }
-        ensures within { IsGiven result }
+        ensures { result ≡ nothing }
     {
         Given {
             file: None,
@@ -80,9 +78,7 @@ impl Given {
         at: usize,
         value: &str,
     ) -> Result<Given, WordFault>
-        requires { IsGiven self }
-        ensures given { Gives (λ g. g) result (or_fault (set setting value.now self) (BadValue at)) }
-        ensures within { IfOk result IsGiven }
+        ensures { Gives (λ g. g) result (or_fault (set setting value.now self) (BadValue at)) }
     {
         let bad = WordFault::BadValue(at);
         Ok(match setting {
@@ -113,9 +109,7 @@ impl Given {
         at: usize,
         word: &str,
     ) -> Result<Given, WordFault>
-        requires { IsGiven self }
-        ensures given { Gives (λ g. g) result (or_fault (fill place word.now self) (BadValue at)) }
-        ensures within { IfOk result IsGiven }
+        ensures { Gives (λ g. g) result (or_fault (fill place word.now self) (BadValue at)) }
     {
         Ok(match place {
             Place::File => Given {
