@@ -1,12 +1,12 @@
 -- Acts as the machine names them.
-use Rattle.std.specs.Prelude.{ℕ, Option, Some, None}
+use Rattle.std.specs.Prelude.{◌≡◌, ℕ, false, Option, Some, None}
 use Rattle.plain_language.specs.declared.act.Act.{Act}
 use Rattle.plain_language.specs.declared.act.Act.TheVariants.{Spawn, NewChan, NewRef, Get, Set, Send, Recv, Pick, Enter, Stabilize, Cut, Pin, Print, Probe, Attempt}
-use Rattle.plain_language.specs.Busy.{values_in}
+use Rattle.plain_language.specs.Busy.{busy_at, values_in}
 use Rattle.plain_language.specs.Expression.{Expr}
 use Rattle.plain_language.specs.Outcome.{Outcome, acts, called}
 use Rattle.plain_language.specs.Table as table
-use Rattle.plain_language.specs.Table.{spawns, makes_chan, makes_ref, gets, sets, sends, receives, picks, enters, stabilizes, cuts, pins, prints, probes, attempts}
+use Rattle.plain_language.specs.Table.{spawns, makes_chan, makes_ref, gets, sets, sends, receives, picks, enters, stabilizes, cuts, pins, prints, probes, attempts, Look, act}
 
 -- the act, where functions have these bodies
 abbrev pub act_of : (ℕ → Expr) → Act → table.Act Expr
@@ -30,3 +30,14 @@ act_of body Attempt = attempts
 abbrev pub told : Outcome → Option (table.Act Expr)
 told (acts a) = Some a
 told _ = None
+
+-- the act at which an expression stands
+abbrev pub act_in : Look Expr → Option (table.Act Expr)
+act_in (act a) = Some a
+act_in _ = None
+
+-- the arguments of a body are values
+abbrev pub HasValues : Act → Type 0
+HasValues (Spawn f es) = busy_at false es.now ≡ None
+HasValues (Enter f es) = busy_at false es.now ≡ None
+HasValues _ = Unit {0}

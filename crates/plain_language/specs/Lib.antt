@@ -1,8 +1,11 @@
 pub mod Acts
 pub mod Busy
+pub mod Changes
+pub mod Effects
 pub mod Expression
 pub mod ExpressionCode
 pub mod Falls
+pub mod Forms
 pub mod Frames
 pub mod Given
 pub mod Held
@@ -11,11 +14,14 @@ pub mod Next
 pub mod Numbers
 pub mod Operands
 pub mod Outcome
+pub mod Parts
 pub mod Plain
+pub mod Plays
 pub mod Program
 pub mod Pures
 pub mod Quiet
 pub mod Redex
+pub mod Sample
 pub mod Seen
 pub mod Shown
 pub mod Size

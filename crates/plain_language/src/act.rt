@@ -1,7 +1,7 @@
 //! The acts of redexes.
-ghost use Rattle.std.specs.Prelude.{◌≡◌, ℕ, false, None, option_map};
+ghost use Rattle.std.specs.Prelude.{◌≡◌, ℕ, false, None, option_map, IfSome};
 ghost use Rattle.std.specs.Option.{option_copied};
-ghost use Rattle.plain_language.specs.Acts.{act_of, told};
+ghost use Rattle.plain_language.specs.Acts.{HasValues, act_of, told};
 ghost use Rattle.plain_language.specs.Busy.{busy_at, counted, values_in, waiting_parts};
 ghost use Rattle.plain_language.specs.Expression.{Expr as Expression};
 ghost use Rattle.plain_language.specs.Operands.{chan_of, one_of, reference_of, two_values_of};
@@ -79,8 +79,9 @@ pub(crate) fn two(parts: &[Expr]) -> Option<(&Value, &Value)>
 /// The act that a redex is, if it is one.
 pub(crate) fn act_at<'a>(head: &Head, parts: &'a [Expr]) -> Option<Act<'a>>
     requires { busy_at (first_counts_alone head.now) parts.now ≡ None }
-    ensures { (body : ℕ → Expression) → option_map (act_of body) result
+    ensures act { (body : ℕ → Expression) → option_map (act_of body) result
         ≡ told (outcome body head.now (counted (first_counts_alone head.now) parts.now) (waiting_parts (first_counts_alone head.now) parts.now)) }
+    ensures values { IfSome result HasValues }
 {
     match head {
         Head::Spawn(f) => Some(Act::Spawn(*f, parts)),

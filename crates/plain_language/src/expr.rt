@@ -1,7 +1,8 @@
 //! Expressions in memory.
-ghost use Rattle.std.specs.Prelude.{◌≡◌, IfOk};
+ghost use Rattle.std.specs.Prelude.{◌≡◌, IfOk, option_map};
 ghost use Rattle.std.specs.Option.{option_copied};
 ghost use Rattle.plain_language.specs.Busy.{is_value};
+ghost use Rattle.plain_language.specs.Forms.{fault_of, form_in, slot_of};
 ghost use Rattle.plain_language.specs.Given.{given_to, value_of};
 ghost use Rattle.plain_language.specs.Expression.{value, variable, failed, form, parts_of, put, put_parts};
 
@@ -94,6 +95,36 @@ impl Expr {
     {
         match &self.node {
             Node::Value(v) => Some(v),
+            _ => None,
+        }
+    }
+
+    /// The slot of the variable that the expression is.
+    pub fn as_variable(&self) -> Option<u32>
+        ensures { result ≡ slot_of self.now }
+    {
+        match &self.node {
+            Node::Var(slot) => Some(*slot),
+            _ => None,
+        }
+    }
+
+    /// The fault that is left of a whole expression.
+    pub fn as_fault(&self) -> Option<Fault>
+        ensures { result ≡ fault_of self.now }
+    {
+        match &self.node {
+            Node::Fault(k) => Some(*k),
+            _ => None,
+        }
+    }
+
+    /// The head of the form that the expression is, and its parts, from left to right.
+    pub fn as_form(&self) -> Option<(&Head, &[Expr])>
+        ensures { option_map (λ f. (f.0.now, parts_of f.1.now)) result ≡ form_in self.now }
+    {
+        match &self.node {
+            Node::Form(head, parts) => Some((head, parts.as_slice())),
             _ => None,
         }
     }

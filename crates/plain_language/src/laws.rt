@@ -1,13 +1,20 @@
 //! What shows that the definitions mean what they should. The calls do nothing.
-ghost use Rattle.std.specs.Prelude.{◌≡◌, ℕ, List, Option, Some, None};
+ghost use Rattle.std.specs.Prelude.{◌≡◌, ◌∷◌, [], ℕ, pos, take, List, Option, Some, None};
 ghost use Rattle.std.specs.FinMap as map;
 ghost use Rattle.stab_code.specs.Program.{ProgramParts};
+ghost use Rattle.stab_journal.specs.Due.{due, released};
+ghost use Rattle.stab_journal.specs.Floor.{floor};
+ghost use Rattle.stab_journal.specs.Generation.{generation};
+ghost use Rattle.stab_journal.specs.Own.{own};
+ghost use Rattle.stab_journal.specs.Script.{FollowsScript, probed};
+ghost use Rattle.stab_journal.specs.Surviving.{run_of};
 ghost use Rattle.stab_journal.specs.declared.event.Label.{Label};
 ghost use Rattle.plain_language.specs.Expression.{Expr as Expression};
 ghost use Rattle.plain_language.specs.Frames.{AreFrames, IsRedexItself};
 ghost use Rattle.plain_language.specs.Plain.{PlainState, language_of, plain_step};
 ghost use Rattle.plain_language.specs.Quiet.{IsQuiet};
 ghost use Rattle.plain_language.specs.Redex.{Frame, Redex, redex, within};
+ghost use Rattle.plain_language.specs.Sample.{numbers, places, sample};
 ghost use Rattle.plain_language.specs.Shown.{shown};
 ghost use Rattle.plain_language.specs.Touches.{ChangesOnly};
 
@@ -34,4 +41,17 @@ pub fn steps_change_what_they_name()
 pub fn shown_text_is_determined()
     ensures { (p : ProgramParts) (s t : PlainState) → ((n : ℕ) → map.get s.threads n ≡ map.get t.threads n) → s.output ≡ t.output
         → shown p s ≡ shown p t }
+{}
+
+/// What a history by hand has: the undo takes back the steps 2 to 5, in which the first two threads act; what the
+/// third thread does stays. Probes count that were taken back, prints don't, and of these only such before the cut are final.
+pub fn counts_of_a_history()
+    ensures left { numbers (run_of sample) ≡ 1 ∷ 6 ∷ 8 ∷ 9 ∷ 10 ∷ [] }
+    ensures generations { (generation 1 sample ≡ 1) × (generation 2 sample ≡ 1) × (generation 3 sample ≡ 0) }
+    ensures probes { probed sample ≡ pos 7 ∷ pos 0 ∷ [] }
+    ensures script { FollowsScript (pos 7 ∷ []) sample }
+    ensures due { (due (take 10 sample) ≡ 2) × (due (take 6 sample) ≡ 0) × (due sample ≡ 0) }
+    ensures released { released sample ≡ 2 }
+    ensures own { places (own 2 sample) ≡ 2 ∷ 4 ∷ 5 ∷ 9 ∷ 11 ∷ [] }
+    ensures floor { floor (run_of sample) ≡ 9 }
 {}

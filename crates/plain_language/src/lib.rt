@@ -3,12 +3,18 @@
 
 mod act;
 mod body;
+mod change;
+mod effects;
 mod expr;
 mod given;
 mod head;
 mod laws;
 mod look;
+mod moves;
+mod numbered;
 mod operators;
+mod parts;
+mod play;
 mod pure;
 mod redex;
 mod state;
@@ -18,7 +24,9 @@ mod tests;
 pub use expr::Expr;
 pub use head::Head;
 pub use laws::{
-    one_redex, quiet_states_rest, shown_text_is_determined, steps_change_what_they_name,
+    counts_of_a_history, one_redex, quiet_states_rest, shown_text_is_determined,
+    steps_change_what_they_name,
 };
 pub use look::{ActKind, Look};
+pub use play::PlayFault;
 pub use state::PlainState;

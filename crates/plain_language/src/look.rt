@@ -1,7 +1,7 @@
 //! What is next for an expression, and its next pure step.
-ghost use Rattle.std.specs.Prelude.{◌≡◌, ℕ, None, IfOk, IsSome, MatchOption};
+ghost use Rattle.std.specs.Prelude.{◌≡◌, ℕ, None, IfOk, IfSome, IsSome, MatchOption, option_map};
 ghost use Rattle.plain_language.specs.declared.head.Head.TheVariants.{Section};
-ghost use Rattle.plain_language.specs.Acts.{act_of};
+ghost use Rattle.plain_language.specs.Acts.{HasValues, act_in, act_of};
 ghost use Rattle.plain_language.specs.Expression.{Expr as Expression, form, none, part};
 ghost use Rattle.plain_language.specs.Look.{answered, entered, language, look};
 ghost use Rattle.plain_language.specs.Next.{IsNext};
@@ -96,6 +96,16 @@ impl Expr {
                 },
             },
         }
+    }
+
+    /// The act at which the expression stands, if it stands at one.
+    pub(crate) fn act(&self) -> Option<Act<'_>>
+        ensures act { (body : ℕ → Expression) → option_map (act_of body) result ≡ act_in (look body self.now) }
+        ensures values { IfSome result HasValues }
+        ensures redex { IsSome result → IsSome (redex self.now) }
+    {
+        let (head, parts) = self.redex()?;
+        act_at(head, parts)
     }
 
     /// The expression, or a fault where too many forms stand round its redex.

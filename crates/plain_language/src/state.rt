@@ -1,6 +1,8 @@
 //! A state of the plain language.
 ghost use Rattle.std.specs.Prelude.{◌≡◌, ◌≤◌, ◌<◌, ℕ, IfOk, IsSome, option_map};
 ghost use Rattle.std.specs.Arc.{arc_value};
+ghost use Rattle.std.specs.FinMap as map;
+ghost use Rattle.std.specs.FinSet as set;
 ghost use Rattle.std.specs.Option.{option_copied};
 ghost use Rattle.plain_language.specs.Held.{held};
 ghost use Rattle.plain_language.specs.Plain.{look_in, mark_in, standing, start};
@@ -9,7 +11,7 @@ ghost use Rattle.plain_language.specs.Seen.{seen};
 use crate::body::called;
 use crate::expr::Expr;
 use crate::look::Look;
-use stab_base::{NoMemory, Seq, ThreadId, Value};
+use stab_base::{ChanId, NoMemory, RefId, Seq, ThreadId, Value};
 use stab_code::Program;
 use std::alloc::Global;
 use std::collections::{BTreeMap, BTreeSet};
@@ -23,11 +25,11 @@ const MAIN: u32 = 1;
 /// what was printed. Contracts see it as the program and the state of the definitions.
 #[derive(Drop)]
 pub struct PlainState {
-    program: Arc<Program>,
-    threads: BTreeMap<u32, Expr>,
-    references: BTreeMap<u32, Value>,
-    channels: BTreeSet<u32>,
-    output: Vec<Value>,
+    pub(crate) program: Arc<Program>,
+    pub(crate) threads: BTreeMap<u32, Expr>,
+    pub(crate) references: BTreeMap<u32, Value>,
+    pub(crate) channels: BTreeSet<u32>,
+    pub(crate) output: Vec<Value>,
 }
 
 impl Model for PlainState {
@@ -72,6 +74,20 @@ impl PlainState {
         ensures { option_copied result ≡ standing self.now.state t.0 }
     {
         self.threads.get(&t.0)
+    }
+
+    /// What a reference holds, if it is there.
+    pub(crate) fn reference(&self, r: RefId) -> Option<&Value>
+        ensures { option_copied result ≡ map.get self.now.state.references r.0 }
+    {
+        self.references.get(&r.0)
+    }
+
+    /// Whether a channel is there.
+    pub(crate) fn has_channel(&self, c: ChanId) -> bool
+        ensures { result ≡ set.contains self.now.state.channels c.0 }
+    {
+        self.channels.contains(&c.0)
     }
 
     /// What is next for a thread, if the thread is there.
