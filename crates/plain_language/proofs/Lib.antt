@@ -12,6 +12,7 @@ pub mod Marking
 pub mod Onto
 pub mod Operands
 pub mod Putting
+pub mod Ranges
 pub mod Resting
 pub mod Showing
 pub mod Staying

@@ -1,3 +1,4 @@
+pub mod Above
 pub mod Acts
 pub mod Busy
 pub mod Changes

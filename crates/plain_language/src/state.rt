@@ -1,9 +1,10 @@
 //! A state of the plain language.
-ghost use Rattle.std.specs.Prelude.{◌≡◌, ◌≤◌, ◌<◌, ℕ, IfOk, IsSome, option_map};
+ghost use Rattle.std.specs.Prelude.{◌≡◌, ◌≤◌, ◌<◌, ℕ, Some, IfOk, IfSome, IsSome, option_map};
 ghost use Rattle.std.specs.Arc.{arc_value};
 ghost use Rattle.std.specs.FinMap as map;
 ghost use Rattle.std.specs.FinSet as set;
 ghost use Rattle.std.specs.Option.{option_copied};
+ghost use Rattle.plain_language.specs.Above.{IsLeastAbove};
 ghost use Rattle.plain_language.specs.Held.{held};
 ghost use Rattle.plain_language.specs.Plain.{look_in, mark_in, standing, start};
 ghost use Rattle.plain_language.specs.Seen.{seen};
@@ -16,6 +17,7 @@ use stab_code::Program;
 use std::alloc::Global;
 use std::collections::{BTreeMap, BTreeSet};
 use std::marker::Model;
+use std::ops::Bound;
 use std::sync::Arc;
 
 /// The thread that runs `main`.
@@ -120,5 +122,24 @@ impl PlainState {
             Some((t, _)) => *t,
             None => 0,
         }
+    }
+
+    /// The least channel above a number, which need be no channel's.
+    pub fn channel_after(&self, n: u32) -> Option<ChanId>
+        ensures { IsLeastAbove (set.contains self.now.state.channels) n (option_map (λ c. c.0) result) }
+    {
+        let above = (Bound::Excluded(n), Bound::Unbounded);
+        let c = self.channels.range(above).next()?;
+        Some(ChanId(*c))
+    }
+
+    /// The least reference above a number, which need be no reference's, and what it holds.
+    pub fn reference_after(&self, n: u32) -> Option<(RefId, &Value)>
+        ensures least { IsLeastAbove (map.contains_key self.now.state.references) n (option_map (λ r. r.0.0) result) }
+        ensures holds { IfSome result (λ r. map.get self.now.state.references r.0.0 ≡ Some r.1.now) }
+    {
+        let above = (Bound::Excluded(n), Bound::Unbounded);
+        let (r, v) = self.references.range(above).next()?;
+        Some((RefId(*r), v))
     }
 }
