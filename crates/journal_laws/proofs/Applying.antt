@@ -1,32 +1,20 @@
--- What applying an effect changes.
+-- What applying an effect leaves there, and where states that agree go on agreeing.
 use Rattle.std.proofs.Common.{◌≡◌, ℕ, Bool, true, false, cond, ◌||◌, nat_eq, List, [], ◌∷◌, Option, Some, None, refl, sym, ap, ◌∙◌}
 use Rattle.std.specs.Prelude.{is_some, option_and_then, option_map}
 use Rattle.std.specs.List.{list_any}
 use Rattle.std.specs.Ordering.{nat_cmp}
-use Rattle.std.specs.Cmp.{nat_cmp_total, unsigned_tied}
 use Rattle.std.specs.FinMap as map
-use Rattle.std.specs.FinMap.{FinMap, get-insert}
-use Rattle.std.specs.FinSet as set
-use Rattle.std.specs.FinSet.{FinSet, contains-insert}
+use Rattle.std.specs.FinMap.{FinMap}
 use Rattle.std.proofs.lemmas.Bool.{false≢true}
 use Rattle.stab_base.specs.Datum.{Datum}
 use Rattle.stab_journal.specs.Names.{has, is_at}
-use Rattle.plain_language.specs.Steps.{exprs_at, held_at, put_threads, put_value, put_channel}
 use Rattle.stab_journal.specs.Reached.{reads_of}
-
-pub get_inserted : {X : Type 0} (m : FinMap nat_cmp X) (k : ℕ) (v : X) (q : ℕ) → map.get (map.insert m k v) q ≡ cond (nat_eq q k) (Some v) (map.get m q)
-get_inserted m k v q = get-insert nat_cmp_total m k v q ∙ ap (λ b. cond b (Some v) (map.get m q)) (unsigned_tied q k)
-
-pub contains_inserted : (s : FinSet nat_cmp) (k q : ℕ) → set.contains (set.insert s k) q ≡ (nat_eq q k || set.contains s q)
-contains_inserted s k q = contains-insert nat_cmp_total s k q ∙ ap (λ b. b || set.contains s q) (unsigned_tied q k)
+use Rattle.plain_language.specs.Steps.{exprs_at, held_at, put_threads, put_value}
+use Rattle.plain_language.proofs.Applying.{get_inserted}
 
 pub is_some_cond : {X : Type 0} (b : Bool) (v : X) (o : Option X) → is_some o ≡ true → is_some (cond b (Some v) o) ≡ true
 is_some_cond true v o h = refl
 is_some_cond false v o h = h
-
-cond_apart : {X : Type 0} (b c : Bool) (v : X) (o p : Option X) → cond b true c ≡ false → (c ≡ false → o ≡ p) → cond b (Some v) o ≡ p
-cond_apart true c v o p h k = absurd (false≢true (sym h))
-cond_apart false c v o p h k = k h
 
 cond_there : {X : Type 0} (b c : Bool) (v : X) (o : Option X) → cond b true c ≡ true → (c ≡ true → is_some o ≡ true) → is_some (cond b (Some v) o) ≡ true
 cond_there true c v o h k = refl
@@ -37,13 +25,6 @@ or_false true b h = absurd (false≢true (sym h))
 or_false false b h = (refl, h)
 
 module _ {E : Type 0} where
-  -- a thread that isn't named stays
-  pub put_threads-apart : (ts : List ℕ) (a b : E) (m : FinMap nat_cmp E) (q : ℕ) → has ts q ≡ false → map.get (put_threads ts a b m) q ≡ map.get m q
-  put_threads-apart [] a b m q h = refl
-  put_threads-apart (t ∷ ts) a b m q h =
-      get_inserted (put_threads ts b b m) t a q
-      ∙ cond_apart (nat_eq q t) (has ts q) a _ _ h (put_threads-apart ts b b m q)
-
   -- equal before, equal after
   pub put_threads-agree : (ts : List ℕ) (a b : E) (m n : FinMap nat_cmp E) (q : ℕ) → map.get m q ≡ map.get n q → map.get (put_threads ts a b m) q ≡ map.get (put_threads ts a b n) q
   put_threads-agree [] a b m n q h = h
@@ -78,10 +59,6 @@ pub held_at-agree : (p : ℕ → Bool) (r : Option ℕ) (m n : FinMap nat_cmp Da
 held_at-agree p None m n same h = refl
 held_at-agree p (Some r) m n same h = same r h
 
-pub put_value-apart : (w : Option ℕ) (v : Datum) (m : FinMap nat_cmp Datum) (q : ℕ) → is_at w q ≡ false → map.get (put_value w v m) q ≡ map.get m q
-put_value-apart None v m q h = refl
-put_value-apart (Some r) v m q h = get_inserted m r v q ∙ ap (λ b. cond b (Some v) (map.get m q)) h
-
 pub put_value-here : (w : Option ℕ) (v : Datum) (m : FinMap nat_cmp Datum) (q : ℕ) → is_at w q ≡ true → map.get (put_value w v m) q ≡ Some v
 put_value-here None v m q h = absurd (false≢true h)
 put_value-here (Some r) v m q h = get_inserted m r v q ∙ ap (λ b. cond b (Some v) (map.get m q)) h
@@ -93,7 +70,3 @@ put_value-agree (Some r) v m n q h = get_inserted m r v q ∙ ap (cond (nat_eq q
 pub put_value-there : (w : Option ℕ) (v : Datum) (m : FinMap nat_cmp Datum) (q : ℕ) → map.contains_key m q ≡ true → map.contains_key (put_value w v m) q ≡ true
 put_value-there None v m q h = h
 put_value-there (Some r) v m q h = ap is_some (get_inserted m r v q) ∙ is_some_cond (nat_eq q r) v _ h
-
-pub put_channel-is : (w : Option ℕ) (m : FinSet nat_cmp) (q : ℕ) → set.contains (put_channel w m) q ≡ (is_at w q || set.contains m q)
-put_channel-is None m q = refl
-put_channel-is (Some c) m q = contains_inserted m c q

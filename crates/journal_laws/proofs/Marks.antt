@@ -16,7 +16,7 @@ use Rattle.plain_language.specs.Steps.{State, Effect, exprs_at, held_at, put_thr
 use Rattle.plain_language.specs.Table.{spawns, Look, act, Language, spawn_by, received_by, effect}
 use Rattle.journal_laws.specs.Entered.{enters_by, is_entered_by}
 use Rattle.journal_laws.specs.Known.{Known, sections_alone, IsMore, IsIn, IsLookIn, AreNumbersKept}
-use Rattle.journal_laws.proofs.Applying.{get_inserted}
+use Rattle.plain_language.proofs.Applying.{get_inserted}
 use Rattle.journal_laws.proofs.Chains.{or_right}
 use Rattle.journal_laws.proofs.Closed.{SectionIn, IsEffectIn, SomeIn, ExprIn, ValueIn, NameIn, effect_is_in, received_in}
 use Rattle.journal_laws.proofs.Stepping.{step_of}

@@ -17,7 +17,7 @@ use Rattle.journal_laws.proofs.Without.{IsClosedTable}
 use Rattle.journal_laws.specs.Entered.{is_entered_by}
 use Rattle.stab_journal.specs.Dependence.{IsUpward}
 use Rattle.stab_journal.specs.Journal.{RiseFrom}
-use Rattle.journal_laws.proofs.Applying.{get_inserted}
+use Rattle.plain_language.proofs.Applying.{get_inserted}
 use Rattle.journal_laws.proofs.Closed.{closed_table}
 use Rattle.journal_laws.proofs.Occurring.{body_in, put_in, got_in, kept}
 use Rattle.journal_laws.proofs.Chains.{closed_run}

@@ -14,7 +14,8 @@ use Rattle.plain_language.specs.Steps.{State, Effect, Table, allows, exprs_at, h
 use Rattle.stab_journal.specs.Names.{has, is_at, read, made}
 use Rattle.stab_journal.specs.Reached.{Lost, lose, keep, reads_of, depends}
 use Rattle.journal_laws.proofs.Without.{IsWithout, IsClosedTable}
-use Rattle.journal_laws.proofs.Applying.{or_false, put_threads-apart, put_threads-agree, put_threads-there, put_threads-named, exprs_at-agree, held_at-agree, put_value-apart, put_value-here, put_value-agree, put_value-there, put_channel-is}
+use Rattle.plain_language.proofs.Applying.{put_threads-apart, put_value-apart, put_channel-is}
+use Rattle.journal_laws.proofs.Applying.{or_false, put_threads-agree, put_threads-there, put_threads-named, exprs_at-agree, held_at-agree, put_value-here, put_value-agree, put_value-there}
 
 pub both : (b : Bool) → b ≡ true → b ≡ false → ⊥
 both b t f = false≢true (sym f ∙ t)

@@ -11,7 +11,8 @@ use Rattle.stab_journal.specs.Names.{has, is_at}
 use Rattle.stab_journal.specs.Reached.{Lost, lose, keep, after_step, depends, rest}
 use Rattle.journal_laws.proofs.Without.{IsClosedFrom, lost_after, IsWithout, IsClosedTable, IsSurvivor, stood, held}
 use Rattle.journal_laws.specs.Surviving.{value_of, printed_of, prints}
-use Rattle.journal_laws.proofs.Applying.{put_threads-apart, put_value-apart, put_value-here}
+use Rattle.plain_language.proofs.Applying.{put_threads-apart, put_value-apart}
+use Rattle.journal_laws.proofs.Applying.{put_value-here}
 use Rattle.journal_laws.proofs.Stepping.{step_of, plain_of, same_effect, allows_too, apart, without_kept, without_lost, or_right}
 
 pub some_is : {X : Type 0} {a b : X} → Some a ≡ Some b → a ≡ b
