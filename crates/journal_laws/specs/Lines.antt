@@ -38,7 +38,8 @@ pub record IsEdge (run : List Numbered) (e f : Numbered) : Type 0 where
 
 -- edges lead from the node numbered m
 pub data Marked (run : List Numbered) (m : ℕ) : Numbered → Type 0 where
-  itself : (before : List Numbered) (n : Numbered) (after : List Numbered) → run ≡ before ++ n ∷ after → m ≡ n.seq.0 → is_node n.label ≡ true → Marked run m n
+  itself : (before : List Numbered) (n : Numbered) (after : List Numbered) → run ≡ before ++ n ∷ after
+      → m ≡ n.seq.0 → is_node n.label ≡ true → Marked run m n
   edge : (e f : Numbered) → Marked run m e → IsEdge run e f → Marked run m f
 
 -- e is f, or stands before it

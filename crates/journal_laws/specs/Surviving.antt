@@ -49,12 +49,17 @@ module _ {E : Type 0} (effect : Table E) where
     pub run : after_steps effect (Some start) (rest gone steps) ≡ Some at
     -- a thread that no lost step touches stands where it stood
     pub threads : (t : ℕ) → is_hit gone t steps ≡ false → map.get at.threads t ≡ map.get end.threads t
-    -- any other thread stands where it stood at the end of the steps before the first lost one that touches it: nowhere, where that one spawns it
-    pub stands : (t : ℕ) (before : List Numbered) (n : Numbered) (after : List Numbered) → steps ≡ before ++ n ∷ after → is_hit gone t before ≡ false → gone n.seq.0 ≡ true → has (touched n.label) t ≡ true → map.get at.threads t ≡ thread_of (after_steps effect (Some start) before) t
+    -- any other thread stands where it stood at the end of the steps before the first lost one that touches it: nowhere, where
+    -- that one spawns it
+    pub stands : (t : ℕ) (before : List Numbered) (n : Numbered) (after : List Numbered) → steps ≡ before ++ n ∷ after
+        → is_hit gone t before ≡ false → gone n.seq.0 ≡ true → has (touched n.label) t ≡ true
+        → map.get at.threads t ≡ thread_of (after_steps effect (Some start) before) t
     -- a reference whose last write isn't lost holds what it held
     pub references : (r : ℕ) → is_stale gone r false steps ≡ false → map.get at.references r ≡ map.get end.references r
     -- a reference holds what its last write that stays gave it
-    pub falls_back : (r : ℕ) (before : List Numbered) (n : Numbered) (after : List Numbered) → steps ≡ before ++ n ∷ after → is_at (written n.label) r ≡ true → gone n.seq.0 ≡ false → is_written gone r after ≡ false → map.get at.references r ≡ value_of (after_steps effect (Some start) (before ++ n ∷ [])) r
+    pub falls_back : (r : ℕ) (before : List Numbered) (n : Numbered) (after : List Numbered) → steps ≡ before ++ n ∷ after
+        → is_at (written n.label) r ≡ true → gone n.seq.0 ≡ false → is_written gone r after ≡ false
+        → map.get at.references r ≡ value_of (after_steps effect (Some start) (before ++ n ∷ [])) r
     -- without such a write it is as in the start
     pub stays : (r : ℕ) → is_written gone r steps ≡ false → map.get at.references r ≡ map.get start.references r
     -- the channels are those whose making isn't lost

@@ -7,14 +7,14 @@ ghost use Rattle.stab_journal.specs.declared.event.Event.{Event};
 ghost use Rattle.stab_journal.specs.declared.event.Numbered.{Numbered};
 ghost use Rattle.stab_journal.specs.Dependence.{IsUpward, Reaches};
 ghost use Rattle.stab_journal.specs.Floor.{floor, is_entered, is_pin, is_revocable};
-ghost use Rattle.stab_journal.specs.Journal.{RiseFrom};
+ghost use Rattle.stab_journal.specs.Journal.{Journal, RiseFrom};
 ghost use Rattle.stab_journal.specs.Label.{actors, spawned};
 ghost use Rattle.stab_journal.specs.Names.{has, is_at};
 ghost use Rattle.stab_journal.specs.Reached.{reached};
-ghost use Rattle.stab_journal.specs.Surviving.{run_of};
+ghost use Rattle.stab_journal.specs.Surviving.{IsStruckBack, run_of};
 ghost use Rattle.plain_language.specs.Plain.{IsRun, PlainState as State, effect_of};
 ghost use Rattle.plain_language.specs.Steps.{after_steps};
-ghost use Rattle.plain_language.specs.Standing.{StandsFor};
+ghost use Rattle.plain_language.specs.Standing.{Shows, StandsFor};
 ghost use Rattle.journal_laws.specs.Entered.{is_entered_by};
 ghost use Rattle.journal_laws.specs.Known.{sections_alone, IsExprIn, IsKnown};
 ghost use Rattle.journal_laws.specs.Lines.{is_node, is_meeting, is_touched, Marked, IsFromLine};
@@ -35,7 +35,8 @@ pub fn chain(run: &[Numbered], e: Seq, f: Seq)
 /// The steps that one pass over a run reaches are exactly those to which a chain of direct dependences leads.
 pub fn reached_by_chains(run: &[Numbered], m: Seq)
     requires { RiseFrom 1 run.now }
-    ensures { (before : List Numbered) (n : Numbered) (after : List Numbered) → run.now ≡ before ++ n ∷ after → (has (reached run.now m.0) n.seq.0 ≡ true) ↔ Reaches run.now m.0 n }
+    ensures { (before : List Numbered) (n : Numbered) (after : List Numbered) → run.now ≡ before ++ n ∷ after
+        → (has (reached run.now m.0) n.seq.0 ≡ true) ↔ Reaches run.now m.0 n }
 {}
 
 /// What is reached from a step is closed under direct dependence.
@@ -51,7 +52,8 @@ pub fn closed_ids(program: &Program, run: &[Numbered])
 
 /// Each section in a thread's expression, in the state in which a run ends, was entered in that run by that thread.
 pub fn marks_entered(program: &Program, run: &[Numbered])
-    ensures { (s : State) → IsRun program.now run.now s → (t : ℕ) → IfSome (map.get s.threads t) (λ e. IsExprIn (sections_alone (is_entered_by t run.now)) e) }
+    ensures { (s : State) → IsRun program.now run.now s
+        → (t : ℕ) → IfSome (map.get s.threads t) (λ e. IsExprIn (sections_alone (is_entered_by t run.now)) e) }
 {}
 
 /// The law of surviving runs, from any state in which the channels and references that occur, in its output too, are there:
@@ -76,18 +78,27 @@ pub fn survive(program: &Program, run: &[Numbered], gone: &[Seq])
 pub fn lines_are_reached(run: &[Numbered], m: Seq)
     requires rise { RiseFrom 1 run.now }
     requires entered { is_entered m.0 run.now ≡ true }
-    ensures lines { (before : List Numbered) (f : Numbered) (after : List Numbered) → run.now ≡ before ++ f ∷ after → (has (reached run.now m.0) f.seq.0 ≡ true) ↔ IsFromLine run.now m.0 f }
-    ensures nodes { (before : List Numbered) (f : Numbered) (after : List Numbered) → run.now ≡ before ++ f ∷ after → is_node f.label ≡ true → (has (reached run.now m.0) f.seq.0 ≡ true) ↔ Marked run.now m.0 f }
+    ensures lines { (before : List Numbered) (f : Numbered) (after : List Numbered) → run.now ≡ before ++ f ∷ after
+        → (has (reached run.now m.0) f.seq.0 ≡ true) ↔ IsFromLine run.now m.0 f }
+    ensures nodes { (before : List Numbered) (f : Numbered) (after : List Numbered) → run.now ≡ before ++ f ∷ after
+        → is_node f.label ≡ true → (has (reached run.now m.0) f.seq.0 ≡ true) ↔ Marked run.now m.0 f }
 {}
 
 /// What the threads lose when what is reached from an Enter goes. No step touches a thread before it is spawned, so a
-/// thread whose spawn goes loses all its steps. The first step that any other thread loses, in which it acts, is the Enter, a Comm or a Get.
+/// thread whose spawn goes loses all its steps. The first step that any other thread loses, in which it acts, is the Enter,
+/// a Comm or a Get.
 pub fn first_lost(program: &Program, run: &[Numbered], m: Seq)
     requires { is_entered m.0 run.now ≡ true }
-    ensures unspawned { (s : State) → IsRun program.now run.now s → (before : List Numbered) (n : Numbered) (after : List Numbered) (u : ℕ) → run.now ≡ before ++ n ∷ after → is_at (spawned n.label) u ≡ true → is_touched u before ≡ false }
-    ensures all { (s : State) → IsRun program.now run.now s → (before : List Numbered) (n : Numbered) (after : List Numbered) (u : ℕ) → run.now ≡ before ++ n ∷ after → is_at (spawned n.label) u ≡ true → has (reached run.now m.0) n.seq.0 ≡ true
-        → (front : List Numbered) (f : Numbered) (back : List Numbered) → run.now ≡ front ++ f ∷ back → has (actors f.label) u ≡ true → has (reached run.now m.0) f.seq.0 ≡ true }
-    ensures first { RiseFrom 1 run.now → (before : List Numbered) (f : Numbered) (after : List Numbered) (t : ℕ) → run.now ≡ before ++ f ∷ after → has (reached run.now m.0) f.seq.0 ≡ true → has (actors f.label) t ≡ true
+    ensures unspawned { (s : State) → IsRun program.now run.now s
+        → (before : List Numbered) (n : Numbered) (after : List Numbered) (u : ℕ)
+        → run.now ≡ before ++ n ∷ after → is_at (spawned n.label) u ≡ true → is_touched u before ≡ false }
+    ensures all { (s : State) → IsRun program.now run.now s
+        → (before : List Numbered) (n : Numbered) (after : List Numbered) (u : ℕ)
+        → run.now ≡ before ++ n ∷ after → is_at (spawned n.label) u ≡ true → has (reached run.now m.0) n.seq.0 ≡ true
+        → (front : List Numbered) (f : Numbered) (back : List Numbered)
+        → run.now ≡ front ++ f ∷ back → has (actors f.label) u ≡ true → has (reached run.now m.0) f.seq.0 ≡ true }
+    ensures first { RiseFrom 1 run.now → (before : List Numbered) (f : Numbered) (after : List Numbered) (t : ℕ)
+        → run.now ≡ before ++ f ∷ after → has (reached run.now m.0) f.seq.0 ≡ true → has (actors f.label) t ≡ true
         → is_hit (has (reached run.now m.0)) t before ≡ false → (m.0 ≡ f.seq.0) ⊎ (is_meeting f.label ≡ true) }
 {}
 
@@ -100,12 +111,17 @@ pub fn cuts_hold(run: &[Numbered], m: Seq)
 /// No step on which a pin of the run depends is reached from a section that can be taken back, nor is the pin.
 pub fn pins_hold(run: &[Numbered], m: Seq)
     requires { RiseFrom 1 run.now }
-    ensures { is_revocable run.now m.0 ≡ true → (before : List Numbered) (e : Numbered) (after : List Numbered) → run.now ≡ before ++ e ∷ after
+    ensures { is_revocable run.now m.0 ≡ true
+        → (before : List Numbered) (e : Numbered) (after : List Numbered) → run.now ≡ before ++ e ∷ after
         → (pin : Numbered) → is_pin pin.label ≡ true → Reaches run.now e.seq.0 pin → has (reached run.now m.0) e.seq.0 ≡ false }
 {}
 
 /// Where a history stands for a run and a state, the run is what its undos left of its steps, and ends in the state. So
-/// the laws hold again of what is left after each undo.
+/// the laws hold again of what is left after each undo. It is the surviving journal where exactly the steps that the undos
+/// took away are struck.
 pub fn undone_twice(program: &Program)
-    ensures { (events : List Event) (run : List Numbered) (s : State) → StandsFor program.now events run s → (run ≡ run_of events) × IsRun program.now run s }
+    ensures left { (events : List Event) (run : List Numbered) (s : State) → StandsFor program.now events run s
+        → (run ≡ run_of events) × IsRun program.now run s }
+    ensures shown { (j : Journal) (run : List Numbered) (s : State) → IsStruckBack j → StandsFor program.now j.events run s
+        → Shows program.now j run s }
 {}
