@@ -1,8 +1,12 @@
 //! The laws of runs: what is left of a run without the steps that depend on one of them.
 #![tactic(auto)]
 
+#[cfg(test)]
+mod law_calls;
 mod laws;
 mod pass;
+#[cfg(test)]
+mod programs;
 #[cfg(test)]
 mod tests;
 
