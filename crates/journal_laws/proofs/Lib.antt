@@ -18,4 +18,5 @@ pub mod Undone
 pub mod Beside
 pub mod Without
 pub mod Spawned
+pub mod SpawnLost
 pub mod Entries

@@ -26,6 +26,7 @@ use Rattle.journal_laws.proofs.Lawful.{nothing_without, survive}
 use Rattle.stab_journal.specs.Reached.{nothing_lost}
 use Rattle.journal_laws.proofs.Marks.{marks_entered}
 use Rattle.journal_laws.proofs.Reaching.{rise_rest}
+use Rattle.journal_laws.proofs.SpawnLost.{spawn_lost}
 use Rattle.journal_laws.proofs.Surviving.{some_is, some_none, no_steps}
 
 -- what each step keeps, each run keeps
@@ -68,7 +69,7 @@ run_entered p s run r = marks_entered (language_of p) IsExprIn (kept p) run (sta
 pub survivor_from : (p : ProgramParts) (gone : ℕ → Bool) (s : PlainState) (run : List Numbered) (end : PlainState) → IsKnown IsExprIn s → RiseFrom 1 run → IsUpward (λ (n : Numbered). gone n.seq.0 ≡ true) run → after_steps (effect_of p) (Some s) run ≡ Some end → SurvivesFrom p gone s run end
 survivor_from p gone s run end known rise up is =
     let law = survive gone (effect_of p) (IsKnown IsExprIn) (closed p) s end run known is (closed_run gone run up) in
-    record { at = law.0; rises = rise_rest gone 1 run rise; known = law.1; lawful = law.2 }
+    record { at = law.0; rises = rise_rest gone 1 run rise; known = law.1; lawful = law.2; unspawned = spawn_lost (effect_of p) gone s end law.0 run law.2 is }
 
 pub survivor : (p : ProgramParts) (gone : ℕ → Bool) (run : List Numbered) (s : PlainState) → IsUpward (λ (n : Numbered). gone n.seq.0 ≡ true) run → IsRun p run s → Survives p gone run s
 survivor p gone run s up r = survivor_from p gone (start p) run s (start_known p) r.rises up r.ends

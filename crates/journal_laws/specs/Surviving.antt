@@ -6,7 +6,7 @@ use Rattle.stab_base.specs.Datum.{Datum}
 use Rattle.stab_base.specs.declared.numbers.Seq.{Seq}
 use Rattle.stab_journal.specs.declared.event.Numbered.{Numbered}
 use Rattle.stab_journal.specs.Journal.{RiseFrom}
-use Rattle.stab_journal.specs.Label.{touched, written}
+use Rattle.stab_journal.specs.Label.{spawned, touched, written}
 use Rattle.stab_journal.specs.Names.{has, is_at}
 use Rattle.stab_journal.specs.Reached.{rest}
 use Rattle.stab_code.specs.Program.{ProgramParts}
@@ -73,6 +73,9 @@ pub record SurvivesFrom (p : ProgramParts) (gone : ℕ → Bool) (start : PlainS
   pub rises : RiseFrom 1 (rest gone run)
   pub known : IsKnown IsExprIn at
   pub lawful : IsLawful (effect_of p) gone start run end at
+  -- a thread that a lost step spawns isn't there
+  pub unspawned : (u : ℕ) (before : List Numbered) (n : Numbered) (after : List Numbered) → run ≡ before ++ n ∷ after
+      → gone n.seq.0 ≡ true → is_at (spawned n.label) u ≡ true → map.get at.threads u ≡ None
 
 -- the same from the start state of the program
 abbrev pub Survives : ProgramParts → (ℕ → Bool) → List Numbered → PlainState → Type 0
