@@ -48,7 +48,8 @@ fn run_of(alloc: Global, lines: &[&str]) -> Result<Vec<Numbered>, Fail> {
     Ok(run)
 }
 
-// Exactly these numbers are reached from m, an Enter of the run.
+// Exactly these numbers are reached from m, an Enter of the run, and each law may be called. What the laws of programs ask
+// speaks of the run alone, so one program serves for all rows.
 fn expect_reached<R: AllocGlobal + Abort>(
     rt: &R,
     lines: &[&str],
@@ -61,6 +62,8 @@ fn expect_reached<R: AllocGlobal + Abort>(
     }
     call_laws_of_runs(&run, Seq(m));
     let found = reached(rt.alloc(), &run, Seq(m))?;
+    let program = Arc::new(rt.alloc(), one_section(rt.alloc())?)?;
+    call_laws_of_programs(rt.alloc(), &program, &run, Seq(m), &found)?;
     assert_eq!(rt; found.len(), numbers.len());
     for (q, number) in found.iter().zip(numbers) {
         assert_eq!(rt; q.0, *number);
@@ -161,16 +164,13 @@ fn a_channel_passes_nothing_on(rt: HostRuntime) -> Result<(), Fail> {
 
 #[test]
 fn a_section_that_is_taken_back(rt: HostRuntime) -> Result<(), Fail> {
-    let program = Arc::new(rt.alloc(), one_section(rt.alloc())?)?;
-    let run = run_of(rt.alloc(), &["1 enter 1; 2 probe 1 -1; 3 local 1 2"])?;
-    let m = Seq(1);
-    if !rises(&run) || !enters(&run, m) {
-        return Err(Fail::from("a run with a section"));
-    }
-    let gone = reached(rt.alloc(), &run, m)?;
-    assert_eq!(rt; gone.len(), 3);
-    call_laws_of_programs(rt.alloc(), &program, &run, m, &gone)?;
-    Ok(())
+    // A run of the program whose laws are called.
+    expect_reached(
+        &rt,
+        &["1 enter 1; 2 probe 1 -1; 3 local 1 2"],
+        1,
+        &[1, 2, 3],
+    )
 }
 
 // After an Enter a hundred thousand steps of a thousand threads: one of them writes a reference and one in ten reads it.
