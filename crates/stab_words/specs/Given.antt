@@ -1,5 +1,5 @@
 -- What words have given so far.
-use Rattle.std.specs.Prelude.{ℕ, Bool, true, false, List, [], ◌∷◌, Option, Some, None, option_map, is_some}
+use Rattle.std.specs.Prelude.{ℕ, Bool, List, [], ◌∷◌, Option, Some, None, option_map, is_some}
 use Rattle.stab_words.specs.declared.command.Setting.{Setting}
 use Rattle.stab_words.specs.declared.command.Setting.TheVariants.{Probes, Workers, Fuel, Quantum}
 use Rattle.stab_words.specs.declared.command.Place.{Place}

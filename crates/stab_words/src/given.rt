@@ -2,6 +2,7 @@
 ghost use Rattle.std.specs.Prelude.{◌≡◌, IfOk, OnOk, IsNone, None, Some, Ok};
 ghost use Rattle.stab_words.specs.Given.{fill, is_filled, is_given, name_in, nothing, set};
 ghost use Rattle.stab_words.specs.Asked.{Gives, or_fault};
+ghost use Rattle.stab_words.specs.Within.{IsGiven};
 ghost use Rattle.stab_words.specs.declared.request.WordFault.TheVariants.{BadValue};
 
 use crate::command::{Place, Setting};
@@ -34,7 +35,8 @@ pub struct Given {
 impl Given {
     /// Nothing yet.
     pub fn nothing() -> Given
-        ensures { result ≡ nothing }
+        ensures nothing { result ≡ nothing }
+        ensures within { IsGiven result }
     {
         Given {
             file: None,
@@ -78,7 +80,9 @@ impl Given {
         at: usize,
         value: &str,
     ) -> Result<Given, WordFault>
-        ensures { Gives (λ g. g) result (or_fault (set setting value.now self) (BadValue at)) }
+        requires { IsGiven self }
+        ensures given { Gives (λ g. g) result (or_fault (set setting value.now self) (BadValue at)) }
+        ensures within { IfOk result IsGiven }
     {
         let bad = WordFault::BadValue(at);
         Ok(match setting {
@@ -109,7 +113,9 @@ impl Given {
         at: usize,
         word: &str,
     ) -> Result<Given, WordFault>
-        ensures { Gives (λ g. g) result (or_fault (fill place word.now self) (BadValue at)) }
+        requires { IsGiven self }
+        ensures given { Gives (λ g. g) result (or_fault (fill place word.now self) (BadValue at)) }
+        ensures within { IfOk result IsGiven }
     {
         Ok(match place {
             Place::File => Given {

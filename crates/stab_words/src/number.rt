@@ -1,15 +1,17 @@
 //! Numbers in words.
-ghost use Rattle.std.specs.Prelude.{◌≡◌, ◌≤◌, length, true};
+ghost use Rattle.std.specs.Prelude.{◌≡◌, ◌≤◌, length, true, IfSome};
 ghost use Rattle.std.specs.Str.{all_ascii_digits};
 ghost use Rattle.std.specs.Option.{SomeIff};
 ghost use Rattle.stab_words.specs.Number.{number_in, value_of};
+ghost use Rattle.stab_words.specs.Within.{IsUpTo};
 
 /// How many digits a number has at most. Leading zeros count.
 const MAX_DIGITS: usize = 10;
 
 /// The number that a word is, if it is one from 1 to `most`.
 pub fn number_in(most: u64, word: &str) -> Option<u64>
-    ensures { result ≡ number_in most word.now }
+    ensures number { result ≡ number_in most word.now }
+    ensures within { IfSome result (IsUpTo most) }
 {
     if word.len() > MAX_DIGITS || !are_digits(word.as_bytes()) {
         return None;

@@ -1,7 +1,8 @@
 //! Reads the words from the left.
-ghost use Rattle.std.specs.Prelude.{◌≡◌, map as each, string_bytes, option_copied, IsTrue, ◌↔◌, find, not};
+ghost use Rattle.std.specs.Prelude.{◌≡◌, map as each, string_bytes, option_copied, IsTrue, ◌↔◌, find, not, IfOk};
 ghost use Rattle.stab_words.specs.Command.{places};
 ghost use Rattle.stab_words.specs.Given.{is_filled};
+ghost use Rattle.stab_words.specs.Within.{IsGiven, IsWithin};
 ghost use Rattle.stab_words.specs.Asked.{Gives, asked, begun, finished, name_of, option_of, optional, plain, read_from, request_of, step, written_value};
 
 use crate::command::{Command, Place, Setting, command_named, option_named};
@@ -39,7 +40,8 @@ struct Reading {
 
 /// What the words ask for, or the first fault from the left. The words are those after the program's name.
 pub fn read_words(alloc: Global, words: &[String]) -> Result<Request, WordFault>
-    ensures { Gives (λ request. request) result (asked (each string_bytes words.now)) }
+    ensures asked { Gives (λ request. request) result (asked (each string_bytes words.now)) }
+    ensures within { IfOk result IsWithin }
 {
     let Some((first, rest)) = words.split_first() else {
         return Err(WordFault::NoCommand);
@@ -51,7 +53,8 @@ pub fn read_words(alloc: Global, words: &[String]) -> Result<Request, WordFault>
 
 // Reads the words behind the command.
 fn read_rest(alloc: Global, command: Command, words: &[String]) -> Result<Reading, WordFault>
-    ensures { Gives (λ reading. reading) result (read_from command 1 (each string_bytes words.now) begun) }
+    ensures read { Gives (λ reading. reading) result (read_from command 1 (each string_bytes words.now) begun) }
+    ensures within { IfOk result (λ r. IsGiven r.given) }
 {
     let mut reading = Reading {
         given: Given::nothing(),
@@ -75,7 +78,9 @@ fn step(
     word: &str,
     reading: Reading,
 ) -> Result<Reading, WordFault>
-    ensures { Gives (λ r. r) result (step command at word.now reading.given reading.expects) }
+    requires { IsGiven reading.given }
+    ensures read { Gives (λ r. r) result (step command at word.now reading.given reading.expects) }
+    ensures within { IfOk result (λ r. IsGiven r.given) }
 {
     let given = reading.given;
     match reading.expects {
@@ -108,7 +113,9 @@ fn any_word(
     word: &str,
     given: Given,
 ) -> Result<Reading, WordFault>
-    ensures { Gives (λ r. r) result (step command at word.now given Expects.AnyWord) }
+    requires { IsGiven given }
+    ensures read { Gives (λ r. r) result (step command at word.now given Expects.AnyWord) }
+    ensures within { IfOk result (λ r. IsGiven r.given) }
 {
     match word.as_bytes() {
         b"--" => Ok(Reading {
@@ -135,7 +142,9 @@ fn option(
     word: &str,
     given: Given,
 ) -> Result<Reading, WordFault>
-    ensures { Gives (λ r. r) result (optional command at word.now given) }
+    requires { IsGiven given }
+    ensures read { Gives (λ r. r) result (optional command at word.now given) }
+    ensures within { IfOk result (λ r. IsGiven r.given) }
 {
     let (name, value) = name_and_value(word);
     let setting = option_of(command, at, name, &given)?;
@@ -187,7 +196,9 @@ fn plain(
     word: &str,
     given: Given,
 ) -> Result<Given, WordFault>
-    ensures { Gives (λ g. g) result (plain command at word.now given) }
+    requires { IsGiven given }
+    ensures given { Gives (λ g. g) result (plain command at word.now given) }
+    ensures within { IfOk result IsGiven }
 {
     let place = empty_place(command, &given).ok_or(WordFault::ExtraWord(at))?;
     given.fill(alloc, place, at, word)
@@ -206,7 +217,9 @@ fn empty_place(command: Command, given: &Given) -> Option<Place>
 
 // What the command is asked for, once all words were read.
 fn finished(command: Command, reading: Reading) -> Result<Request, WordFault>
-    ensures { result ≡ finished command reading.given reading.expects }
+    requires { IsGiven reading.given }
+    ensures request { result ≡ finished command reading.given reading.expects }
+    ensures within { IfOk result IsWithin }
 {
     if let Expects::ValueOf(_, at) = reading.expects {
         return Err(WordFault::NoValue(at));

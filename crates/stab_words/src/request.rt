@@ -1,6 +1,7 @@
 //! What can be asked for, and why words can be refused.
 
 ghost use Rattle.std.specs.Prelude.{◌≡◌};
+ghost use Rattle.stab_words.specs.FaultText.{fault_name, fault_word};
 ghost use Rattle.stab_words.specs.declared.request.WordFault.TheVariants.{NoMemory};
 
 use crate::name::Name;
@@ -106,6 +107,42 @@ pub enum WordFault {
     ExtraWord(usize),
     /// The memory for the names isn't there.
     NoMemory,
+}
+
+impl WordFault {
+    /// The name by which a reason names the fault.
+    pub fn name(self) -> &'static str
+        ensures { result.now ≡ fault_name self }
+    {
+        match self {
+            WordFault::NoCommand => "NoCommand",
+            WordFault::UnknownCommand => "UnknownCommand",
+            WordFault::UnknownOption(_) => "UnknownOption",
+            WordFault::Repeated(_) => "Repeated",
+            WordFault::NoValue(_) => "NoValue",
+            WordFault::BadValue(_) => "BadValue",
+            WordFault::MissingWord => "MissingWord",
+            WordFault::ExtraWord(_) => "ExtraWord",
+            WordFault::NoMemory => "NoMemory",
+        }
+    }
+
+    /// The number of the word that the fault is about, if it is about one.
+    pub fn word(self) -> Option<usize>
+        ensures { result ≡ fault_word self }
+    {
+        match self {
+            WordFault::UnknownOption(at)
+            | WordFault::Repeated(at)
+            | WordFault::NoValue(at)
+            | WordFault::BadValue(at)
+            | WordFault::ExtraWord(at) => Some(at),
+            WordFault::NoCommand
+            | WordFault::UnknownCommand
+            | WordFault::MissingWord
+            | WordFault::NoMemory => None,
+        }
+    }
 }
 
 impl From<AllocError> for WordFault {

@@ -1,4 +1,5 @@
-//! Tables of words. The words of a line stand between single spaces, so two in a row have an empty word between them.
+//! Tables of words with what they ask for, or their fault.
+//! The words of a line stand between single spaces, so two in a row have an empty word between them.
 
 use crate::name::Name;
 use crate::reading::read_words;
@@ -6,113 +7,14 @@ use crate::request::{Request, RunArgs, WordFault};
 use std::alloc::{AllocError, Global};
 use std::test::Fail;
 
-const FAULTS: [(&str, WordFault); 61] = [
-    ("", WordFault::UnknownCommand),
-    ("walk a", WordFault::UnknownCommand),
-    ("Run a", WordFault::UnknownCommand),
-    ("läuft a", WordFault::UnknownCommand),
-    ("-- run a", WordFault::UnknownCommand),
-    ("run", WordFault::MissingWord),
-    ("run a b", WordFault::ExtraWord(2)),
-    ("run a --speed 3", WordFault::UnknownOption(2)),
-    ("run a --probes", WordFault::NoValue(2)),
-    ("run a --fuel 0", WordFault::BadValue(2)),
-    ("run a --fuel 5 --fuel=6", WordFault::Repeated(4)),
-    ("run a --fuel=5 --fuel", WordFault::Repeated(3)),
-    ("run --fuel 5", WordFault::MissingWord),
-    ("run --fuel 5 --", WordFault::MissingWord),
-    ("run --fuel -- a", WordFault::NoValue(1)),
-    ("run --fuel -5 a", WordFault::NoValue(1)),
-    ("run --probes --fuel=5 a", WordFault::NoValue(1)),
-    ("run a --probes -", WordFault::NoValue(2)),
-    ("run a --fuel", WordFault::NoValue(2)),
-    ("run -", WordFault::UnknownOption(1)),
-    ("run a -p", WordFault::UnknownOption(2)),
-    ("run -- a -- b", WordFault::ExtraWord(3)),
-    ("run -- --fuel --", WordFault::ExtraWord(3)),
-    ("run a --=5", WordFault::UnknownOption(2)),
-    ("run a --fuel2=5", WordFault::UnknownOption(2)),
-    ("run a --füel=5", WordFault::UnknownOption(2)),
-    ("run a --fuel=", WordFault::BadValue(2)),
-    ("run a --fuel ", WordFault::BadValue(2)),
-    ("run a --fuel=5=5", WordFault::BadValue(2)),
-    ("run a --fuel=+5", WordFault::BadValue(2)),
-    ("run a --fuel=-5", WordFault::BadValue(2)),
-    ("run a --fuel=0x5", WordFault::BadValue(2)),
-    ("run a --fuel=٥", WordFault::BadValue(2)),
-    ("run a --fuel=16000001", WordFault::BadValue(2)),
-    ("run a --fuel=00016000000", WordFault::BadValue(2)),
-    (
-        "run a --fuel=99999999999999999999999",
-        WordFault::BadValue(2),
-    ),
-    ("run a --quantum=10001", WordFault::BadValue(2)),
-    ("run a --workers 65", WordFault::BadValue(2)),
-    ("run a --workers=00", WordFault::BadValue(2)),
-    ("run a --probes=", WordFault::BadValue(2)),
-    ("run ", WordFault::BadValue(1)),
-    ("run -- ", WordFault::BadValue(2)),
-    ("run a --speed --speed b c", WordFault::UnknownOption(2)),
-    ("trace a --size 3", WordFault::UnknownOption(2)),
-    ("trace --workers=4 --workers=4 a", WordFault::Repeated(2)),
-    ("verify a", WordFault::MissingWord),
-    ("verify a b c", WordFault::ExtraWord(3)),
-    ("verify a b --fuel 5", WordFault::UnknownOption(3)),
-    ("drill a s --workers 2", WordFault::UnknownOption(3)),
-    ("drill --quantum 0 a s", WordFault::BadValue(1)),
-    ("check a --probes p", WordFault::UnknownOption(2)),
-    ("check", WordFault::MissingWord),
-    ("mill 0", WordFault::BadValue(1)),
-    ("mill 10001", WordFault::BadValue(1)),
-    ("mill 5 --probes p", WordFault::UnknownOption(2)),
-    ("types a b", WordFault::ExtraWord(2)),
-    ("types a --fuel=1", WordFault::UnknownOption(2)),
-    ("save a t", WordFault::MissingWord),
-    ("save a t x", WordFault::BadValue(3)),
-    ("resume i --workers 2", WordFault::UnknownOption(2)),
-    ("watch a --fuel --", WordFault::NoValue(2)),
-];
-
-// The words of a request, and it as it was read: the command, the places, and the options in the order probes, workers,
-// fuel and quantum, with `.` where no probes are given.
-const REQUESTS: [(&str, &str); 24] = [
-    ("run a", "run a . 4 1000000 1000"),
-    (
-        "run a --probes p --workers 1 --fuel 5 --quantum 7",
-        "run a p 1 5 7",
-    ),
-    (
-        "run --probes=p --workers=64 --fuel=16000000 --quantum=10000 a",
-        "run a p 64 16000000 10000",
-    ),
-    ("run --fuel 0000000005 a", "run a . 4 5 1000"),
-    ("run --fuel=0000000005 -- a", "run a . 4 5 1000"),
-    ("run -- -", "run - . 4 1000000 1000"),
-    ("run -- --", "run -- . 4 1000000 1000"),
-    ("run -- --fuel=5", "run --fuel=5 . 4 1000000 1000"),
-    ("run --probes=-p a=b", "run a=b -p 4 1000000 1000"),
-    ("run --probes=p=q é", "run é p=q 4 1000000 1000"),
-    ("run a --", "run a . 4 1000000 1000"),
-    ("trace a --quantum 1", "trace a . 4 1000000 1"),
-    ("watch --workers 01 a", "watch a . 1 1000000 1000"),
-    ("verify a t", "verify a t ."),
-    ("verify a --probes p t", "verify a t p"),
-    (
-        "drill a s --fuel 1 --quantum 2 --probes p",
-        "drill a s p 1 2",
-    ),
-    ("drill -- a -s", "drill a -s . 1000000 1000"),
-    ("check run", "check run"),
-    ("types a", "types a"),
-    ("mill 10000", "mill 10000 4 1000000 1000"),
-    (
-        "mill --workers 8 0000000001 --fuel=2 --quantum 3",
-        "mill 1 8 2 3",
-    ),
-    ("save a t 00003 --probes p", "save a t 3 p"),
-    ("resume i", "resume i 1000000 1000"),
-    ("resume --fuel 4 i --quantum 5", "resume i 4 5"),
-];
+// What a line of words asks for, or its fault with the word's number.
+fn answer(alloc: Global, line: &str) -> Result<String, Fail> {
+    let text = match read_words(alloc, &words(alloc, line)?) {
+        Ok(request) => request_text(alloc, &request)?,
+        Err(fault) => fault_text(alloc, fault)?,
+    };
+    Ok(text)
+}
 
 fn words(alloc: Global, line: &str) -> Result<Vec<String>, AllocError> {
     let mut words = Vec::new(alloc);
@@ -120,6 +22,14 @@ fn words(alloc: Global, line: &str) -> Result<Vec<String>, AllocError> {
         words.push(String::from_str(alloc, word)?)?;
     }
     Ok(words)
+}
+
+fn fault_text(alloc: Global, fault: WordFault) -> Result<String, AllocError> {
+    let name = fault.name();
+    match fault.word() {
+        Some(word) => format!(in alloc; "{name} {word}"),
+        None => format!(in alloc; "{name}"),
+    }
 }
 
 fn run_text(alloc: Global, command: &str, run: &RunArgs) -> Result<String, AllocError> {
@@ -135,6 +45,7 @@ fn probes_text(probes: &Option<Name>) -> &str {
     }
 }
 
+// The command, the places, and the options in the order probes, workers, fuel and quantum, with `.` where no probes are given.
 fn request_text(alloc: Global, request: &Request) -> Result<String, AllocError> {
     match request {
         Request::Run(run) => run_text(alloc, "run", run),
@@ -175,27 +86,243 @@ fn request_text(alloc: Global, request: &Request) -> Result<String, AllocError> 
     }
 }
 
-#[test]
-fn words_are_refused(rt: HostRuntime) -> Result<(), Fail> {
-    let none = read_words(rt.alloc(), &Vec::new(rt.alloc()));
-    assert_eq!(rt; none.err(), Some(WordFault::NoCommand));
-    for (line, fault) in FAULTS {
-        let request = read_words(rt.alloc(), &words(rt.alloc(), line)?);
-        assert_eq!(rt; request.err(), Some(fault), "{line}");
+// Each line of the table is words, ` -> ` and their answer.
+fn answers(alloc: Global, table: &str) -> Result<(), Fail> {
+    for row in table.lines() {
+        let (line, expected) = row.split_once(" -> ").ok_or("no arrow")?;
+        let answer = answer(alloc, line)?;
+        if answer.as_str() != expected {
+            return Err(Fail::from(format!(in alloc; "{row}, and not {answer}")?));
+        }
     }
     Ok(())
 }
 
 #[test]
-fn words_are_read(rt: HostRuntime) -> Result<(), Fail> {
-    for (line, expected) in REQUESTS {
-        match read_words(rt.alloc(), &words(rt.alloc(), line)?) {
-            Ok(request) => {
-                let text = request_text(rt.alloc(), &request)?;
-                assert_eq!(rt; text.as_str(), expected);
-            }
-            Err(fault) => assert_eq!(rt; Some(fault), None, "{line}"),
-        }
-    }
+fn without_words(rt: HostRuntime) -> Result<(), Fail> {
+    let none = read_words(rt.alloc(), &Vec::new(rt.alloc()));
+    assert_eq!(rt; none.err(), Some(WordFault::NoCommand));
     Ok(())
+}
+
+const RUN: &str = "\
+run -> MissingWord\n\
+run a b -> ExtraWord 2\n\
+run a --speed 3 -> UnknownOption 2\n\
+run a --probes -> NoValue 2\n\
+run a --fuel 5 --fuel=6 -> Repeated 4\n\
+run a --fuel=5 --fuel -> Repeated 3\n\
+run --fuel 5 -> MissingWord\n\
+run --fuel 5 -- -> MissingWord\n\
+run -- -> MissingWord\n\
+run --fuel -- a -> NoValue 1\n\
+run --fuel -5 a -> NoValue 1\n\
+run --probes --fuel=5 a -> NoValue 1\n\
+run a --probes - -> NoValue 2\n\
+run a --fuel -> NoValue 2\n\
+run - -> UnknownOption 1\n\
+run a -p -> UnknownOption 2\n\
+run - --speed -> UnknownOption 1\n\
+run -- a -- b -> ExtraWord 3\n\
+run -- a -- -> ExtraWord 3\n\
+run a -- -- -> ExtraWord 3\n\
+run -- --fuel -- -> ExtraWord 3\n\
+run a --=5 -> UnknownOption 2\n\
+run a --fuel2=5 -> UnknownOption 2\n\
+run a --Fuel=5 -> UnknownOption 2\n\
+run a --füel=5 -> UnknownOption 2\n\
+run a --speed --speed b c -> UnknownOption 2\n\
+run a -> run a . 4 1000000 1000\n\
+run a --probes p --workers 1 --fuel 5 --quantum 7 -> run a p 1 5 7\n\
+run --probes=p --workers=64 --fuel=16000000 --quantum=10000 a -> run a p 64 16000000 10000\n\
+run --fuel=1 a --quantum=2 -> run a . 4 1 2\n\
+run --fuel 0000000005 a -> run a . 4 5 1000\n\
+run --fuel=0000000005 -- a -> run a . 4 5 1000\n\
+run -- a -> run a . 4 1000000 1000\n\
+run a -- -> run a . 4 1000000 1000\n\
+run a --fuel=5 -- -> run a . 4 5 1000\n\
+run -- - -> run - . 4 1000000 1000\n\
+run -- -- -> run -- . 4 1000000 1000\n\
+run -- --fuel=5 -> run --fuel=5 . 4 1000000 1000\n\
+run --probes=-p a=b -> run a=b -p 4 1000000 1000\n\
+run --probes=p=q é -> run é p=q 4 1000000 1000\n\
+run --probes run run -> run run run 4 1000000 1000\n\
+";
+
+#[test]
+fn words_of_run(rt: HostRuntime) -> Result<(), Fail> {
+    answers(rt.alloc(), RUN)
+}
+
+const VALUES: &str = "\
+run a --fuel 0 -> BadValue 2\n\
+run a --fuel= -> BadValue 2\n\
+run a --fuel  -> BadValue 2\n\
+run a --fuel=5=5 -> BadValue 2\n\
+run a --fuel=+5 -> BadValue 2\n\
+run a --fuel=-5 -> BadValue 2\n\
+run a --fuel=0x5 -> BadValue 2\n\
+run a --fuel=٥ -> BadValue 2\n\
+run a --fuel=16000001 -> BadValue 2\n\
+run a --fuel=00016000000 -> BadValue 2\n\
+run a --fuel=99999999999999999999999 -> BadValue 2\n\
+run a --quantum=10001 -> BadValue 2\n\
+run a --workers 65 -> BadValue 2\n\
+run a --workers=00 -> BadValue 2\n\
+run a --probes= -> BadValue 2\n\
+run  -> BadValue 1\n\
+run --  -> BadValue 2\n\
+";
+
+#[test]
+fn values_that_are_refused(rt: HostRuntime) -> Result<(), Fail> {
+    answers(rt.alloc(), VALUES)
+}
+
+const TRACE: &str = "\
+trace -> MissingWord\n\
+trace a --workers 1 b -> ExtraWord 4\n\
+trace a --size 3 -> UnknownOption 2\n\
+trace --workers=4 --workers=4 a -> Repeated 2\n\
+trace a --quantum -- -> NoValue 2\n\
+trace --workers=65 a -> BadValue 1\n\
+trace a --quantum 1 -> trace a . 4 1000000 1\n\
+trace --quantum 1 -- a -> trace a . 4 1000000 1\n\
+watch -> MissingWord\n\
+watch a --workers 1 b -> ExtraWord 4\n\
+watch a --size 3 -> UnknownOption 2\n\
+watch --workers=4 --workers=4 a -> Repeated 2\n\
+watch a --quantum -- -> NoValue 2\n\
+watch --workers=65 a -> BadValue 1\n\
+watch --workers 01 a -> watch a . 1 1000000 1000\n\
+watch a --probes=p -> watch a p 4 1000000 1000\n\
+";
+
+#[test]
+fn words_of_trace_and_watch(rt: HostRuntime) -> Result<(), Fail> {
+    answers(rt.alloc(), TRACE)
+}
+
+const VERIFY: &str = "\
+verify -> MissingWord\n\
+verify a -> MissingWord\n\
+verify -- a -> MissingWord\n\
+verify a b c -> ExtraWord 3\n\
+verify a b --fuel 5 -> UnknownOption 3\n\
+verify a --workers=1 b -> UnknownOption 2\n\
+verify --probes p --probes p a b -> Repeated 3\n\
+verify a b --probes -> NoValue 3\n\
+verify a  -> BadValue 2\n\
+verify a t -> verify a t .\n\
+verify a --probes p t -> verify a t p\n\
+verify --probes p a -- t -> verify a t p\n\
+verify -- a t -> verify a t .\n\
+drill -> MissingWord\n\
+drill a -> MissingWord\n\
+drill a s t -> ExtraWord 3\n\
+drill a s --workers 2 -> UnknownOption 3\n\
+drill --fuel=1 a --fuel=1 s -> Repeated 3\n\
+drill a s --quantum -> NoValue 3\n\
+drill --quantum 0 a s -> BadValue 1\n\
+drill a s --fuel 1 --quantum 2 --probes p -> drill a s p 1 2\n\
+drill --fuel=1 a s -> drill a s . 1 1000\n\
+drill -- a -s -> drill a -s . 1000000 1000\n\
+drill a -- -s -> drill a -s . 1000000 1000\n\
+";
+
+#[test]
+fn words_of_verify_and_drill(rt: HostRuntime) -> Result<(), Fail> {
+    answers(rt.alloc(), VERIFY)
+}
+
+const CHECK: &str = "\
+check -> MissingWord\n\
+check -- -> MissingWord\n\
+check a b -> ExtraWord 2\n\
+check a --probes p -> UnknownOption 2\n\
+check --fuel=1 a -> UnknownOption 1\n\
+check  -> BadValue 1\n\
+check run -> check run\n\
+check -- -a -> check -a\n\
+types -> MissingWord\n\
+types -- -> MissingWord\n\
+types a b -> ExtraWord 2\n\
+types a --probes p -> UnknownOption 2\n\
+types --fuel=1 a -> UnknownOption 1\n\
+types  -> BadValue 1\n\
+types a -> types a\n\
+types a -- -> types a\n\
+";
+
+#[test]
+fn words_of_check_and_types(rt: HostRuntime) -> Result<(), Fail> {
+    answers(rt.alloc(), CHECK)
+}
+
+const MILL: &str = "\
+mill -> MissingWord\n\
+mill 5 6 -> ExtraWord 2\n\
+mill 5 --probes p -> UnknownOption 2\n\
+mill --fuel 2 5 --fuel 2 -> Repeated 4\n\
+mill 5 --workers -> NoValue 2\n\
+mill 0 -> BadValue 1\n\
+mill 10001 -> BadValue 1\n\
+mill 00000000001 -> BadValue 1\n\
+mill x -> BadValue 1\n\
+mill  -> BadValue 1\n\
+mill -5 -> UnknownOption 1\n\
+mill -- -5 -> BadValue 2\n\
+mill 10000 -> mill 10000 4 1000000 1000\n\
+mill --workers 8 0000000001 --fuel=2 --quantum 3 -> mill 1 8 2 3\n\
+mill -- 5 -> mill 5 4 1000000 1000\n\
+";
+
+#[test]
+fn words_of_mill(rt: HostRuntime) -> Result<(), Fail> {
+    answers(rt.alloc(), MILL)
+}
+
+const SAVE: &str = "\
+save -> MissingWord\n\
+save a t -> MissingWord\n\
+save a t 1 2 -> ExtraWord 4\n\
+save a t 1 --fuel 1 -> UnknownOption 4\n\
+save --probes=p a t 1 --probes=p -> Repeated 5\n\
+save a t --probes -> NoValue 3\n\
+save a t x -> BadValue 3\n\
+save a t 10001 -> BadValue 3\n\
+save a  1 -> BadValue 2\n\
+save a t 00003 --probes p -> save a t 3 p\n\
+save --probes=p a t 1 -> save a t 1 p\n\
+save a -- t 10000 -> save a t 10000 .\n\
+resume -> MissingWord\n\
+resume i j -> ExtraWord 2\n\
+resume i --workers 2 -> UnknownOption 2\n\
+resume i --probes p -> UnknownOption 2\n\
+resume --fuel 1 i --fuel 1 -> Repeated 4\n\
+resume i --fuel -> NoValue 2\n\
+resume i --quantum= -> BadValue 2\n\
+resume i -> resume i 1000000 1000\n\
+resume --fuel 4 i --quantum 5 -> resume i 4 5\n\
+resume -- i -> resume i 1000000 1000\n\
+";
+
+#[test]
+fn words_of_save_and_resume(rt: HostRuntime) -> Result<(), Fail> {
+    answers(rt.alloc(), SAVE)
+}
+
+const UNKNOWN: &str = "\
+\x20-> UnknownCommand\n\
+walk a -> UnknownCommand\n\
+Run a -> UnknownCommand\n\
+läuft a -> UnknownCommand\n\
+-- run a -> UnknownCommand\n\
+--fuel=5 run a -> UnknownCommand\n\
+- -> UnknownCommand\n\
+";
+
+#[test]
+fn unknown_commands(rt: HostRuntime) -> Result<(), Fail> {
+    answers(rt.alloc(), UNKNOWN)
 }
