@@ -1,3 +1,4 @@
+pub mod Bounds
 pub mod CutSteps
 pub mod Found
 pub mod LawLemmas

@@ -61,8 +61,8 @@ pub record IsLinked (xs : List Reference) (es : List Recent) : Type 0 where
   pub links : (i : ℕ) (d : Recent) → i < length es → nat_eq (slice_index_or es i d).number.0 0 ≡ false → (slice_index_or es i d).before ≡ last_place (slice_index_or es i d).reference.0 (take i es)
 
 -- for how many more recent writes there is room: a place has 32 bits
-abbrev pub room_in : {Z : Type 0} → Vec Recent Z → ℕ
-room_in es = min (vec_capacity es) 4294967295 - vec_len es
+abbrev pub spare_in : {Z : Type 0} → Vec Recent Z → ℕ
+spare_in es = min (vec_capacity es) 4294967295 - vec_len es
 
 -- a reference that has writes is there
 abbrev pub with_writes : ℕ → List Write → FinMap nat_cmp (List Write) → FinMap nat_cmp (List Write)
@@ -80,7 +80,7 @@ log_of last_cut xs recent = record {
   last_cut = last_cut;
   references = by_number 0 xs recent.items;
   places = length xs;
-  spare = room_in recent;
+  spare = spare_in recent;
 }
 
 -- the log is in order, its places are linked and have 32 bits, and a settled write isn't above the last cut

@@ -2,7 +2,7 @@
 ghost use Rattle.std.specs.Prelude.{◌≡◌, ◌≢◌, ◌<◌, ◌≤◌, ◌+◌, ◌∷◌, ◌++◌, [], ℕ, false, length, take, drop, nat_eq, nat_lt, not, ◌&&◌, if◌then◌else◌};
 ghost use Rattle.std.specs.List.{AllByRecursion};
 ghost use Rattle.ref_log.specs.Log.{kept, IsRising};
-ghost use Rattle.ref_log.specs.Layout.{held, is_of, write_of, of_reference, settled_at, head_at, room_in, IsLinked};
+ghost use Rattle.ref_log.specs.Layout.{held, is_of, write_of, of_reference, settled_at, head_at, spare_in, IsLinked};
 
 use crate::places::{Recent, Reference, Settled};
 use stab_base::{RefId, Seq, Value};
@@ -15,11 +15,12 @@ pub fn cut(references: &mut Vec<Reference>, recent: &mut Vec<Recent>, q: Seq)
     requires rising { (s : ℕ) → IsRising (held references.old.items recent.old.items s) }
     requires few { length recent.old.items ≤ 4294967295 }
     requires settled { (s : ℕ) → AllByRecursion (λ w. w.number ≤ q.0) (settled_at references.old.items s) }
-    ensures writes { (s : ℕ) → held references.new.items recent.new.items s ≡ kept q.0 (held references.old.items recent.old.items s) }
+    ensures writes { (s : ℕ) → held references.new.items recent.new.items s
+        ≡ kept q.0 (held references.old.items recent.old.items s) }
     ensures settled { (s : ℕ) → AllByRecursion (λ w. w.number ≤ q.0) (settled_at references.new.items s) }
     ensures linked { IsLinked references.new.items recent.new.items }
     ensures places { length references.new.items ≡ length references.old.items }
-    ensures room { room_in recent.old ≤ room_in recent.new }
+    ensures spare { spare_in recent.old ≤ spare_in recent.new }
     ensures fewer { length recent.new.items ≤ length recent.old.items }
 {
     forget_heads(references, recent);

@@ -13,7 +13,8 @@ use std::marker::Model;
 /// each reference the last one below it.
 ///
 /// `make`, `write` and `read` take constant time, `strike` as long as the reference has recent writes
-/// from there on, and `cut` as long as there are recent writes.
+/// from there on, and `cut` as long as there are recent writes. So a caller that strikes several strikes
+/// the last one first: each then takes constant time.
 #[derive(Drop)]
 pub struct RefLog {
     last_cut: Seq,
@@ -67,10 +68,10 @@ impl RefLog {
     /// Adds a reference with its first write.
     pub fn make(&mut self, r: RefId, q: Seq, v: Value)
         requires allowed { IsAllowed (made r.0 q.0 v) self.old }
-        requires room { 1 ≤ self.old.spare }
+        requires spare { 1 ≤ self.old.spare }
         requires place { r.0 < self.old.places }
         ensures after { IsAfter (made r.0 q.0 v) self.old self.new }
-        ensures room { self.new.spare ≡ self.old.spare - 1 }
+        ensures spare { self.new.spare ≡ self.old.spare - 1 }
         ensures places { self.new.places ≡ self.old.places }
     {
         places::append(&mut self.references, &mut self.recent, r, q, v);
@@ -79,9 +80,9 @@ impl RefLog {
     /// Adds a write of a reference that is there.
     pub fn write(&mut self, r: RefId, q: Seq, v: Value)
         requires allowed { IsAllowed (wrote r.0 q.0 v) self.old }
-        requires room { 1 ≤ self.old.spare }
+        requires spare { 1 ≤ self.old.spare }
         ensures after { IsAfter (wrote r.0 q.0 v) self.old self.new }
-        ensures room { self.new.spare ≡ self.old.spare - 1 }
+        ensures spare { self.new.spare ≡ self.old.spare - 1 }
         ensures places { self.new.places ≡ self.old.places }
     {
         places::append(&mut self.references, &mut self.recent, r, q, v);
@@ -100,7 +101,7 @@ impl RefLog {
     pub fn strike(&mut self, r: RefId, q: Seq)
         requires { IsAllowed (struck r.0 q.0) self.old }
         ensures after { IsAfter (struck r.0 q.0) self.old self.new }
-        ensures room { self.old.spare ≤ self.new.spare }
+        ensures spare { self.old.spare ≤ self.new.spare }
         ensures places { self.new.places ≡ self.old.places }
     {
         strike::strike(&mut self.references, &mut self.recent, r, q);
@@ -110,7 +111,7 @@ impl RefLog {
     pub fn cut(&mut self, q: Seq)
         requires { IsAllowed (cut q.0) self.old }
         ensures after { IsAfter (cut q.0) self.old self.new }
-        ensures room { self.old.spare ≤ self.new.spare }
+        ensures spare { self.old.spare ≤ self.new.spare }
         ensures places { self.new.places ≡ self.old.places }
     {
         cut::cut(&mut self.references, &mut self.recent, q);

@@ -2,7 +2,7 @@
 ghost use Rattle.std.specs.Prelude.{◌≡◌, ◌<◌, ◌≤◌, ◌+◌, ◌-◌, ℕ, length, nat_eq, option_map, OnOk, OnErr, IsOk, if◌then◌else◌, vec_len};
 ghost use Rattle.ref_log.specs.Log.{last_of};
 ghost use Rattle.ref_log.specs.Calls.{written};
-ghost use Rattle.ref_log.specs.Layout.{held, settled_at, head_at, room_in, IsLinked};
+ghost use Rattle.ref_log.specs.Layout.{held, settled_at, head_at, spare_in, IsLinked};
 
 use stab_base::{NoMemory, RefId, Seq, Value};
 
@@ -59,14 +59,14 @@ pub fn make_place(references: &mut Vec<Reference>, r: RefId) -> Result<(), NoMem
 pub fn append(references: &mut Vec<Reference>, recent: &mut Vec<Recent>, r: RefId, q: Seq, v: Value)
     requires there { r.0 < length references.old.items }
     requires some { 1 ≤ q.0 }
-    requires room { 1 ≤ room_in recent.old }
+    requires spare { 1 ≤ spare_in recent.old }
     requires linked { IsLinked references.old.items recent.old.items }
     ensures writes { (s : ℕ) → held references.new.items recent.new.items s
         ≡ (if nat_eq r.0 s then written (held references.old.items recent.old.items s) q.0 v else held references.old.items recent.old.items s) }
     ensures settled { (s : ℕ) → settled_at references.new.items s ≡ settled_at references.old.items s }
     ensures linked { IsLinked references.new.items recent.new.items }
     ensures places { length references.new.items ≡ length references.old.items }
-    ensures room { room_in recent.new ≡ room_in recent.old - 1 }
+    ensures spare { spare_in recent.new ≡ spare_in recent.old - 1 }
     ensures few { length recent.new.items ≤ 4294967295 }
 {
     let reference = &mut references[r.0 as usize];

@@ -1,7 +1,7 @@
 //! How a recent write is taken away.
 ghost use Rattle.std.specs.Prelude.{◌≡◌, ◌<◌, ◌≤◌, ◌+◌, ◌-◌, ℕ, length, nat_eq, IsTrue, if◌then◌else◌};
 ghost use Rattle.ref_log.specs.Log.{has_write, without, IsRising};
-ghost use Rattle.ref_log.specs.Layout.{held, of_reference, settled_at, room_in, IsLinked};
+ghost use Rattle.ref_log.specs.Layout.{held, of_reference, settled_at, spare_in, IsLinked};
 ghost use Rattle.ref_log.specs.Struck.{IsFound};
 
 use crate::places::{Recent, Reference};
@@ -26,7 +26,7 @@ pub fn strike(references: &mut Vec<Reference>, recent: &mut Vec<Recent>, r: RefI
     ensures settled { (s : ℕ) → settled_at references.new.items s ≡ settled_at references.old.items s }
     ensures linked { IsLinked references.new.items recent.new.items }
     ensures places { length references.new.items ≡ length references.old.items }
-    ensures room { room_in recent.old ≤ room_in recent.new }
+    ensures spare { spare_in recent.old ≤ spare_in recent.new }
     ensures fewer { length recent.new.items ≤ length recent.old.items }
 {
     let found = find(references, recent, r, q);
@@ -81,7 +81,7 @@ fn drop_holes_at_end(references: &[Reference], recent: &mut Vec<Recent>)
     requires { IsLinked references.now recent.old.items }
     ensures recent { (s : ℕ) → of_reference s recent.new.items ≡ of_reference s recent.old.items }
     ensures linked { IsLinked references.now recent.new.items }
-    ensures room { room_in recent.old ≤ room_in recent.new }
+    ensures spare { spare_in recent.old ≤ spare_in recent.new }
     ensures fewer { length recent.new.items ≤ length recent.old.items }
 {
     while let Some(last) = recent.last() {

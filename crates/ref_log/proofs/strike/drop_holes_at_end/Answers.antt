@@ -17,7 +17,7 @@ loop-last-preserved-else-last-ne0 c =
     record {
       writes = λ s. popped.0 s ∙ c.loop-last.invariant.writes s;
       linked = popped.1;
-      room = omega (arith, c.loop-last.invariant.room, shorter, c.pop-hole.ensures.capacity);
+      spare = omega (arith, c.loop-last.invariant.spare, shorter, c.pop-hole.ensures.capacity);
       fewer = omega (arith, c.loop-last.invariant.fewer, shorter, c.loop-last.recent.ok.0, c.pop-hole.new.self.ok.0);
     }
 
@@ -34,6 +34,6 @@ loop-last-preserved-else-last-ne0-2 c =
     record {
       writes = λ s. popped.0 s ∙ c.loop-last.invariant.writes s;
       linked = popped.1;
-      room = omega (arith, c.loop-last.invariant.room, shorter, c.pop-hole.ensures.capacity);
+      spare = omega (arith, c.loop-last.invariant.spare, shorter, c.pop-hole.ensures.capacity);
       fewer = omega (arith, c.loop-last.invariant.fewer, shorter, c.loop-last.recent.ok.0, c.pop-hole.new.self.ok.0);
     }
