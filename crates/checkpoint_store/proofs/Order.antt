@@ -89,6 +89,22 @@ module _ {C : Type 0} where
   pub rises-partitioned : (es : List (Entry C)) (k : Place) → Rises (places_of es) → IsPartitionedBy (λ (e : Entry C). is_below e.place k) es
   rises-partitioned es k rises = λ i j d early within low. by_cases es k i j d rises (less_or_same i j early) within low
 
+  -- where an entry is below a place, so is each before it
+  pub under_more : (es : List (Entry C)) (k : Place) (i : ℕ) (e : Entry C) → Rises (places_of es) → i < length es → e ≡ slice_index_or es i e → is_below e.place k ≡ true → AllWithin (λ (x : Entry C). is_below x.place k ≡ true) es 0 (i + 1)
+  under_more es k i e rises within is low j d _ early =
+      rises-partitioned es k rises j i d (omega arith) within (subst (λ (x : Entry C). is_below x.place k ≡ true) (is ∙ get_or_default es i e d within) low)
+
+  -- and where one isn't, none behind it is
+  pub over_more : (es : List (Entry C)) (k : Place) (i : ℕ) (e : Entry C) → Rises (places_of es) → i < length es → e ≡ slice_index_or es i e → is_below e.place k ≡ false → AllWithin (λ (x : Entry C). is_below x.place k ≡ false) es i (length es)
+  over_more es k i e rises within is high j d late inside =
+      elim (is_below (slice_index_or es j d).place k) as (λ b. is_below (slice_index_or es j d).place k ≡ b → b ≡ false) [
+        | true ↦ λ low.
+            let here : is_below (slice_index_or es i d).place k ≡ true = rises-partitioned es k rises i j d late inside low in
+            let not : is_below (slice_index_or es i d).place k ≡ false = subst (λ (x : Entry C). is_below x.place k ≡ false) (is ∙ get_or_default es i e d within) high in
+            cc
+        | false ↦ λ _. refl
+      ] refl
+
   pub rises-front : (es : List (Entry C)) (e : Entry C) → Rises (places_of (es ++ e ∷ [])) → Rises (places_of es)
   rises-front es e rises = λ i j d early within.
       let place : Entry C → Place = λ (e : Entry C). e.place in

@@ -1,6 +1,6 @@
 //! The entries of a store, in rising order of their places. What is taken out leaves a hole, but none stays
 //! at the end, so that an entry is above all others where its place is above all that is saved.
-ghost use Rattle.std.specs.Prelude.{◌≡◌, ◌≤◌, true, false, None, length, if◌then◌else◌};
+ghost use Rattle.std.specs.Prelude.{◌≡◌, ◌<◌, ◌≤◌, true, false, None, length, if◌then◌else◌};
 ghost use Rattle.std.specs.List.{AllWithin};
 ghost use Rattle.std.specs.VecDeque.{deque_len};
 ghost use Rattle.checkpoint_store.specs.Saved.{Place, before, at, same_place};
@@ -25,7 +25,7 @@ pub fn take<C: Drop>(entries: &mut Entries<C>, place: (Seq, ThreadId)) -> Option
     ensures left { (k : Place) → found entries.new.items k
         ≡ (if same_place place k then None else found entries.old.items k) }
     ensures kept { IsKept entries.new.items }
-    ensures room { spare_in entries.old ≤ spare_in entries.new }
+    ensures spare { spare_in entries.old ≤ spare_in entries.new }
 {
     let i = count_below(entries, place);
     let control = take_at(entries, i, place);
@@ -38,7 +38,7 @@ pub fn drop_before<C: Drop>(entries: &mut Entries<C>, q: Seq)
     requires { IsKept entries.old.items }
     ensures left { (k : Place) → found entries.new.items k ≡ (if before q k then None else found entries.old.items k) }
     ensures kept { IsKept entries.new.items }
-    ensures room { spare_in entries.old ≤ spare_in entries.new }
+    ensures spare { spare_in entries.old ≤ spare_in entries.new }
 {
     while let Some(first) = entries.front() {
         if first.place.0.0 >= q.0 {
@@ -53,21 +53,71 @@ pub fn drop_at<C: Drop>(entries: &mut Entries<C>, q: Seq)
     requires { IsKept entries.old.items }
     ensures left { (k : Place) → found entries.new.items k ≡ (if at q k then None else found entries.old.items k) }
     ensures kept { IsKept entries.new.items }
-    ensures room { spare_in entries.old ≤ spare_in entries.new }
+    ensures spare { spare_in entries.old ≤ spare_in entries.new }
 {
     let i = count_below(entries, (q, ThreadId(0)));
     empty_from(entries, i, q);
     drop_holes_at_end(entries);
 }
 
-// How many entries have places below this one.
+// How many entries have places below this one. They are looked for where the place would stand if numbers
+// were spread evenly, then in steps from there that double, and at last by halving.
 fn count_below<C>(entries: &Entries<C>, place: (Seq, ThreadId)) -> usize
     requires { Rises (places_of entries.now.items) }
     ensures within { result ≤ length entries.now.items }
     ensures below { AllWithin (λ e. is_below e.place place ≡ true) entries.now.items 0 result }
     ensures rest { AllWithin (λ e. is_below e.place place ≡ false) entries.now.items result (length entries.now.items) }
 {
-    entries.partition_point(|entry| below(entry.place, place))
+    let mut low = 0usize;
+    let mut high = entries.len();
+    let mut wish = guess(entries, place.0);
+    let mut step = 0usize;
+    while low < high {
+        let at = probe(low, high, wish);
+        let past = step;
+        step = step.saturating_mul(2).saturating_add(1);
+        if below(entries[at].place, place) {
+            low = at + 1;
+            wish = low.saturating_add(past);
+        } else {
+            high = at;
+            wish = at.saturating_sub(past).saturating_sub(1);
+        }
+    }
+    low
+}
+
+// What is wished for where it is from `low` on and below `high`, and else the middle.
+fn probe(low: usize, high: usize, wish: usize) -> usize
+    requires { low < high }
+    ensures { (low ≤ result) × (result < high) }
+{
+    if low <= wish && wish < high {
+        wish
+    } else {
+        low + (high - low) / 2
+    }
+}
+
+// Which entry would be of an event if numbers were spread evenly. Any answer is right.
+fn guess<C>(entries: &Entries<C>, q: Seq) -> usize {
+    match (entries.front(), entries.back()) {
+        (Some(first), Some(last)) => {
+            let to_last = last.place.0.0.saturating_sub(first.place.0.0);
+            let to_event = q.0.saturating_sub(first.place.0.0);
+            share(to_event, to_last, entries.len())
+        }
+        _ => 0,
+    }
+}
+
+// So much of `most` as `part` is of `whole`, or all of it.
+fn share(part: u64, whole: u64, most: usize) -> usize {
+    if part >= whole {
+        return most.saturating_sub(1);
+    }
+    let share = part.saturating_mul(most as u64) / whole;
+    usize::try_from(share).unwrap_or(most)
 }
 
 fn below(a: (Seq, ThreadId), b: (Seq, ThreadId)) -> bool
@@ -92,7 +142,7 @@ fn take_at<C: Drop>(entries: &mut Entries<C>, i: usize, place: (Seq, ThreadId)) 
     ensures left { (k : Place) → found entries.new.items k
         ≡ (if same_place place k then None else found entries.old.items k) }
     ensures places { places_of entries.new.items ≡ places_of entries.old.items }
-    ensures room { spare_in entries.new ≡ spare_in entries.old }
+    ensures spare { spare_in entries.new ≡ spare_in entries.old }
 {
     if i >= entries.len() {
         return None;
@@ -112,7 +162,7 @@ fn empty_from<C: Drop>(entries: &mut Entries<C>, i: usize, q: Seq)
     requires rises { Rises (places_of entries.old.items) }
     ensures left { (k : Place) → found entries.new.items k ≡ (if at q k then None else found entries.old.items k) }
     ensures places { places_of entries.new.items ≡ places_of entries.old.items }
-    ensures room { spare_in entries.new ≡ spare_in entries.old }
+    ensures spare { spare_in entries.new ≡ spare_in entries.old }
 {
     for k in i..entries.len() {
         let entry = &mut entries[k];
@@ -128,7 +178,7 @@ fn drop_holes_at_end<C: Drop>(entries: &mut Entries<C>)
     requires { Rises (places_of entries.old.items) }
     ensures left { (k : Place) → found entries.new.items k ≡ found entries.old.items k }
     ensures kept { IsKept entries.new.items }
-    ensures room { spare_in entries.old ≤ spare_in entries.new }
+    ensures spare { spare_in entries.old ≤ spare_in entries.new }
 {
     while let Some(last) = entries.back() {
         if last.control.is_some() {

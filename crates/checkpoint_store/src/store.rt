@@ -13,8 +13,8 @@ use std::marker::Model;
 
 /// What each actor of a step that may be undone had before it.
 ///
-/// `save` takes constant time, `take` and `drop_at` halve their way to a place, and `drop_before` takes as
-/// long as what it drops.
+/// `save` takes constant time, `take` and `drop_at` at most as long as the logarithm of what is saved, and
+/// constant time where the numbers of events are spread evenly; `drop_before` takes as long as what it drops.
 #[derive(Drop)]
 pub struct Store<C> {
     entries: Entries<C>,
@@ -58,12 +58,12 @@ impl<C: Drop> Store<C> {
     /// Saves what a thread had before a step. Controls are saved in the order of their events, and those of
     /// one event in the order of their threads.
     pub fn save(&mut self, q: Seq, t: ThreadId, control: C)
-        requires room { 1 ≤ self.old.spare }
+        requires spare { 1 ≤ self.old.spare }
         requires last { (r : Seq) (u : ThreadId) → IsSome (saved_at self.old r u) → IsBelow (r, u) (q, t) }
         ensures after { self.new.controls ≡ map.insert self.old.controls (q, t) control }
         ensures saved { (r : Seq) (u : ThreadId) → saved_at self.new r u
             ≡ (if is_place q t r u then Some control else saved_at self.old r u) }
-        ensures room { self.new.spare ≡ self.old.spare - 1 }
+        ensures spare { self.new.spare ≡ self.old.spare - 1 }
     {
         self.entries.push_back_reserved(Entry {
             place: (q, t),
@@ -77,7 +77,7 @@ impl<C: Drop> Store<C> {
         ensures after { self.new.controls ≡ map.remove self.old.controls (q, t) }
         ensures rest { (r : Seq) (u : ThreadId) → saved_at self.new r u
             ≡ (if is_place q t r u then None else saved_at self.old r u) }
-        ensures room { self.old.spare ≤ self.new.spare }
+        ensures spare { self.old.spare ≤ self.new.spare }
     {
         entries::take(&mut self.entries, (q, t))
     }
@@ -87,7 +87,7 @@ impl<C: Drop> Store<C> {
         ensures after { self.new.controls ≡ map.retain_keys self.old.controls (λ p. not (before q p)) }
         ensures rest { (r : Seq) (u : ThreadId) → saved_at self.new r u
             ≡ (if nat_lt r.0 q.0 then None else saved_at self.old r u) }
-        ensures room { self.old.spare ≤ self.new.spare }
+        ensures spare { self.old.spare ≤ self.new.spare }
     {
         entries::drop_before(&mut self.entries, q);
     }
@@ -97,7 +97,7 @@ impl<C: Drop> Store<C> {
         ensures after { self.new.controls ≡ map.retain_keys self.old.controls (λ p. not (at q p)) }
         ensures rest { (r : Seq) (u : ThreadId) → saved_at self.new r u
             ≡ (if nat_eq r.0 q.0 then None else saved_at self.old r u) }
-        ensures room { self.old.spare ≤ self.new.spare }
+        ensures spare { self.old.spare ≤ self.new.spare }
     {
         entries::drop_at(&mut self.entries, q);
     }

@@ -1,16 +1,25 @@
-use Rattle.std.proofs.Common.{◌≡◌, true, false, rules, tests}
-use Rattle.std.specs.List.Sorted.{IsPartitionPoint}
-use Rattle.std.proofs.lemmas.List.Sorted.{IsPartitionPoint-from_clause}
-use Rattle.checkpoint_store.specs.Layout.{is_below}
-use Rattle.checkpoint_store.proofs.Order.{rises-partitioned}
+use Rattle.std.proofs.Common.{◌<◌, length, sym, ◌∙◌, arith}
+use Rattle.checkpoint_store.proofs.Order.{under_more, over_more}
 use Rattle.checkpoint_store.proofs.entries.count_below.Goals as goal
-use Rattle.checkpoint_store.proofs.entries.count_below.Given.{Over}
 
-point : (g : Over) (c : goal.After-partition_point g) → IsPartitionPoint (λ e. is_below e.place c.args.place ≡ true) (λ e. is_below e.place c.args.place ≡ false) c.args.entries.now.items c.partition_point.result
-point g c = IsPartitionPoint-from_clause (λ e. is_below e.place c.args.place) c.args.entries.now.items c.partition_point.result c.partition_point.ensures.partitioned (rises-partitioned c.args.entries.now.items c.args.place c.requires) (λ x r q k. search (rules, tests))
+pub loop-low-preserved-then-below : goal.loop-low-preserved-then-below
+loop-low-preserved-then-below g c =
+    let es = c.args.entries.now.items in
+    let inside : c.probe-at.result < length es = omega (arith, c.probe-at.ensures.1, c.loop-low.invariant.within) in
+    record {
+      order = omega (arith, c.probe-at.ensures.1);
+      within = c.loop-low.invariant.within;
+      under = under_more es c.args.place c.probe-at.result c.index.result.now c.requires inside c.index.ensures (sym c.below.ensures ∙ c.if-below.true);
+      over = c.loop-low.invariant.over;
+    }
 
-pub returns-clause-below : goal.returns-clause-below
-returns-clause-below g c = (point g c).0
-
-pub returns-clause-rest : goal.returns-clause-rest
-returns-clause-rest g c = (point g c).1
+pub loop-low-preserved : goal.loop-low-preserved
+loop-low-preserved g c =
+    let es = c.args.entries.now.items in
+    let inside : c.probe-at.result < length es = omega (arith, c.probe-at.ensures.1, c.loop-low.invariant.within) in
+    record {
+      order = c.probe-at.ensures.0;
+      within = omega (arith, inside);
+      under = c.loop-low.invariant.under;
+      over = over_more es c.args.place c.probe-at.result c.index.result.now c.requires inside c.index.ensures (sym c.below.ensures ∙ c.if-below.false);
+    }

@@ -19,7 +19,7 @@ loop-k-preserved g c =
       holes = holes-more es c.args.i c.loop-k.k h within refl c.loop-k.invariant.holes;
       places = places-set es c.loop-k.k e h within c.index_mut-entry.ensures.value refl ∙ c.loop-k.invariant.places;
       length_is = length-set es c.loop-k.k h ∙ c.loop-k.invariant.length_is;
-      room = c.loop-k.invariant.room;
+      spare = c.loop-k.invariant.spare;
       upto = c.loop-k.invariant.upto ∙ sym (length-set es c.loop-k.k h);
     }
 

@@ -11,6 +11,6 @@ invariant-loop-k g l = record {
   holes : AllWithin (λ e. e.control ≡ None) l.entries.items l.i l.k;
   places : places_of l.entries.items ≡ places_of l.initial.entries.items;
   length_is : length l.entries.items ≡ length l.initial.entries.items;
-  room : spare_in l.entries ≡ spare_in l.initial.entries;
+  spare : spare_in l.entries ≡ spare_in l.initial.entries;
   upto : l.k-end ≡ length l.entries.items;
 }
