@@ -1,5 +1,5 @@
 -- What the links say of the lists, and how that changes with them.
-use Rattle.std.proofs.Common.{◌≡◌, ◌≢◌, ℕ, zero, suc, ◌+◌, ◌≤◌, ◌<◌, Bool, true, false, cond, ◌⊎◌, inl, inr, nat_eq, nat_lt, List, [], ◌∷◌, ◌++◌, length, map, get_or, set, ◌||◌, Option, Some, None, slice_get, refl, sym, ap, ◌∙◌, subst, arith, add-one, length-append}
+use Rattle.std.proofs.Common.{◌≡◌, ◌≢◌, ℕ, zero, suc, ◌+◌, ◌≤◌, ◌<◌, Bool, true, false, cond, ◌⊎◌, inl, inr, nat_eq, nat_lt, List, [], ◌∷◌, ◌++◌, length, map, get_or, set, ◌||◌, Option, Some, None, slice_get, refl, sym, ap, ◌∙◌, subst, arith, add-one, length-append, min, ◌-◌}
 use Rattle.std.specs.List.{IsDistinct}
 use Rattle.std.specs.Option.{option_eq}
 use Rattle.std.proofs.lemmas.Bool.Decides.{Decides-eqb, nat_tests}
@@ -240,3 +240,12 @@ eq_some (Some u) t e = ap Some ((Decides-eqb u t).0 e)
 
 pub eq_itself : (o : Option ℕ) (t : ℕ) → o ≡ Some t → option_eq nat_eq o (Some t) ≡ true
 eq_itself o t e = ap (λ o. option_eq nat_eq o (Some t)) e ∙ (Decides-eqb t t).1 refl
+
+-- ---- numbers of 32 bits
+
+-- where there is room for one more link, that has a number
+pub few_more : (links new : List Link) (l : Link) (capacity spare : ℕ) → min capacity 4294967295 - length links ≡ spare → 1 ≤ spare → new ≡ links ++ l ∷ [] → length new ≤ 4294967295
+few_more links new l capacity spare is room grown =
+    let n : length new ≡ length links + 1 = ap length grown ∙ length-append links (l ∷ []) in
+    let most : min capacity 4294967295 ≤ 4294967295 = omega arith in
+    omega (arith, is, room, n, most)

@@ -1,5 +1,5 @@
 -- Lists as rings of links: a list leads from its end through its places back to its end.
-use Rattle.std.specs.Prelude.{◌≡◌, ℕ, zero, suc, ◌≤◌, ◌<◌, Bool, false, nat_eq, List, [], ◌∷◌, length, map, get_or, Option, Some, None}
+use Rattle.std.specs.Prelude.{◌≡◌, ℕ, zero, suc, ◌≤◌, ◌<◌, Bool, false, nat_eq, List, [], ◌∷◌, length, map, get_or, Option, Some, None, ◌-◌, min, vec_capacity, Vec}
 use Rattle.std.specs.List.{IsDistinct}
 use Rattle.linked_lists.specs.declared.links.Spot.{Spot}
 use Rattle.linked_lists.specs.declared.links.Spot.TheVariants.{End, Place}
@@ -65,3 +65,13 @@ pub record IsRing (f g : Spot → Spot) (list : ℕ → List ℕ) : Type 0 where
 abbrev pub IsThere : ℕ → ℕ → Spot → Type 0
 IsThere lists places (End h) = h < lists
 IsThere lists places (Place t) = (1 ≤ t) × (t ≤ places)
+
+-- the lists are rings, and their ends and places have numbers of 32 bits
+pub record IsLinked (ends places : List Link) : Type 0 where
+  pub ring : IsRing (after ends places) (before ends places) (walked ends places)
+  pub few_lists : length ends ≤ 4294967295
+  pub few_places : length places ≤ 4294967295
+
+-- for how many more of some links there is room: they have numbers of 32 bits
+abbrev pub spare_in : {Z : Type 0} → Vec Link Z → ℕ
+spare_in links = min (vec_capacity links) 4294967295 - length links.items

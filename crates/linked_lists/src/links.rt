@@ -5,13 +5,13 @@ ghost use Rattle.std.specs.Vec.{vec_capacity};
 ghost use Rattle.linked_lists.specs.Ring.{same, alone as link_alone, link_at, spot_place, after as ring_after, before as ring_before, IsThere};
 
 /// Where a list can lead: to one of its places, or to its end, which stands before the first place
-/// and after the last.
+/// and after the last. Their numbers have 32 bits, since links are most of what a long list takes.
 #[derive(Clone, Copy, PartialEq, Eq)]
 pub(crate) enum Spot {
     /// The end of the list with this number.
-    End(usize),
+    End(u32),
     /// The place with this number, from 1 on.
-    Place(usize),
+    Place(u32),
 }
 
 /// What stands before a spot and after it.
@@ -20,6 +20,9 @@ pub(crate) struct Link {
     pub(crate) before: Spot,
     pub(crate) after: Spot,
 }
+
+/// There are no more lists, and no more places, than have numbers.
+pub(crate) const MOST: usize = 4_294_967_295;
 
 /// The link of each end and of each place.
 #[derive(Drop)]
@@ -45,7 +48,7 @@ pub(crate) fn place_in(spot: Spot) -> Option<usize>
     ensures { result ≡ spot_place spot }
 {
     match spot {
-        Spot::Place(place) => Some(place),
+        Spot::Place(place) => Some(place as usize),
         Spot::End(_) => None,
     }
 }
@@ -56,8 +59,8 @@ impl Links {
         ensures { result ≡ link_at self.now.ends.items self.now.places.items spot }
     {
         match spot {
-            Spot::End(list) => self.ends[list],
-            Spot::Place(place) => self.places[place - 1],
+            Spot::End(list) => self.ends[list as usize],
+            Spot::Place(place) => self.places[place as usize - 1],
         }
     }
 
@@ -72,8 +75,8 @@ impl Links {
         ensures capacity { vec_capacity self.new.places ≡ vec_capacity self.old.places }
     {
         match spot {
-            Spot::End(list) => self.ends[list] = link,
-            Spot::Place(place) => self.places[place - 1] = link,
+            Spot::End(list) => self.ends[list as usize] = link,
+            Spot::Place(place) => self.places[place as usize - 1] = link,
         }
     }
 

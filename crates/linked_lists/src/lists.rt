@@ -1,26 +1,26 @@
 //! Lists that a place leaves from the middle without a walk.
 
 ghost use Rattle.std.specs.Prelude.{◌≡◌, ℕ, ◌+◌, ◌≤◌, ◌<◌, [], ◌∷◌, ◌++◌, true, None, IsOk, OnOk, OnErr, length, map, slice_get, slice_set};
+ghost use Rattle.linked_lists.specs.Ring.{spare_in};
 ghost use Rattle.linked_lists.specs.Lists.{is_listed, following, list_at, without, StandsNowhere, IsSound};
 
-use crate::links::{Link, Links, Spot, alone, place_in};
+use crate::links::{Link, Links, MOST, Spot, alone, place_in};
 use stab_base::NoMemory;
 use std::alloc::Global;
 use std::marker::Model;
 
 /// Lists, numbered from 0, of places, which are numbered from 1. A place stands in at most one list,
-/// and there once. `reserve` and `reserve_lists` take memory; every other call takes none, and
-/// constant time.
+/// and there once. `reserve` and `reserve_lists` take memory, and refuse more than 4,294,967,295 of
+/// either; every other call takes none, and constant time.
 #[derive(Drop)]
 pub struct Lists {
     links: Links,
 }
 
 impl Model for Lists {
-    ghost use Rattle.std.specs.Prelude.{◌-◌, length};
-    ghost use Rattle.std.specs.Vec.{vec_capacity};
+    ghost use Rattle.std.specs.Prelude.{length};
     ghost use Rattle.linked_lists.specs.Lists.{Seen, seen_code};
-    ghost use Rattle.linked_lists.specs.Ring.{after, before, lists_of, walked, IsRing};
+    ghost use Rattle.linked_lists.specs.Ring.{lists_of, spare_in, IsLinked};
 
     ghost Value = { Seen };
 
@@ -29,13 +29,11 @@ impl Model for Lists {
     ghost view = { λ l. record {
       lists = lists_of l.links.ends.items l.links.places.items;
       places = length l.links.places.items;
-      spare_lists = vec_capacity l.links.ends - length l.links.ends.items;
-      spare = vec_capacity l.links.places - length l.links.places.items;
+      spare_lists = spare_in l.links.ends;
+      spare = spare_in l.links.places;
     } };
 
-    ghost invariant = { λ l. IsRing (after l.links.ends.items l.links.places.items)
-        (before l.links.ends.items l.links.places.items)
-        (walked l.links.ends.items l.links.places.items) };
+    ghost invariant = { λ l. IsLinked l.links.ends.items l.links.places.items };
 }
 
 impl Lists {
@@ -54,7 +52,7 @@ impl Lists {
 
     /// Makes room for so many places more.
     pub fn reserve(&mut self, places: usize) -> Result<(), NoMemory>
-        ensures room { OnOk result (places ≤ self.new.spare) }
+        ensures spare { OnOk result (places ≤ self.new.spare) }
         ensures enough { places ≤ self.old.spare → IsOk result }
         ensures err { OnErr result (self.new ≡ self.old) }
         ensures more { self.old.spare ≤ self.new.spare }
@@ -62,13 +60,12 @@ impl Lists {
         ensures places { self.new.places ≡ self.old.places }
         ensures spare_lists { self.new.spare_lists ≡ self.old.spare_lists }
     {
-        self.links.places.reserve(places)?;
-        Ok(())
+        reserve(&mut self.links.places, places)
     }
 
     /// Makes room for so many lists more.
     pub fn reserve_lists(&mut self, lists: usize) -> Result<(), NoMemory>
-        ensures room { OnOk result (lists ≤ self.new.spare_lists) }
+        ensures spare_lists { OnOk result (lists ≤ self.new.spare_lists) }
         ensures enough { lists ≤ self.old.spare_lists → IsOk result }
         ensures err { OnErr result (self.new ≡ self.old) }
         ensures more { self.old.spare_lists ≤ self.new.spare_lists }
@@ -76,8 +73,7 @@ impl Lists {
         ensures places { self.new.places ≡ self.old.places }
         ensures spare { self.new.spare ≡ self.old.spare }
     {
-        self.links.ends.reserve(lists)?;
-        Ok(())
+        reserve(&mut self.links.ends, lists)
     }
 
     /// Adds a list with nothing in it.
@@ -88,7 +84,7 @@ impl Lists {
         ensures spare_lists { self.new.spare_lists + 1 ≡ self.old.spare_lists }
         ensures spare { self.new.spare ≡ self.old.spare }
     {
-        let end = Spot::End(self.links.ends.len());
+        let end = Spot::End(self.links.ends.len() as u32);
         self.links.ends.push_reserved(alone(end));
     }
 
@@ -101,7 +97,7 @@ impl Lists {
         ensures spare { self.new.spare + 1 ≡ self.old.spare }
         ensures nowhere { StandsNowhere self.new.places self.new.lists }
     {
-        let place = Spot::Place(self.links.places.len() + 1);
+        let place = Spot::Place(self.links.places.len() as u32 + 1);
         self.links.places.push_reserved(alone(place));
     }
 
@@ -125,7 +121,7 @@ impl Lists {
         ensures first { result ≡ slice_get (list_at self.now.lists list) 0 }
         ensures sound { IsSound self.now }
     {
-        place_in(self.links.link(Spot::End(list)).after)
+        place_in(self.links.link(Spot::End(list as u32)).after)
     }
 
     /// The place after another one in the list that it stands in. None for the last place of a list,
@@ -136,7 +132,7 @@ impl Lists {
             result ≡ slice_get (following place (list_at self.now.lists h)) 0 }
         ensures nowhere { StandsNowhere place self.now.lists → result ≡ None }
     {
-        let next = place_in(self.links.link(Spot::Place(place)).after);
+        let next = place_in(self.links.link(Spot::Place(place as u32)).after);
         // A place that stands in no list leads to itself.
         if next == Some(place) { None } else { next }
     }
@@ -152,17 +148,17 @@ impl Lists {
         ensures spare_lists { self.new.spare_lists ≡ self.old.spare_lists }
         ensures spare { self.new.spare ≡ self.old.spare }
     {
-        let end = Spot::End(list);
-        let last = self.links.link(end).before;
+        let last = self.links.link(Spot::End(list as u32)).before;
+        let end = Spot::End(list as u32);
         self.links.write(
-            Spot::Place(place),
+            Spot::Place(place as u32),
             Link {
                 before: last,
                 after: end,
             },
         );
-        self.links.set_after(last, Spot::Place(place));
-        self.links.set_before(end, Spot::Place(place));
+        self.links.set_after(last, Spot::Place(place as u32));
+        self.links.set_before(end, Spot::Place(place as u32));
     }
 
     /// Takes a place out of the list that it stands in, if any.
@@ -174,10 +170,26 @@ impl Lists {
         ensures spare { self.new.spare ≡ self.old.spare }
         ensures nowhere { StandsNowhere place self.new.lists }
     {
-        let spot = Spot::Place(place);
-        let Link { before, after } = self.links.link(spot);
+        let Link { before, after } = self.links.link(Spot::Place(place as u32));
+        let spot = Spot::Place(place as u32);
         self.links.set_after(before, after);
         self.links.set_before(after, before);
         self.links.write(spot, alone(spot));
     }
+}
+
+// Makes room for so many links more, where there are numbers for them.
+fn reserve(links: &mut Vec<Link>, more: usize) -> Result<(), NoMemory>
+    requires { length links.old.items ≤ 4294967295 }
+    ensures spare { OnOk result (more ≤ spare_in links.new) }
+    ensures enough { more ≤ spare_in links.old → IsOk result }
+    ensures err { OnErr result (spare_in links.new ≡ spare_in links.old) }
+    ensures more { spare_in links.old ≤ spare_in links.new }
+    ensures items { links.new.items ≡ links.old.items }
+{
+    if more > MOST - links.len() {
+        return Err(NoMemory);
+    }
+    links.reserve(more)?;
+    Ok(())
 }

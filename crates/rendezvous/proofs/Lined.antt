@@ -17,7 +17,8 @@ use Rattle.rendezvous.specs.Offer.{sends_on, receives_on}
 use Rattle.rendezvous.specs.Line.{Line, Lines, nobody, waiting, joined, left, offered, LineBacked, HasNoOffer, Absent, IsSound}
 use Rattle.rendezvous.specs.Line as line
 use Rattle.rendezvous.specs.Nodes.{thread_of, line_at, IsAway, AreListed}
-use Rattle.rendezvous.specs.Layout.{by_number, lines_from, OnLine, Backed}
+use Rattle.linked_lists.specs.Numbered.{by_number}
+use Rattle.rendezvous.specs.Layout.{lines_from, OnLine, Backed}
 use Rattle.rendezvous.proofs.Threads.{itself, unlike, cases_eq, same_line}
 use Rattle.rendezvous.proofs.Numbered.{line_of, get-lines, get-by_number}
 

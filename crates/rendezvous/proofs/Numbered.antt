@@ -1,37 +1,18 @@
 -- The maps of what stands in vectors by number.
 use Rattle.std.proofs.Common.{◌≡◌, ◌≢◌, ℕ, zero, suc, ◌+◌, ◌≤◌, ◌<◌, Bool, true, false, cond, nat_eq, List, [], ◌∷◌, length, get_or, set, Option, Some, None, IsSome, refl, sym, ap, ◌∙◌, subst, arith}
-use Rattle.std.specs.Ordering.{nat_cmp, eq_by_cmp}
-use Rattle.std.specs.Cmp.{nat_cmp_total, unsigned_tied}
-use Rattle.std.specs.FinMap.{FinMap, get, insert, remove, empty, same_map, nat_cmp-IsAntisymmetric, get-empty, get-insert, get-remove}
+use Rattle.std.specs.Ordering.{nat_cmp}
+use Rattle.std.specs.Cmp.{nat_cmp_total}
+use Rattle.std.specs.FinMap.{FinMap, get, insert, remove, empty, same_map, nat_cmp-IsAntisymmetric}
 use Rattle.std.proofs.lemmas.Bool.Decides.{Decides-eqb, nat_tests}
 use Rattle.std.proofs.lemmas.List.{get_or-set_same, get_or-set_other, get_or_past}
 use Rattle.rendezvous.specs.Line.{Line}
 use Rattle.rendezvous.specs.Nodes.{line_at}
-use Rattle.rendezvous.specs.Layout.{by_number, lines_from}
+use Rattle.linked_lists.specs.Numbered.{by_number}
+use Rattle.linked_lists.proofs.Numbered.{inserted, removed, get_from}
+use Rattle.rendezvous.specs.Layout.{lines_from}
 use Rattle.rendezvous.proofs.Threads.{cases_eq, itself}
 
-apart : (q n : ℕ) → q ≢ n → nat_eq q n ≡ false
-apart q n other = grind (arith, nat_tests)
-
 module _ {X : Type 0} where
-  inserted : (m : FinMap nat_cmp X) (k q : ℕ) (x : X) → get (insert m k x) q ≡ cond (nat_eq q k) (Some x) (get m q)
-  inserted m k q x = get-insert nat_cmp_total m k x q ∙ ap (λ b. cond b (Some x) (get m q)) (unsigned_tied q k)
-
-  removed : (m : FinMap nat_cmp X) (k q : ℕ) → get (remove m k) q ≡ cond (nat_eq q k) None (get m q)
-  removed m k q = get-remove nat_cmp_total m k q ∙ ap (λ b. cond b None (get m q)) (unsigned_tied q k)
-
-  below : (q n : ℕ) (xs : List (Option X)) → q < n → get (by_number n xs) q ≡ None
-  below q n [] low = get-empty nat_cmp q
-  below q n (None ∷ xs) low = below q (n + 1) xs (omega arith)
-  below q n (Some x ∷ xs) low = inserted (by_number (n + 1) xs) n q x ∙ ap (λ b. cond b (Some x) (get (by_number (n + 1) xs) q)) (apart q n (λ e. omega arith)) ∙ below q (n + 1) xs (omega arith)
-
-  get_from : (q n i : ℕ) (xs : List (Option X)) → q ≡ n + i → get (by_number n xs) q ≡ get_or xs i None
-  get_from q n i [] at = get-empty nat_cmp q
-  get_from q n zero (None ∷ xs) at = below q (n + 1) xs (omega arith)
-  get_from q n zero (Some x ∷ xs) at = inserted (by_number (n + 1) xs) n q x ∙ ap (λ b. cond b (Some x) (get (by_number (n + 1) xs) q)) (let e : q ≡ n = omega arith in ap (λ q. nat_eq q n) e ∙ itself n)
-  get_from q n (suc i) (None ∷ xs) at = get_from q (n + 1) i xs (omega arith)
-  get_from q n (suc i) (Some x ∷ xs) at = inserted (by_number (n + 1) xs) n q x ∙ ap (λ b. cond b (Some x) (get (by_number (n + 1) xs) q)) (apart q n (λ e. omega arith)) ∙ get_from q (n + 1) i xs (omega arith)
-
   -- what the map has is what stands there
   pub get-by_number : (xs : List (Option X)) (q : ℕ) → get (by_number 0 xs) q ≡ get_or xs q None
   get-by_number xs q = get_from q 0 q xs (omega arith)

@@ -1,21 +1,11 @@
 -- What callers see, from how it is kept: channels and offers in vectors by number.
 use Rattle.std.specs.Prelude.{◌≡◌, ℕ, ◌+◌, ◌*◌, ◌≤◌, Bool, true, false, List, [], ◌∷◌, Option, Some, None, nat_eq, length, get_or, if◌then◌else◌}
 use Rattle.std.specs.List.{IsDistinct}
-use Rattle.std.specs.Ordering.{nat_cmp}
-use Rattle.std.specs.FinMap as map
-use Rattle.std.specs.FinMap.{FinMap}
 use Rattle.linked_lists.specs.Lists.{Seen, is_listed, StandsNowhere}
 use Rattle.rendezvous.specs.declared.offer.Offer.{Offer}
 use Rattle.rendezvous.specs.Offer.{sends_on, receives_on}
 use Rattle.rendezvous.specs.Line.{Line, nobody, offered}
 use Rattle.rendezvous.specs.Nodes.{line_at}
-
-module _ {X : Type 0} where
-  -- what is there, by number, where the first place has n
-  abbrev pub by_number : ℕ → List (Option X) → FinMap nat_cmp X
-  by_number n [] = map.empty
-  by_number n (None ∷ xs) = by_number (n + 1) xs
-  by_number n (Some x ∷ xs) = map.insert (by_number (n + 1) xs) n x
 
 -- the lines of the channels that are there, where the first has the number c
 abbrev pub lines_from : ℕ → List Bool → List (List ℕ) → List (Option Line)

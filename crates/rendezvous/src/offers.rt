@@ -28,7 +28,8 @@ pub struct Offers {
 
 impl Model for Offers {
     ghost use Rattle.rendezvous.specs.Line.{Seen, seen_code};
-    ghost use Rattle.rendezvous.specs.Layout.{by_number, lines_from, Backed};
+    ghost use Rattle.linked_lists.specs.Numbered.{by_number};
+    ghost use Rattle.rendezvous.specs.Layout.{lines_from, Backed};
 
     ghost Value = { Seen };
 

@@ -46,8 +46,8 @@ module _ {C : Type 0} where
       counts = same_counts _ n (given + 1) (given' + 1) counts' threads (ap (λ n. n + 1) e) (IsCounted-moved m (given + 1) counts t before is.counts low there (state_was (get m t) before was) f after between counts' gives less more);
       places = omega (arith, is.places);
       numbers = omega (arith, is.numbers);
-      room_for_threads = omega (arith, is.room_for_threads);
-      room_for_queues = omega (arith, is.room_for_queues);
+      spare_threads = omega (arith, is.spare_threads);
+      spare_places = omega (arith, is.spare_places);
     }
 
     -- a slot is changed, and its state stays
@@ -58,8 +58,8 @@ module _ {C : Type 0} where
       counts = subst (λ counts. IsCounted n (given' + 1) counts) (sym count) (same_counts _ n (given + 1) (given' + 1) counts threads (ap (λ n. n + 1) e) (IsCounted-same m (given + 1) counts t f gives is.counts));
       places = ap (λ q. q.places) queues ∙ is.places ∙ sym e;
       numbers = omega (arith, is.numbers);
-      room_for_threads = omega (arith, is.room_for_threads);
-      room_for_queues = let room : q.spare ≡ p.spare = ap (λ q. q.spare) queues in omega (arith, is.room_for_queues);
+      spare_threads = omega (arith, is.spare_threads);
+      spare_places = let room : q.spare ≡ p.spare = ap (λ q. q.spare) queues in omega (arith, is.spare_places);
     }
 
     -- a thread is removed
@@ -73,8 +73,8 @@ module _ {C : Type 0} where
       counts = same_counts _ n (given + 1) (given' + 1) counts' threads (ap (λ n. n + 1) e) (IsCounted-removed m (given + 1) counts t before is.counts low there (state_was (get m t) before was) counts' less);
       places = omega (arith, is.places);
       numbers = omega (arith, is.numbers);
-      room_for_threads = omega (arith, is.room_for_threads);
-      room_for_queues = omega (arith, is.room_for_queues);
+      spare_threads = omega (arith, is.spare_threads);
+      spare_places = omega (arith, is.spare_places);
     }
 
     -- a thread is added
@@ -90,8 +90,8 @@ module _ {C : Type 0} where
       counts = same_counts _ n (suc (given + 1)) (given' + 1) counts' (threads ∙ ap (λ t. insert m t slot) next) (ap (λ n. n + 1) e ∙ add-one (given + 1)) (IsCounted-added m (given + 1) counts counts' slot is.counts more);
       places = omega (arith, is.places);
       numbers = numbers;
-      room_for_threads = omega (arith, is.room_for_threads);
-      room_for_queues = omega (arith, is.room_for_queues);
+      spare_threads = omega (arith, is.spare_threads);
+      spare_places = omega (arith, is.spare_places);
     }
 
   -- what holds of slots that are laid out
@@ -117,8 +117,8 @@ module _ {C : Type 0} where
         counts = λ s. zero s ∙ sym (ap (λ n. length (numbers (is_in s (live es)) (n + 1))) short ∙ ap (λ b. length {A = ℕ} (cond b (0 ∷ []) [])) (nobody s (live es) 0 (live_new es none)));
         places = places ∙ sym short;
         numbers = omega arith;
-        room_for_threads = omega arith;
-        room_for_queues = omega arith;
+        spare_threads = omega arith;
+        spare_places = omega arith;
       }
 
 -- a new thread comes to the tail of the queue, or not at all

@@ -9,7 +9,8 @@ use Rattle.std.proofs.lemmas.List.{map-set, map-append, length-map, get_or_defau
 use Rattle.std.proofs.Math.ListN.{get_or-map}
 use Rattle.thread_slots.specs.declared.entries.Entry.{Entry}
 use Rattle.thread_slots.specs.Slot.{Slot, is_ready, is_ready_at, changed, put_changed, IsSound}
-use Rattle.thread_slots.specs.Layout.{by_number, slot_of, places, live}
+use Rattle.linked_lists.specs.Numbered.{by_number}
+use Rattle.thread_slots.specs.Layout.{slot_of, places, live}
 use Rattle.thread_slots.proofs.Numbered.{get-by_number, by_number-set, by_number-clear, by_number-open, get-by_number-0, number_of}
 
 module _ {C : Type 0} where
@@ -21,9 +22,9 @@ module _ {C : Type 0} where
       let low : (1 ≤ t) × (t < length (places es) + 1) = number_of (places es) t there in
       (low.0, omega (arith, length-map es (option_map slot_of), low.1))
 
-  pub by_number-write : (es : List (Option (Entry C))) (t i : ℕ) (e : Entry C) → t ≡ i + 1 → i < length es → by_number (places (set es i (Some e))) ≡ insert (live es) t (slot_of e)
+  pub by_number-write : (es : List (Option (Entry C))) (t i : ℕ) (e : Entry C) → t ≡ i + 1 → i < length es → by_number 1 (places (set es i (Some e))) ≡ insert (live es) t (slot_of e)
   by_number-write es t i e at low =
-      ap by_number (map-set (option_map slot_of) es i (Some e))
+      ap (by_number 1) (map-set (option_map slot_of) es i (Some e))
       ∙ by_number-set (places es) i (slot_of e) (omega (arith, length-map es (option_map slot_of)))
       ∙ ap (λ n. insert (live es) n (slot_of e)) (sym at)
 
@@ -31,16 +32,16 @@ module _ {C : Type 0} where
   put_some es t f o slot was is = ap (put_changed (live es) t f) (was ∙ is)
 
   -- the entry of a live thread is written as f changes its slot
-  pub changed-write : (es : List (Option (Entry C))) (t i : ℕ) (f : Slot C → Slot C) (e w : Entry C) (d : Option (Entry C)) → t ≡ i + 1 → i < length es → get_or es i d ≡ Some e → slot_of w ≡ f (slot_of e) → by_number (places (set es i (Some w))) ≡ changed (live es) t f
+  pub changed-write : (es : List (Option (Entry C))) (t i : ℕ) (f : Slot C → Slot C) (e w : Entry C) (d : Option (Entry C)) → t ≡ i + 1 → i < length es → get_or es i d ≡ Some e → slot_of w ≡ f (slot_of e) → by_number 1 (places (set es i (Some w))) ≡ changed (live es) t f
   changed-write es t i f e w d at low was is =
       by_number-write es t i w at low
       ∙ ap (insert (live es) t) is
       ∙ sym (put_some es t f _ (slot_of e) refl (get-places es t i at ∙ ap (option_map slot_of) (get_or_default es i None d low ∙ was)))
 
   -- the entry of a live thread is taken away
-  pub by_number-take : (es : List (Option (Entry C))) (t i : ℕ) → t ≡ i + 1 → i < length es → by_number (places (set es i None)) ≡ remove (live es) t
+  pub by_number-take : (es : List (Option (Entry C))) (t i : ℕ) → t ≡ i + 1 → i < length es → by_number 1 (places (set es i None)) ≡ remove (live es) t
   by_number-take es t i at low =
-      ap by_number (map-set (option_map slot_of) es i None)
+      ap (by_number 1) (map-set (option_map slot_of) es i None)
       ∙ by_number-clear (places es) i (omega (arith, length-map es (option_map slot_of)))
       ∙ ap (remove (live es)) (sym at)
 
@@ -66,8 +67,8 @@ module _ {C : Type 0} where
   none_past es t i at high = get-places es t i at ∙ ap (option_map slot_of) (get_or_past es i None high)
 
   -- no thread is at a new place
-  pub threads-open : (es : List (Option (Entry C))) → by_number (places (es ++ None ∷ [])) ≡ live es
-  threads-open es = ap by_number (map-append (option_map slot_of) es (None ∷ [])) ∙ by_number-open (places es)
+  pub threads-open : (es : List (Option (Entry C))) → by_number 1 (places (es ++ None ∷ [])) ≡ live es
+  threads-open es = ap (by_number 1) (map-append (option_map slot_of) es (None ∷ [])) ∙ by_number-open (places es)
 
   -- and the other way round
   pub to_entry : (es : List (Option (Entry C))) (t i : ℕ) (d : Option (Entry C)) (e : Entry C) (P : Slot C → Type 0) → t ≡ i + 1 → i < length es → get_or es i d ≡ Some e → P (slot_of e) → IfSome (get (live es) t) P

@@ -1,7 +1,8 @@
 -- What callers see, from how it is kept: the thread n at the place n - 1, and an empty place where one was removed.
 use Rattle.std.specs.Prelude.{◌≡◌, ℕ, ◌+◌, ◌≤◌, ◌<◌, ◌^◌, List, [], ◌∷◌, Option, Some, None, length, map, option_map}
 use Rattle.std.specs.Ordering.{nat_cmp}
-use Rattle.std.specs.FinMap.{FinMap, from_entries}
+use Rattle.std.specs.FinMap.{FinMap}
+use Rattle.linked_lists.specs.Numbered.{by_number}
 use Rattle.thread_slots.specs.declared.counts.StateCounts.{StateCounts}
 use Rattle.thread_slots.specs.declared.entries.Entry.{Entry}
 use Rattle.thread_slots.specs.declared.state.State.{State}
@@ -9,17 +10,6 @@ use Rattle.thread_slots.specs.declared.state.State.TheVariants.{Ready, Leased}
 use Rattle.thread_slots.specs.Ready.{IsQueueOf, numbers}
 use Rattle.thread_slots.specs.Queues.{Queues}
 use Rattle.thread_slots.specs.Slot.{Slot, count_of, is_in}
-
-module _ {X : Type 0} where
-  -- what is there, with its number, where the first place has n
-  abbrev pub numbered : ℕ → List (Option X) → List (ℕ × X)
-  numbered n [] = []
-  numbered n (None ∷ xs) = numbered (n + 1) xs
-  numbered n (Some x ∷ xs) = (n, x) ∷ numbered (n + 1) xs
-
-  -- what is there, by number
-  abbrev pub by_number : List (Option X) → FinMap nat_cmp X
-  by_number xs = from_entries (numbered 1 xs)
 
 module _ {C : Type 0} where
   -- what callers see of a thread
@@ -32,7 +22,7 @@ module _ {C : Type 0} where
 
   -- the threads of all places
   abbrev pub live : List (Option (Entry C)) → FinMap nat_cmp (Slot C)
-  live es = by_number (places es)
+  live es = by_number 1 (places es)
 
   -- each state's count is how many of the numbers below n are threads in it
   abbrev pub IsCounted : FinMap nat_cmp (Slot C) → ℕ → StateCounts → Type 0
@@ -45,5 +35,5 @@ module _ {C : Type 0} where
     pub counts : IsCounted threads (given + 1) tally
     pub places : queues.places ≡ given
     pub numbers : given + 1 < 2 ^ 32
-    pub room_for_threads : given + spare ≤ capacity
-    pub room_for_queues : spare ≤ queues.spare
+    pub spare_threads : given + spare ≤ capacity
+    pub spare_places : spare ≤ queues.spare

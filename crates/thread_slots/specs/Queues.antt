@@ -20,8 +20,8 @@ queues_code =
     (λ _. refl)
 
 -- for how many places more there is room: for none before there are two lists
-abbrev pub room_of : Seen → ℕ
-room_of s = if nat_eq (length s.lists) 2 then s.spare else 0
+abbrev pub spare_of : Seen → ℕ
+spare_of s = if nat_eq (length s.lists) 2 then s.spare else 0
 
 -- there are two lists, or none and no place; and places are numbers of threads
 pub record IsMade (s : Seen) : Type 0 where

@@ -25,7 +25,7 @@ pub(crate) struct Queues {
 
 impl Model for Queues {
     ghost use Rattle.linked_lists.specs.Lists.{list_at};
-    ghost use Rattle.thread_slots.specs.Queues.{Queues as Seen, queues_code, room_of, IsMade};
+    ghost use Rattle.thread_slots.specs.Queues.{Queues as Seen, queues_code, spare_of, IsMade};
 
     ghost Value = { Seen };
 
@@ -35,7 +35,7 @@ impl Model for Queues {
       ready = list_at q.lists.lists 0;
       leased = list_at q.lists.lists 1;
       places = q.lists.places;
-      spare = room_of q.lists;
+      spare = spare_of q.lists;
     } };
 
     ghost invariant = { λ q. IsMade q.lists };
@@ -54,7 +54,7 @@ impl Queues {
 
     /// Makes room for one place more.
     pub(crate) fn reserve(&mut self) -> Result<(), NoMemory>
-        ensures room { OnOk result (1 ≤ self.new.spare) }
+        ensures spare { OnOk result (1 ≤ self.new.spare) }
         ensures more { self.old.spare ≤ self.new.spare }
         ensures ready { self.new.ready ≡ self.old.ready }
         ensures leased { self.new.leased ≡ self.old.leased }
@@ -70,7 +70,7 @@ impl Queues {
 
     /// Gives the next thread its place. It is neither ready nor leased yet.
     pub(crate) fn open(&mut self)
-        requires room { 1 ≤ self.old.spare }
+        requires spare { 1 ≤ self.old.spare }
         requires fits { self.old.places + 1 < 2 ^ 32 }
         ensures ready { self.new.ready ≡ self.old.ready }
         ensures leased { self.new.leased ≡ self.old.leased }

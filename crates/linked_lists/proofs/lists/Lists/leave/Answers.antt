@@ -13,14 +13,14 @@ pub set_after-requires : goal.set_after-requires
 set_after-requires c =
     let ends = c.self.inside.links.ends.items in
     let places = c.self.inside.links.places.items in
-    rw (ap (λ l. l.before) c.link-before.ensures) (there-before ends places (walked ends places) (Place c.args.place) c.self.invariant (place_within (length places) _ c.args.place (ap (λ s. s.places) c.self.view_is) c.requires))
+    rw (ap (λ l. l.before) c.link-before.ensures) (there-before ends places (walked ends places) (Place c.args.place) c.self.invariant.ring (place_within (length places) _ c.args.place (ap (λ s. s.places) c.self.view_is) c.requires))
 
 pub set_before-requires : goal.set_before-requires
 set_before-requires c =
     let ends = c.self.inside.links.ends.items in
     let places = c.self.inside.links.places.items in
     there_same (length ends) _ (length places) _ c.link-before.result.after (sym c.set_after.ensures.lists) (sym c.set_after.ensures.places)
-    (rw (ap (λ l. l.after) c.link-before.ensures) (there-after ends places (walked ends places) (Place c.args.place) c.self.invariant (place_within (length places) _ c.args.place (ap (λ s. s.places) c.self.view_is) c.requires)))
+    (rw (ap (λ l. l.after) c.link-before.ensures) (there-after ends places (walked ends places) (Place c.args.place) c.self.invariant.ring (place_within (length places) _ c.args.place (ap (λ s. s.places) c.self.view_is) c.requires)))
 
 ahead : (c : goal.After-write) (p : Spot) → after c.write.new.self.ends.items c.write.new.self.places.items p ≡ twice (after c.self.inside.links.ends.items c.self.inside.links.places.items) (Place c.args.place) (Place c.args.place) (before c.self.inside.links.ends.items c.self.inside.links.places.items (Place c.args.place)) (after c.self.inside.links.ends.items c.self.inside.links.places.items (Place c.args.place)) p
 ahead c p =
@@ -44,10 +44,10 @@ ring : (c : goal.After-write) → IsRing (after c.write.new.self.ends.items c.wr
 ring c =
     let ends = c.self.inside.links.ends.items in
     let places = c.self.inside.links.places.items in
-    IsRing-leave (after ends places) (before ends places) _ _ c.args.place (walked ends places) (ahead c) (behind c) c.self.invariant
+    IsRing-leave (after ends places) (before ends places) _ _ c.args.place (walked ends places) (ahead c) (behind c) c.self.invariant.ring
 
 pub invariant_of-self : goal.invariant_of-self
-invariant_of-self c = IsRing-walked c.write.new.self.ends.items c.write.new.self.places.items _ (ring c)
+invariant_of-self c = record { ring = IsRing-walked c.write.new.self.ends.items c.write.new.self.places.items _ (ring c); few_lists = rw (c.write.ensures.lists ∙ c.set_before.ensures.lists ∙ c.set_after.ensures.lists) c.self.invariant.few_lists; few_places = rw (c.write.ensures.places ∙ c.set_before.ensures.places ∙ c.set_after.ensures.places) c.self.invariant.few_places }
 
 pub returns-clause-lists : goal.returns-clause-lists
 returns-clause-lists c =

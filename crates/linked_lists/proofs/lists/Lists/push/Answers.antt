@@ -13,7 +13,7 @@ set_after-requires c =
     let ends = c.self.inside.links.ends.items in
     let places = c.self.inside.links.places.items in
     there_same (length ends) _ (length places) _ c.link-last.result.before (sym c.write.ensures.lists) (sym c.write.ensures.places)
-    (rw (ap (λ l. l.before) c.link-last.ensures) (there-before ends places (walked ends places) (End c.args.list) c.self.invariant (list_within ends places _ c.args.list (ap (λ s. s.lists) c.self.view_is) c.requires.list)))
+    (rw (ap (λ l. l.before) c.link-last.ensures) (there-before ends places (walked ends places) (End c.args.list) c.self.invariant.ring (list_within ends places _ c.args.list (ap (λ s. s.lists) c.self.view_is) c.requires.list)))
 
 ahead : (c : goal.After-set_before) (p : Spot) → after c.set_before.new.self.ends.items c.set_before.new.self.places.items p ≡ twice (after c.self.inside.links.ends.items c.self.inside.links.places.items) (before c.self.inside.links.ends.items c.self.inside.links.places.items (End c.args.list)) (Place c.args.place) (Place c.args.place) (End c.args.list) p
 ahead c p =
@@ -36,10 +36,10 @@ ring c =
     let ends = c.self.inside.links.ends.items in
     let places = c.self.inside.links.places.items in
     IsRing-push (after ends places) (before ends places) _ _ c.args.place c.args.list (walked ends places)
-    (nowhere_walked ends places _ c.args.place (ap (λ s. s.lists) c.self.view_is) c.requires.nowhere) (ahead c) (behind c) c.self.invariant
+    (nowhere_walked ends places _ c.args.place (ap (λ s. s.lists) c.self.view_is) c.requires.nowhere) (ahead c) (behind c) c.self.invariant.ring
 
 pub invariant_of-self : goal.invariant_of-self
-invariant_of-self c = IsRing-walked c.set_before.new.self.ends.items c.set_before.new.self.places.items _ (ring c)
+invariant_of-self c = record { ring = IsRing-walked c.set_before.new.self.ends.items c.set_before.new.self.places.items _ (ring c); few_lists = rw (c.set_before.ensures.lists ∙ c.set_after.ensures.lists ∙ c.write.ensures.lists) c.self.invariant.few_lists; few_places = rw (c.set_before.ensures.places ∙ c.set_after.ensures.places ∙ c.write.ensures.places) c.self.invariant.few_places }
 
 pub returns-clause-lists : goal.returns-clause-lists
 returns-clause-lists c =

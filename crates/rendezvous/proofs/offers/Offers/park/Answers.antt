@@ -3,7 +3,8 @@ use Rattle.std.specs.FinMap as map
 use Rattle.std.proofs.lemmas.List.{length-set}
 use Rattle.rendezvous.specs.Line.{joined}
 use Rattle.rendezvous.specs.Nodes.{line_at, IsAway, AreListed}
-use Rattle.rendezvous.specs.Layout.{by_number, lines_from}
+use Rattle.linked_lists.specs.Numbered.{by_number}
+use Rattle.rendezvous.specs.Layout.{lines_from}
 use Rattle.rendezvous.proofs.Numbered.{get-lines, get-by_number, get_or-at, by_number-same, by_number-put}
 use Rattle.rendezvous.proofs.Lined.{always, away, listed, made_there, option_line, Backed-threads, Backed-joined}
 use Rattle.rendezvous.proofs.offers.Offers.park.Goals as goal

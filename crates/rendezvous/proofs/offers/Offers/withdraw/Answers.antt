@@ -3,7 +3,8 @@ use Rattle.std.specs.FinMap as map
 use Rattle.std.proofs.lemmas.List.{length-set, get_or_past}
 use Rattle.rendezvous.specs.Line.{left}
 use Rattle.rendezvous.specs.Nodes.{line_at}
-use Rattle.rendezvous.specs.Layout.{by_number, lines_from}
+use Rattle.linked_lists.specs.Numbered.{by_number}
+use Rattle.rendezvous.specs.Layout.{lines_from}
 use Rattle.rendezvous.proofs.Numbered.{get-lines, get-by_number, get_or-at, by_number-same, by_number-taken, lines-same}
 use Rattle.rendezvous.proofs.Lined.{away, unchanged, taken_alone, left_line, option_line, HasNoOffer-left, Backed-left}
 use Rattle.rendezvous.proofs.offers.Offers.withdraw.Goals as goal
