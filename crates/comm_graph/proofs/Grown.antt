@@ -13,7 +13,7 @@ use Rattle.comm_graph.specs.Edge.{AreNodes, IsRead}
 use Rattle.comm_graph.specs.Table.{stands, look, links_of, no_links, unlinked, entry_at, nodes_of, in_line, before_of, after_of, thread, readers, IsSorted, IsNodeAt, IsLineOf, IsLineBut, Keeps, AreTails, AreTailsBut, AreReaders, AreReadersBut}
 use Rattle.std.specs.VecDeque.{deque_capacity}
 use Rattle.comm_graph.specs.declared.table.Table.{Table}
-use Rattle.comm_graph.specs.Sound.{IsSound, room_of}
+use Rattle.comm_graph.specs.Sound.{IsSound, spare_of}
 use Rattle.comm_graph.proofs.Tables.{push_other, push_same, in_range, at_front, at_behind, apart}
 use Rattle.comm_graph.proofs.Lines.{line-agrees}
 use Rattle.comm_graph.proofs.Joins.{same_members, read_at, member_entry, member_range, none_beyond, but_self, but_other}
@@ -231,7 +231,7 @@ few_nodes (e ∷ es) =
     elim e.live as (λ b. length (cond b (n ∷ nodes_of es) (nodes_of es)) ≤ length (e ∷ es)) [ true ↦ omega arith | false ↦ omega arith ]
 
 -- a node more leaves room for one less
-pub rooms : (t u : Table) → length u.entries.items ≡ length t.entries.items + 1 → deque_capacity u.entries ≡ deque_capacity t.entries → u.gone ≡ t.gone → room_of u ≡ room_of t - 1
+pub rooms : (t u : Table) → length u.entries.items ≡ length t.entries.items + 1 → deque_capacity u.entries ≡ deque_capacity t.entries → u.gone ≡ t.gone → spare_of u ≡ spare_of t - 1
 rooms t u len cap gone =
     let a = t.entries.ok.0 in
     let b = u.entries.ok.0 in

@@ -15,7 +15,7 @@ use Rattle.comm_graph.specs.Edge.{AreNodes, IsRead}
 use Rattle.comm_graph.specs.Table.{stands, links_of, struck, entry_at, change, nodes_of, in_line, before_of, after_of, thread, readers, IsSorted, IsFound, IsLineOf, IsLineBut, Keeps, BesideThreads, BesideReaders, AreTails, AreTailsBut, AreReaders, AreReadersBut}
 use Rattle.std.specs.VecDeque.{deque_capacity}
 use Rattle.comm_graph.specs.declared.table.Table.{Table}
-use Rattle.comm_graph.specs.Sound.{IsClosed, IsAtLeast, IsSound, IsTrimmed, IsDropped, IsGrown, room_of}
+use Rattle.comm_graph.specs.Sound.{IsClosed, IsAtLeast, IsSound, IsTrimmed, IsDropped, IsGrown, spare_of}
 use Rattle.comm_graph.proofs.Grown.{no_line}
 use Rattle.comm_graph.proofs.Tables.{change_same, change_other, change_length, in_range, at_front, at_behind, apart, below_none}
 use Rattle.comm_graph.proofs.Lines.{line-agrees, line-cut}
@@ -320,7 +320,7 @@ module _ (es fs : List Entry) (g g' q n : ℕ) (tails : List ℕ) (total top : �
   }
 
 -- a strike leaves no less room
-pub more_room : (t u : Table) → length u.entries.items ≤ length t.entries.items → deque_capacity u.entries ≡ deque_capacity t.entries → u.gone ≡ t.gone → room_of t ≤ room_of u
+pub more_room : (t u : Table) → length u.entries.items ≤ length t.entries.items → deque_capacity u.entries ≡ deque_capacity t.entries → u.gone ≡ t.gone → spare_of t ≤ spare_of u
 more_room t u len cap gone =
     let a = t.entries.ok.0 in
     let b = u.entries.ok.0 in

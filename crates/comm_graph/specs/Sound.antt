@@ -42,8 +42,8 @@ pub record IsSound (es : List Entry) (gone : ℕ) (tails : List ℕ) (total grea
   pub under : (p t : ℕ) → in_line (thread t) es gone p ≡ true → t ≤ greatest
 
 -- how many more nodes can be added without memory
-abbrev pub room_of : Table → ℕ
-room_of t = min (deque_capacity t.entries - deque_len t.entries) (2 ^ 64 - 1 - (t.gone + length t.entries.items))
+abbrev pub spare_of : Table → ℕ
+spare_of t = min (deque_capacity t.entries - deque_len t.entries) (2 ^ 64 - 1 - (t.gone + length t.entries.items))
 
 -- struck entries left the end
 pub record IsTrimmed (es fs : List Entry) (gone : ℕ) : Type 0 where

@@ -53,7 +53,8 @@ impl Graph {
     pub fn next_edge<L: Ledger>(&self, edges: &mut Edges, steps: &mut Steps<L>) -> Option<Seq>
         requires { AreEdges self.now.nodes edges.old }
         ensures edges { AreEdges self.now.nodes edges.new }
-        ensures turn { IsTurn self.now.nodes edges.old.node.0 (left_of self.now.nodes edges.old.node.0 edges.old.left) result edges.new }
+        ensures turn { IsTurn self.now.nodes edges.old.node.0
+            (left_of self.now.nodes edges.old.node.0 edges.old.left) result edges.new }
         ensures step { steps.new ≡ steps.old + 1 }
     {
         steps.tick();
@@ -86,7 +87,8 @@ impl Graph {
 
     fn advance(&self, edges: &mut Edges) -> Option<Seq>
         requires { AreEdges self.now.nodes edges.old }
-        ensures { IsTurn self.now.nodes edges.old.node.0 (left_of self.now.nodes edges.old.node.0 edges.old.left) result edges.new }
+        ensures { IsTurn self.now.nodes edges.old.node.0
+            (left_of self.now.nodes edges.old.node.0 edges.old.left) result edges.new }
     {
         match edges.left {
             Left::First => match self.table.find_near(edges.node, edges.near) {
@@ -112,7 +114,8 @@ impl Graph {
 fn from_first(table: &Table, tails: &Vec<Place>, place: Place, edges: &mut Edges) -> Option<Seq>
     requires ready { IsReady table.now.entries.items table.now.gone tails.now.items }
     requires found { IsFound table.now.entries.items table.now.gone edges.old.node.0 place }
-    ensures { IsTurn (nodes_of table.now.entries.items) edges.old.node.0 (left_of (nodes_of table.now.entries.items) edges.old.node.0 First) result edges.new }
+    ensures { IsTurn (nodes_of table.now.entries.items) edges.old.node.0
+        (left_of (nodes_of table.now.entries.items) edges.old.node.0 First) result edges.new }
 {
     edges.near = place;
     let first = table.entry(place).kind.first();
@@ -128,7 +131,8 @@ fn from_first(table: &Table, tails: &Vec<Place>, place: Place, edges: &mut Edges
 fn from_second(table: &Table, tails: &Vec<Place>, place: Place, edges: &mut Edges) -> Option<Seq>
     requires ready { IsReady table.now.entries.items table.now.gone tails.now.items }
     requires found { IsFound table.now.entries.items table.now.gone edges.old.node.0 place }
-    ensures { IsTurn (nodes_of table.now.entries.items) edges.old.node.0 (left_of (nodes_of table.now.entries.items) edges.old.node.0 Second) result edges.new }
+    ensures { IsTurn (nodes_of table.now.entries.items) edges.old.node.0
+        (left_of (nodes_of table.now.entries.items) edges.old.node.0 Second) result edges.new }
 {
     edges.near = place;
     match next_of_second(table, tails, place) {
@@ -156,7 +160,8 @@ fn next_of_second(table: &Table, tails: &Vec<Place>, place: Place) -> Option<Pla
 fn from_reads(table: &Table, place: Place, edges: &mut Edges) -> Option<Seq>
     requires ready { IsReady table.now.entries.items table.now.gone [] }
     requires found { IsFound table.now.entries.items table.now.gone edges.old.node.0 place }
-    ensures { IsTurn (nodes_of table.now.entries.items) edges.old.node.0 (left_of (nodes_of table.now.entries.items) edges.old.node.0 Reads) result edges.new }
+    ensures { IsTurn (nodes_of table.now.entries.items) edges.old.node.0
+        (left_of (nodes_of table.now.entries.items) edges.old.node.0 Reads) result edges.new }
 {
     edges.left = Left::Reads;
     let entry = table.entry(place);
@@ -173,7 +178,8 @@ fn from_reader(table: &Table, place: Place, reader: Seq, edges: &mut Edges) -> O
     requires found { IsFound table.now.entries.items table.now.gone reader.0 place }
     requires left { edges.old.left ≡ Before reader }
     requires there { IsLeft (nodes_of table.now.entries.items) edges.old.node.0 edges.old.left }
-    ensures { IsTurn (nodes_of table.now.entries.items) edges.old.node.0 (left_of (nodes_of table.now.entries.items) edges.old.node.0 edges.old.left) result edges.new }
+    ensures { IsTurn (nodes_of table.now.entries.items) edges.old.node.0
+        (left_of (nodes_of table.now.entries.items) edges.old.node.0 edges.old.left) result edges.new }
 {
     let before = table.entry(place).links(Line::Readers(edges.node)).before;
     turn_to(table, before, edges)
@@ -182,10 +188,12 @@ fn from_reader(table: &Table, place: Place, reader: Seq, edges: &mut Edges) -> O
 // The edge to a reader, or none where the place is none.
 fn turn_to(table: &Table, reader: Place, edges: &mut Edges) -> Option<Seq>
     requires ready { IsReady table.now.entries.items table.now.gone [] }
-    requires readers { AreReadersLeft table.now.entries.items table.now.gone edges.old.node.0 reader (left_of (nodes_of table.now.entries.items) edges.old.node.0 edges.old.left) }
+    requires readers { AreReadersLeft table.now.entries.items table.now.gone edges.old.node.0 reader
+        (left_of (nodes_of table.now.entries.items) edges.old.node.0 edges.old.left) }
     requires writer { IsWriter (nodes_of table.now.entries.items) edges.old.node.0 }
     requires there { IsLeft (nodes_of table.now.entries.items) edges.old.node.0 edges.old.left }
-    ensures { IsTurn (nodes_of table.now.entries.items) edges.old.node.0 (left_of (nodes_of table.now.entries.items) edges.old.node.0 edges.old.left) result edges.new }
+    ensures { IsTurn (nodes_of table.now.entries.items) edges.old.node.0
+        (left_of (nodes_of table.now.entries.items) edges.old.node.0 edges.old.left) result edges.new }
 {
     if reader <= table.gone {
         return None;

@@ -35,9 +35,9 @@ impl Model for Graph {
     ghost coded = { node_list_code kinds.the_row.coded };
 
     ghost use Rattle.comm_graph.specs.Table.{nodes_of};
-    ghost use Rattle.comm_graph.specs.Sound.{IsSound, room_of};
+    ghost use Rattle.comm_graph.specs.Sound.{IsSound, spare_of};
 
-    ghost view = { λ a. record { nodes = nodes_of a.table.entries.items; spare = room_of a.table } };
+    ghost view = { λ a. record { nodes = nodes_of a.table.entries.items; spare = spare_of a.table } };
 
     ghost invariant = { λ a. IsSound a.table.entries.items a.table.gone a.tails.items a.count a.greatest };
 }
@@ -90,7 +90,7 @@ impl Graph {
 
     /// Adds a node behind all others.
     pub fn add(&mut self, q: Seq, node: NodeFor)
-        requires room { 1 ≤ self.old.spare }
+        requires spare { 1 ≤ self.old.spare }
         requires above { All (λ (n : Node). n.number < q.0) self.old.nodes }
         requires read { (p : ℕ) → reads p node ≡ true → p < q.0 }
         ensures { self.new ≡ record {

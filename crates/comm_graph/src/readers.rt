@@ -16,7 +16,8 @@ pub fn join(table: &mut Table, place: Place, kind: &NodeFor)
     requires sorted { IsSorted table.old.entries.items table.old.gone }
     requires small { table.old.gone + length table.old.entries.items < 2 ^ 64 }
     requires behind { place ≡ table.old.gone + length table.old.entries.items }
-    requires alone { (q : ℕ) → in_line (readers q) table.old.entries.items table.old.gone place ≡ true → after_of (readers q) table.old.entries.items table.old.gone place ≡ 0 }
+    requires alone { (q : ℕ) → in_line (readers q) table.old.entries.items table.old.gone place ≡ true
+        → after_of (readers q) table.old.entries.items table.old.gone place ≡ 0 }
     requires lines { AreReadersBut table.old.entries.items table.old.gone place }
     ensures gone { table.new.gone ≡ table.old.gone }
     ensures capacity { deque_capacity table.new.entries ≡ deque_capacity table.old.entries }
@@ -47,8 +48,10 @@ fn find_write(table: &Table, number: Seq) -> Option<Place>
 
 fn only_write(table: &Table, place: Place) -> Option<Place>
     requires { IsPlace table.now.entries.items table.now.gone place }
-    ensures write { IfSome result (λ w. (w ≡ place) × ((e : Entry) → entry_at table.now.entries.items table.now.gone place ≡ Some e → is_write e.kind ≡ true)) }
-    ensures other { IfNone result ((e : Entry) → entry_at table.now.entries.items table.now.gone place ≡ Some e → is_write e.kind ≡ true → ⊥) }
+    ensures write { IfSome result
+        (λ w. (w ≡ place) × ((e : Entry) → entry_at table.now.entries.items table.now.gone place ≡ Some e → is_write e.kind ≡ true)) }
+    ensures other { IfNone result
+        ((e : Entry) → entry_at table.now.entries.items table.now.gone place ≡ Some e → is_write e.kind ≡ true → ⊥) }
 {
     if table.entry(place).kind.is_write() {
         Some(place)

@@ -279,8 +279,10 @@ impl Table {
     fn pop_struck(&mut self) -> bool
         ensures gone { self.new.gone ≡ self.old.gone }
         ensures capacity { deque_capacity self.new.entries ≡ deque_capacity self.old.entries }
-        ensures some { result ≡ true → (e : Entry) × (self.old.entries.items ≡ self.new.entries.items ++ e ∷ []) × (e.live ≡ false) }
-        ensures none { result ≡ false → (self.new.entries.items ≡ self.old.entries.items) × IsClosed self.old.entries.items self.old.gone }
+        ensures some { result ≡ true → (e : Entry) × (self.old.entries.items ≡ self.new.entries.items ++ e ∷ [])
+            × (e.live ≡ false) }
+        ensures none { result ≡ false → (self.new.entries.items ≡ self.old.entries.items)
+            × IsClosed self.old.entries.items self.old.gone }
     {
         let struck = self.ends_struck();
         if struck {
@@ -319,8 +321,10 @@ impl Table {
     fn pop_below(&mut self, q: Seq) -> Option<bool>
         requires { self.old.gone + length self.old.entries.items < 2 ^ 64 }
         ensures capacity { deque_capacity self.new.entries ≡ deque_capacity self.old.entries }
-        ensures some { IfSome result (λ live. IsFirstBelow self.old.entries.items self.old.gone self.new.entries.items self.new.gone q.0 live) }
-        ensures none { IfNone result ((self.new.entries.items ≡ self.old.entries.items) × (self.new.gone ≡ self.old.gone) × IsAtLeast self.old.entries.items self.old.gone q.0) }
+        ensures some { IfSome result
+            (λ live. IsFirstBelow self.old.entries.items self.old.gone self.new.entries.items self.new.gone q.0 live) }
+        ensures none { IfNone result
+            ((self.new.entries.items ≡ self.old.entries.items) × (self.new.gone ≡ self.old.gone) × IsAtLeast self.old.entries.items self.old.gone q.0) }
     {
         let first = *self.entries.front()?;
         if first.number.0 >= q.0 {

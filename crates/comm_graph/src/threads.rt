@@ -33,7 +33,8 @@ fn join_one(table: &mut Table, tails: &mut Vec<Place>, place: Place, t: ThreadId
     requires behind { place ≡ table.old.gone + length table.old.entries.items }
     requires member { in_line (thread t.0) table.old.entries.items table.old.gone place ≡ true }
     requires alone { after_of (thread t.0) table.old.entries.items table.old.gone place ≡ 0 }
-    requires line { t.0 < length tails.old.items → IsLineBut table.old.entries.items table.old.gone (thread t.0) (slice_index tails.old.items t.0) place }
+    requires line { t.0 < length tails.old.items
+        → IsLineBut table.old.entries.items table.old.gone (thread t.0) (slice_index tails.old.items t.0) place }
     ensures gone { table.new.gone ≡ table.old.gone }
     ensures capacity { deque_capacity table.new.entries ≡ deque_capacity table.old.entries }
     ensures beside { Beside (thread t.0) table.old.entries.items table.new.entries.items table.old.gone }
@@ -67,13 +68,15 @@ pub fn leave(table: &mut Table, tails: &mut Vec<Place>, place: Place, kind: &Nod
 fn leave_one(table: &mut Table, tails: &mut Vec<Place>, place: Place, t: ThreadId)
     requires place { IsPlace table.old.entries.items table.old.gone place }
     requires member { in_line (thread t.0) table.old.entries.items table.old.gone place ≡ true }
-    requires line { t.0 < length tails.old.items → IsLineOf table.old.entries.items table.old.gone (thread t.0) (slice_index tails.old.items t.0) }
+    requires line { t.0 < length tails.old.items
+        → IsLineOf table.old.entries.items table.old.gone (thread t.0) (slice_index tails.old.items t.0) }
     ensures gone { table.new.gone ≡ table.old.gone }
     ensures capacity { deque_capacity table.new.entries ≡ deque_capacity table.old.entries }
     ensures beside { Beside (thread t.0) table.old.entries.items table.new.entries.items table.old.gone }
     ensures count { length tails.new.items ≡ length tails.old.items }
     ensures others { (u : ℕ) → u ≢ t.0 → slice_index tails.new.items u ≡ slice_index tails.old.items u }
-    ensures left { t.0 < length tails.old.items → IsLineBut table.new.entries.items table.old.gone (thread t.0) (slice_index tails.new.items t.0) place }
+    ensures left { t.0 < length tails.old.items
+        → IsLineBut table.new.entries.items table.old.gone (thread t.0) (slice_index tails.new.items t.0) place }
 {
     let index = t.0 as usize;
     if index < tails.len() {

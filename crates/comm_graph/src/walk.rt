@@ -13,7 +13,8 @@ pub fn next_acting(table: &Table, tails: &Vec<Place>, place: Place, t: ThreadId)
     requires small { table.now.gone + length table.now.entries.items < 2 ^ 64 }
     requires tails { AreTails table.now.entries.items table.now.gone tails.now.items }
     requires line { t.0 < length tails.now.items → in_line (thread t.0) table.now.entries.items table.now.gone place ≡ true }
-    ensures next { number_at table.now.entries.items table.now.gone result ≡ next_of t.0 (nodes_behind table.now.entries.items table.now.gone place) }
+    ensures next { number_at table.now.entries.items table.now.gone result
+        ≡ next_of t.0 (nodes_behind table.now.entries.items table.now.gone place) }
     ensures place { IfSome result (IsPlace table.now.entries.items table.now.gone) }
 {
     let mut at = following(table, tails, place, t);

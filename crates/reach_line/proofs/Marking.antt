@@ -131,3 +131,13 @@ last_within qs lowest q seen capacity k = all_last (λ p. (lowest ≤ p) × (p <
 pub unnot : (b : Bool) → not b ≡ true → b ≡ false
 unnot true h = absurd (cc)
 unnot false h = refl
+
+-- where nothing is marked, the room may begin anywhere
+pub kept_moved : (qs : List ℕ) (lowest lowest' : ℕ) (seen : List Bool) (capacity : ℕ) → qs ≡ [] → IsKept qs lowest seen capacity → IsKept qs lowest' seen capacity
+kept_moved qs lowest lowest' seen capacity none k = record {
+  exact = λ j lt. k.exact j lt ∙ ap (has (lowest + j)) none ∙ sym (ap (has (lowest' + j)) none);
+  within = subst (AllByRecursion (λ q. (lowest' ≤ q) × (q < lowest' + length seen))) (sym none) tt;
+  once = k.once;
+  count = k.count;
+  room = k.room;
+}

@@ -14,6 +14,7 @@ pub struct Marks {
     alloc: Global,
     nodes: Vec<Seq>,
     lowest: u64,
+    /// Which numbers from `lowest` on are marked.
     seen: Vec<bool>,
 }
 
@@ -47,8 +48,9 @@ impl Marks {
         }
     }
 
-    /// Makes room for all nodes of a graph, and forgets what was marked. Costs a byte for each number
-    /// from the graph's first node to its last.
+    /// Makes room for all nodes of a graph, and forgets what was marked. It has a byte for each number
+    /// from the graph's first node to its last: where these are no more than it has room for, it costs
+    /// what was marked, and else it takes half as many again.
     pub fn reserve(&mut self, graph: &Graph) -> Result<(), NoMemory>
         ensures room { OnOk result (HasRoom self.new graph.now.nodes) }
         ensures none { OnOk result (self.new.nodes ≡ []) }
@@ -58,8 +60,38 @@ impl Marks {
             Some((first, last)) => (first.0, room_between(first, last)?),
             None => (0, 0),
         };
-        *self = with_room(self.alloc, lowest, count)?;
+        if count > self.room() {
+            *self = with_room(self.alloc, lowest, half_as_many_again(count))?;
+            return Ok(());
+        }
+        self.restart(lowest);
         Ok(())
+    }
+
+    // For how many numbers there is room.
+    fn room(&self) -> usize
+        ensures { result ≡ self.now.beyond - self.now.lowest }
+    {
+        self.seen.len()
+    }
+
+    // Forgets all marks, and lets the room begin with another number.
+    fn restart(&mut self, lowest: u64)
+        ensures nodes { self.new.nodes ≡ [] }
+        ensures lowest { self.new.lowest ≡ lowest }
+        ensures beyond { self.new.beyond ≡ lowest + (self.old.beyond - self.old.lowest) }
+    {
+        self.clear();
+        self.start_at(lowest);
+    }
+
+    fn start_at(&mut self, lowest: u64)
+        requires { self.old.nodes ≡ [] }
+        ensures nodes { self.new.nodes ≡ [] }
+        ensures lowest { self.new.lowest ≡ lowest }
+        ensures beyond { self.new.beyond ≡ lowest + (self.old.beyond - self.old.lowest) }
+    {
+        self.lowest = lowest;
     }
 
     /// The marked nodes, in the order in which they were reached.
@@ -82,7 +114,8 @@ impl Marks {
     pub(crate) fn mark(&mut self, q: Seq)
         requires low { self.old.lowest ≤ q.0 }
         requires high { q.0 < self.old.beyond }
-        ensures { self.new ≡ record self.old { nodes = cond (has q.0 self.old.nodes) self.old.nodes (self.old.nodes ++ q.0 ∷ []) } }
+        ensures { self.new
+            ≡ record self.old { nodes = cond (has q.0 self.old.nodes) self.old.nodes (self.old.nodes ++ q.0 ∷ []) } }
     {
         let index = (q.0 - self.lowest) as usize;
         if !self.seen[index] {
@@ -91,8 +124,16 @@ impl Marks {
         }
     }
 
-    /// Forgets the last mark, and says whether there was one.
-    pub(crate) fn forget_last(&mut self) -> bool
+    /// Forgets all marks.
+    pub(crate) fn clear(&mut self)
+        ensures nodes { self.new.nodes ≡ [] }
+        ensures room { (self.new.lowest ≡ self.old.lowest) × (self.new.beyond ≡ self.old.beyond) }
+    {
+        while self.forget_last() {}
+    }
+
+    // Forgets the last mark, and says whether there was one.
+    fn forget_last(&mut self) -> bool
         ensures room { (self.new.lowest ≡ self.old.lowest) × (self.new.beyond ≡ self.old.beyond) }
         ensures some { result ≡ true → length self.new.nodes + 1 ≡ length self.old.nodes }
         ensures none { result ≡ false → self.new.nodes ≡ [] }
@@ -115,6 +156,12 @@ fn room_between(first: Seq, last: Seq) -> Result<usize, NoMemory>
         Some(count) => Ok(count as usize),
         None => Err(NoMemory),
     }
+}
+
+fn half_as_many_again(count: usize) -> usize
+    ensures { count ≤ result }
+{
+    count.saturating_add(count / 2)
 }
 
 fn with_room(alloc: Global, lowest: u64, count: usize) -> Result<Marks, NoMemory>

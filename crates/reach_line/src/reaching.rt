@@ -1,5 +1,5 @@
 //! From a node to all that edges reach.
-ghost use Rattle.std.specs.Prelude.{◌≡◌, ◌≤◌, ◌+◌, ◌*◌, [], length, IsSome};
+ghost use Rattle.std.specs.Prelude.{◌≡◌, ◌≤◌, ◌+◌, ◌*◌, length, IsSome};
 ghost use Rattle.comm_graph.specs.Edge.{ends, kind_of};
 ghost use Rattle.reach_line.specs.Reached.{AreReached};
 ghost use Rattle.reach_line.specs.MarkList.{HasRoom};
@@ -21,7 +21,7 @@ pub fn reach<L: Ledger>(graph: &Graph, node: Seq, marks: &mut Marks, steps: &mut
     ensures room { HasRoom marks.new graph.now.nodes }
     ensures steps { steps.new ≤ steps.old + 4 * length marks.new.nodes }
 {
-    clear(marks);
+    marks.clear();
     marks.mark(node);
     let mut next = 0usize;
     while let Some(from) = marks.at(next) {
@@ -29,13 +29,6 @@ pub fn reach<L: Ledger>(graph: &Graph, node: Seq, marks: &mut Marks, steps: &mut
         next += 1;
     }
     let _nodes = graph.len();
-}
-
-fn clear(marks: &mut Marks)
-    ensures nodes { marks.new.nodes ≡ [] }
-    ensures room { (marks.new.lowest ≡ marks.old.lowest) × (marks.new.beyond ≡ marks.old.beyond) }
-{
-    while marks.forget_last() {}
 }
 
 // Marks where the edges of a node lead.

@@ -3,7 +3,7 @@ use Rattle.std.specs.List.{AllByRecursion}
 use Rattle.std.proofs.lemmas.List.Elements.{recursion_from_All}
 use Rattle.comm_graph.specs.Node.{Node}
 use Rattle.comm_graph.specs.Edge.{NodeList}
-use Rattle.comm_graph.specs.Sound.{IsSound, room_of}
+use Rattle.comm_graph.specs.Sound.{IsSound, spare_of}
 use Rattle.comm_graph.specs.Table.{unlinked, nodes_of, thread, readers, in_line, after_of, IsSorted, IsNodeAt, AreReaders, AreReadersBut, BesideReaders}
 use Rattle.comm_graph.proofs.Grown.{IsPushed, p_node, p_alone, p_tails, p_sorted, p_readers, p_added, few_nodes, rooms}
 use Rattle.comm_graph.proofs.Kept.{node_kept, sorted_kept, tails_kept, readers_but_kept}
@@ -111,5 +111,5 @@ returns c =
     let len : length es3 ≡ length t.entries.items + 1 = c.join-2.ensures.beside.keeps.count ∙ c.join.ensures.beside.keeps.count ∙ ap length c.push.ensures.entries ∙ length-append t.entries.items (unlinked c.args.q c.args.node ∷ []) in
     let cap = c.join-2.ensures.capacity ∙ c.join.ensures.capacity ∙ c.push.ensures.capacity in
     let gone = c.join-2.ensures.gone ∙ c.join.ensures.gone ∙ c.push.ensures.gone in
-    let spare : room_of u ≡ c.args.self.now.spare - 1 = rooms t u len cap gone ∙ ap (λ v. v - 1) (ap (λ (v : NodeList). v.spare) c.self.view_is) in
+    let spare : spare_of u ≡ c.args.self.now.spare - 1 = rooms t u len cap gone ∙ ap (λ v. v - 1) (ap (λ (v : NodeList). v.spare) c.self.view_is) in
     λ i. record { nodes = nodes i; spare = spare i }

@@ -2,7 +2,7 @@ use Rattle.std.proofs.Common.{◌≡◌, ◌-◌, ◌≤◌, ◌∙◌, not, nat
 use Rattle.comm_graph.specs.Node.{Node}
 use Rattle.comm_graph.specs.Edge.{NodeList, kind_of}
 use Rattle.comm_graph.specs.Table.{change, struck, AreReaders, AreReadersBut, BesideReaders}
-use Rattle.comm_graph.specs.Sound.{IsSound, IsTrimmed, IsClosed, room_of}
+use Rattle.comm_graph.specs.Sound.{IsSound, IsTrimmed, IsClosed, spare_of}
 use Rattle.comm_graph.proofs.Tables.{in_range, change_length}
 use Rattle.comm_graph.proofs.Kept.{readers_kept}
 use Rattle.comm_graph.proofs.ReaderLines.{none_of}
@@ -74,7 +74,7 @@ returns-in-Some-clause-spare c =
     let d = c.leave-in-Some.ensures.beside.keeps.count ∙ c.leave.ensures.beside.keeps.count in
     omega arith) in
     let room = more_room t u len (c.trim.ensures.capacity ∙ c.set_struck.ensures.capacity ∙ c.leave-in-Some.ensures.capacity ∙ c.leave.ensures.capacity) (c.trim.ensures.gone ∙ c.set_struck.ensures.gone ∙ c.leave-in-Some.ensures.gone ∙ c.leave.ensures.gone) in
-    subst (λ v. v ≤ room_of u) (ap (λ (v : NodeList). v.spare) c.self.view_is) room
+    subst (λ v. v ≤ spare_of u) (ap (λ (v : NodeList). v.spare) c.self.view_is) room
 
 pub returns-in_default-clause-nodes : goal.returns-in_default-clause-nodes
 returns-in_default-clause-nodes c =
