@@ -1,0 +1,12 @@
+//! The numbers of a probe file.
+#![tactic(auto)]
+
+mod fault;
+mod number;
+mod read;
+
+pub use fault::ProbesFault;
+pub use read::read_probes;
+
+#[cfg(test)]
+mod tests;
