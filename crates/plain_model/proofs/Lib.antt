@@ -3,7 +3,6 @@ pub mod Running
 pub mod Starting
 pub mod OneThread
 pub mod Stepping
-pub mod Working
 pub mod Looking
 pub mod Alone
 pub mod Resting

@@ -1,5 +1,5 @@
 -- States with thread 1 alone.
-use Rattle.std.specs.List.{AllByRecursion, sum_by}
+use Rattle.std.specs.List.{AllByRecursion}
 use Rattle.std.specs.Ordering.{nat_cmp, eq_by_cmp, is_eq}
 use Rattle.std.specs.declared.cmp.Ordering.TheVariants.{Less, Equal, Greater}
 use Rattle.std.specs.Cmp.{nat_cmp_total}
@@ -10,7 +10,7 @@ use Rattle.std.proofs.Common.{arith, ◌≡◌, ◌≢◌, ◌<◌, ◌+◌, ℕ
 use Rattle.stab_base.specs.Datum.{Datum, unit}
 use Rattle.plain_model.specs.Expression.{Expr, Look, look, done, fault, pure, act, prints, answered}
 use Rattle.plain_model.specs.Machine.{Prints}
-use Rattle.plain_model.specs.State.{State, with_thread, after_print, print_of, local_of, printed_by, pure_steps, some_pure_steps, IsEnded, IsDone, IsQuiet, AllDone, CanStep, work, work_left}
+use Rattle.plain_model.specs.State.{State, with_thread, after_print, print_of, local_of, printed_by, pure_steps, some_pure_steps, IsEnded, IsDone, IsQuiet, AllDone, CanStep}
 
 -- thread 1 at an expression
 abbrev pub only : Expr → FinMap nat_cmp Expr
@@ -115,6 +115,9 @@ values-only e = ap (map_list (λ x. x.1)) (entries-only e)
 pub quiet_only : (e : Expr) (out : List Datum) → IsEnded (look e) → IsQuiet (state_of e out)
 quiet_only e out h = subst (AllByRecursion (λ x. IsEnded (look x))) (sym (values-only e)) (h, tt)
 
+pub only_quiet : (e : Expr) (out : List Datum) → IsQuiet (state_of e out) → IsEnded (look e)
+only_quiet e out h = (subst (AllByRecursion (λ x. IsEnded (look x))) (values-only e) h).0
+
 pub done_only : (e : Expr) (out : List Datum) → IsDone (look e) → AllDone (state_of e out)
 done_only e out h = subst (AllByRecursion (λ x. IsDone (look x))) (sym (values-only e)) (h, tt)
 
@@ -123,6 +126,3 @@ only_done e out h = (subst (AllByRecursion (λ x. IsDone (look x))) (values-only
 
 pub can_step_only : (e : Expr) → (IsEnded (look e) → ⊥) → CanStep (map.get (only e) 1)
 can_step_only e h = subst CanStep (sym (get-only e)) h
-
-pub work-only : (e : Expr) (out : List Datum) → work_left (state_of e out) ≡ work e
-work-only e out = ap (sum_by work) (values-only e) ∙ (let z : 0 + work e ≡ work e = omega arith in z)

@@ -1,6 +1,6 @@
 -- States of the plain language, and its steps.
-use Rattle.std.specs.Prelude.{◌≢◌, ℕ, zero, suc, ◌+◌, List, [], ◌∷◌, ◌++◌, Option, Some, None, option_and_then, option_map, fold, max}
-use Rattle.std.specs.List.{AllByRecursion, sum_by}
+use Rattle.std.specs.Prelude.{ℕ, zero, suc, List, [], ◌∷◌, ◌++◌, Option, Some, None, option_and_then, option_map, fold, max}
+use Rattle.std.specs.List.{AllByRecursion}
 use Rattle.std.specs.Ordering.{nat_cmp}
 use Rattle.std.specs.FinMap as map
 use Rattle.std.specs.FinMap.{FinMap}
@@ -74,11 +74,6 @@ after_steps s (step ∷ steps) = option_and_then (λ next. after_steps next step
 abbrev pub end_of : Expr → List Numbered → Option State
 end_of main run = after_steps (start main) run
 
--- one pure step takes no memory; each other step may be refused for want of it
-abbrev pub MayWantMemory : Label → Type 0
-MayWantMemory (Local t n) = n ≢ 1
-MayWantMemory _ = Unit {0}
-
 -- the greatest of the threads that are there, 0 where there is none
 abbrev pub greatest_thread : State → ℕ
 greatest_thread s = fold max 0 (map.keys s.threads)
@@ -106,21 +101,3 @@ AllDone s = AllByRecursion (λ e. IsDone (look e)) (map.values s.threads)
 abbrev pub CanStep : Option Expr → Type 0
 CanStep None = ⊥
 CanStep (Some e) = IsEnded (look e) → ⊥
-
--- the forms and items of an expression, of which each step and each act takes at least one away
-abbrev mutual
-  pub work : Expr → ℕ
-  work (value v) = 0
-  work (failed k) = 0
-  work (block items e) = item_work items + work e + 1
-  work (sum a b) = work a + work b + 1
-  work (print a) = work a + 1
-
-  -- those of the items
-  pub item_work : Items → ℕ
-  item_work none = 0
-  item_work (item a items) = work a + item_work items + 1
-
--- what all threads have left
-abbrev pub work_left : State → ℕ
-work_left s = sum_by work (map.values s.threads)

@@ -1,8 +1,7 @@
 //! What a run is asked to do.
-ghost use Rattle.std.specs.Prelude.{◌≡◌};
-ghost use Rattle.plain_model.specs.Job.{default_job, IsJob};
+ghost use Rattle.std.specs.Prelude.{◌≡◌, ◌≤◌, length};
+ghost use Rattle.plain_model.specs.Job.{IsJob, job_of, max_fuel, max_quantum, max_script};
 
-use std::alloc::Global;
 use std::marker::Model;
 use sum_reader::Program;
 
@@ -31,21 +30,20 @@ impl Model for Job {
 }
 
 impl Job {
-    /// The fuel of a run whose words name none.
-    pub const DEFAULT_FUEL: u64 = 1_000_000;
-
-    /// The quantum of a run whose words name none.
-    pub const DEFAULT_QUANTUM: u32 = 1_000;
-
-    /// The job of a program with the default fuel and quantum and an empty script.
-    pub fn of_program(alloc: Global, program: Program) -> Job
-        ensures { result ≡ default_job program }
+    /// The job of running this program with this script, fuel and quantum.
+    pub fn new(program: Program, script: Vec<i64>, fuel: u64, quantum: u32) -> Job
+        requires some_fuel { 1 ≤ fuel }
+        requires fuel_within { fuel ≤ max_fuel }
+        requires some_quantum { 1 ≤ quantum }
+        requires quantum_within { quantum ≤ max_quantum }
+        requires script_within { length script.items ≤ max_script }
+        ensures { result ≡ job_of program script.items fuel quantum }
     {
         Job {
             program,
-            script: Vec::new(alloc),
-            fuel: Job::DEFAULT_FUEL,
-            quantum: Job::DEFAULT_QUANTUM,
+            script,
+            fuel,
+            quantum,
         }
     }
 
@@ -56,7 +54,15 @@ impl Job {
         &self.program
     }
 
-    /// How many pure steps a turn may make.
+    /// How much the run may weigh before it is spent.
+    pub fn fuel(&self) -> u64
+        ensures exact { result ≡ self.now.fuel }
+        ensures rules { IsJob self.now }
+    {
+        self.fuel
+    }
+
+    /// How many pure steps one event may stand for.
     pub fn quantum(&self) -> u32
         ensures exact { result ≡ self.now.quantum }
         ensures rules { IsJob self.now }

@@ -1,16 +1,15 @@
 //! A state of the plain language, and its steps.
-ghost use Rattle.std.specs.Prelude.{◌≡◌, ◌+◌, ◌≤◌, ◌↔◌, All, [], Some, None, Err, IfOk, IfNone, IfSome, IsTrue, OnOk, OnErr, option_and_then, option_map};
+ghost use Rattle.std.specs.Prelude.{◌≡◌, ◌↔◌, All, [], Some, None, Err, IfOk, IfNone, IfSome, IsTrue, OnOk, OnErr, option_and_then, option_map};
 ghost use Rattle.std.specs.Ordering.{nat_cmp};
 ghost use Rattle.std.specs.FinMap as map;
 ghost use Rattle.stab_base.specs.Printed.{HasTexts};
 ghost use Rattle.stab_base.specs.declared.numbers.Seq.{Seq};
 ghost use Rattle.stab_base.specs.declared.numbers.ThreadId.{ThreadId};
-ghost use Rattle.stab_journal.specs.Event.{IsName, weigh};
-ghost use Rattle.stab_journal.specs.declared.event.What.TheVariants as What;
+ghost use Rattle.stab_journal.specs.Event.{IsName};
 ghost use Rattle.plain_model.specs.Expression.{mark};
 ghost use Rattle.plain_model.specs.Machine.{IsAlone, Looks, LooksAt};
 ghost use Rattle.plain_model.specs.Program.{main_expr};
-ghost use Rattle.plain_model.specs.State.{AllDone, CanStep, greatest_thread, IsQuiet, MayWantMemory, plain, start, work, work_left};
+ghost use Rattle.plain_model.specs.State.{AllDone, CanStep, greatest_thread, IsQuiet, plain, start};
 
 use crate::thread::{Look, Thread};
 use stab_base::{NoMemory, Seq, ThreadId, Value};
@@ -59,8 +58,7 @@ impl Model for PlainState {
 impl PlainState {
     /// Thread 1 stands at the body of `main`, and there is nothing else.
     pub fn start(alloc: Global, program: &Program) -> Result<PlainState, NoMemory>
-        ensures start { IfOk result (λ s. s ≡ start (main_expr program.now)) }
-        ensures work { IfOk result (λ s. work_left s ≡ work (main_expr program.now)) }
+        ensures { IfOk result (λ s. s ≡ start (main_expr program.now)) }
     {
         let main = Thread::start(alloc, program)?;
         Ok(PlainState {
@@ -69,12 +67,10 @@ impl PlainState {
         })
     }
 
-    /// Makes the step with this number and label. A fault leaves the state as it was. One pure step takes no memory.
+    /// Makes the step with this number and label. A fault leaves the state as it was.
     pub fn play(&mut self, alloc: Global, q: Seq, label: &Label) -> Result<(), PlayFault>
         ensures ok { OnOk result (plain self.old q.0 label.now ≡ Some self.new) }
         ensures no_step { result ≡ Err PlayFault.NoStep → plain self.old q.0 label.now ≡ None }
-        ensures memory { result ≡ Err PlayFault.NoMemory → MayWantMemory label.now }
-        ensures less { OnOk result (work_left self.new + weigh (What.Step label.now) ≤ work_left self.old) }
         ensures err { OnErr result (self.new ≡ self.old) }
     {
         match *label {
@@ -123,6 +119,7 @@ impl PlainState {
         ensures quiet { IfNone result (IsQuiet self.now) }
         ensures ready { IfSome result (λ (t : ThreadId). CanStep (map.get self.now.threads t.0)) }
         ensures name { IfSome result (λ (t : ThreadId). IsName t.0) }
+        ensures awake { IfSome result (λ (t : ThreadId). IsQuiet self.now → ⊥) }
     {
         match self.main.look() {
             Look::Done => None,

@@ -95,9 +95,10 @@ fn a_fault_ends_the_thread(rt: HostRuntime) -> Result<(), Fail> {
 }
 
 #[test]
-fn a_job_has_defaults(rt: HostRuntime) -> Result<(), Fail> {
-    let job = Job::of_program(rt.alloc(), read(&rt, b"fn main(): unit { 1; }")?);
-    assert_eq!(rt; job.quantum(), 1000);
+fn a_job_keeps_what_it_is_made_of(rt: HostRuntime) -> Result<(), Fail> {
+    let program = read(&rt, b"fn main(): unit { 1; }")?;
+    let job = Job::new(program, Vec::new(rt.alloc()), 7, 5);
+    assert_eq!(rt; (job.fuel(), job.quantum()), (7, 5));
     assert_eq!(rt; job.program().items().len(), 1);
     Ok(())
 }

@@ -129,7 +129,6 @@ impl Thread {
     pub fn make_steps(&mut self, alloc: Global, n: u32) -> Result<(), PlayFault>
         ensures ok { OnOk result (pure_steps n (thread_expr self.old) ≡ Some (thread_expr self.new)) }
         ensures no_step { result ≡ Err PlayFault.NoStep → pure_steps n (thread_expr self.old) ≡ None }
-        ensures memory { result ≡ Err PlayFault.NoMemory → n ≢ 1 }
         ensures err { OnErr result (thread_expr self.new ≡ thread_expr self.old) }
     {
         if n == 1 {

@@ -1,10 +1,7 @@
-use Rattle.std.proofs.Common.{arith, ◌+◌, ◌≤◌, subst, Result, Ok, Err, OnOk, ap, sym, ◌∙◌}
+use Rattle.std.proofs.Common.{Result, Ok, Err, OnOk, ap, sym, ◌∙◌}
 use Rattle.plain_model.specs.Machine.{thread_expr}
-use Rattle.plain_model.specs.State.{plain, local_of, print_of, work_left}
-use Rattle.plain_model.proofs.OneThread.{state_of, local_made, local_none, local_other, print_made, work-only, print_none, print_other}
-use Rattle.plain_model.proofs.Working.{pure_steps_less, printed_less}
-use Rattle.stab_journal.specs.Event.{weigh}
-use Rattle.stab_journal.specs.declared.event.What.TheVariants.{Step}
+use Rattle.plain_model.specs.State.{plain, local_of, print_of}
+use Rattle.plain_model.proofs.OneThread.{state_of, local_made, local_none, local_other, print_made, print_none, print_other}
 use Rattle.plain_model.proofs.state.PlainState.play.Goals as goal
 
 on_ok : {T E P Q : Type 0} (r : Result T E) → (P → Q) → OnOk r P → OnOk r Q
@@ -68,25 +65,3 @@ returns-in_default-3-clause-no_step c refused =
     ap (λ s. plain s c.args.q.0 c.args.label.now) (sym c.self.view_is)
     ∙ ap (plain (state_of e out) c.args.q.0) c.in-Print.is
     ∙ print_other c.in-Print.t.0 e out c.if-t-eq-MAIN-2.false
-
-pub returns-in-Local-clause-less : goal.returns-in-Local-clause-less
-returns-in-Local-clause-less c =
-    let e = thread_expr c.self.inside.main in
-    let new = thread_expr c.make_steps.new.self in
-    let out = c.self.inside.printed.items in
-    let n = c.in-Local.n in
-    on_ok c.make_steps.result (λ made.
-    let less : work_left (state_of new out) + n ≤ work_left (state_of e out) = omega (arith, pure_steps_less n e new made, work-only new out, work-only e out) in
-    subst (λ s. work_left (state_of new out) + weigh (Step c.args.label.now) ≤ work_left s) c.self.view_is
-    (subst (λ l. work_left (state_of new out) + weigh (Step l) ≤ work_left (state_of e out)) (sym c.in-Local.is) less)) c.make_steps.ensures.ok
-
-pub returns-in-Print-clause-less : goal.returns-in-Print-clause-less
-returns-in-Print-clause-less c =
-    let e = thread_expr c.self.inside.main in
-    let new = thread_expr c.print_to.new.self in
-    let out = c.self.inside.printed.items in
-    let after = c.print_to.new.printed.items in
-    on_ok c.print_to.result (λ made.
-    let less : work_left (state_of new after) + 1 ≤ work_left (state_of e out) = omega (arith, printed_less e new out after made, work-only new after, work-only e out) in
-    subst (λ s. work_left (state_of new after) + weigh (Step c.args.label.now) ≤ work_left s) c.self.view_is
-    (subst (λ l. work_left (state_of new after) + weigh (Step l) ≤ work_left (state_of e out)) (sym c.in-Print.is) less)) c.print_to.ensures.ok
