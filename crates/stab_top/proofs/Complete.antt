@@ -1,13 +1,18 @@
 -- What the statuses say leaves no way round a good program.
-use Rattle.std.proofs.Common.{arith, ◌≡◌, ◌⊎◌, inl, inr, ℕ, ◌<◌, ◌≤◌, List, length, Option, Some, None, IfSome, IsSomeAnd, sym, subst, ◌∙◌}
+use Rattle.std.proofs.Common.{arith, ◌≡◌, ◌⊎◌, inl, inr, ℕ, ◌<◌, ◌≤◌, true, List, length, Option, Some, None, Result, Ok, IfSome, IsSomeAnd, sym, subst, ◌∙◌}
 use Rattle.stab_files.specs.Entry.{Entry, contents_of}
+use Rattle.stab_words.specs.Asked.{asked}
+use Rattle.stab_words.specs.declared.request.Request.{Request}
+use Rattle.stab_words.specs.declared.request.Request.TheVariants.{Run}
+use Rattle.stab_words.specs.declared.request.RunArgs.{RunArgs}
+use Rattle.stab_words.specs.declared.request.WordFault.{WordFault}
 use Rattle.sum_reader.specs.Program.{Body, IsProgram}
 use Rattle.stab_top.specs.declared.report.Status.{Status}
 use Rattle.stab_top.specs.declared.report.Status.TheVariants.{Done, Held, BadWords, BadText, NoFile, TooBig, FileFault, SinkFault, Spent, NoMemory, BadProbes, BadTrace, BadScript, No, NotBuilt}
-use Rattle.stab_top.specs.Words.{run_file}
 use Rattle.stab_top.specs.declared.report.Role.TheVariants.{Program}
-use Rattle.stab_top.specs.Loading.{Device, Finds, LoadRefused, FileSays, blamed, max_bytes}
-use Rattle.stab_top.specs.Call.{Call, CountedFault, Ran, Refuses, Says, TextSays}
+use Rattle.stab_top.specs.Words.{is_built}
+use Rattle.stab_top.specs.Loading.{Device, Finds, LoadRefused, max_bytes}
+use Rattle.stab_top.specs.Call.{Call, CountedFault, Ran, RequestSays, RunSays, Says, TextSays, WordsSay}
 
 -- what is found, where the files tell
 found_there : (files : Device (List Entry)) (name : List ℕ) (P : Option (List ℕ) → Type 0) (held : List Entry) → Finds files name P → files.told ≡ Some held → P (contents_of held name)
@@ -38,35 +43,33 @@ refused BadScript c name bytes held says told there within = elim says [ ]
 refused No c name bytes held says told there within = elim says [ ]
 refused NotBuilt c name bytes held says told there within = elim says [ ]
 
-ran : (status : Status) (c : Call) (bytes : List ℕ) (program : Body) → IsProgram bytes program → TextSays status bytes c.outcome → Ran status ⊎ CountedFault c
-ran Done c bytes program is says = inl tt
-ran Held c bytes program is says = inl tt
-ran SinkFault c bytes program is says = inr (inr says.2.end.1)
-ran NotBuilt c bytes program is says = absurd (says.1 program is)
-ran NoMemory c bytes program is says = inl tt
-ran NoFile c bytes program is says = elim says [ ]
-ran TooBig c bytes program is says = elim says [ ]
-ran FileFault c bytes program is says = elim says [ ]
-ran BadWords c bytes program is says = elim says [ ]
-ran BadText c bytes program is says = elim says [ ]
-ran Spent c bytes program is says = elim says [ ]
-ran BadProbes c bytes program is says = elim says [ ]
-ran BadTrace c bytes program is says = elim says [ ]
-ran BadScript c bytes program is says = elim says [ ]
-ran No c bytes program is says = elim says [ ]
+ran : (status : Status) (c : Call) (args : RunArgs) (bytes : List ℕ) (program : Body) → IsProgram bytes program → TextSays status args bytes c.outcome → Ran status ⊎ CountedFault c
+ran Done c args bytes program is says = inl tt
+ran Held c args bytes program is says = inl tt
+ran Spent c args bytes program is says = inl tt
+ran SinkFault c args bytes program is says = inr (inr says.2.end.2)
+ran NotBuilt c args bytes program is says = absurd (says.1 program is)
+ran NoMemory c args bytes program is says = inl tt
+ran NoFile c args bytes program is says = elim says [ ]
+ran TooBig c args bytes program is says = elim says [ ]
+ran FileFault c args bytes program is says = elim says [ ]
+ran BadWords c args bytes program is says = elim says [ ]
+ran BadText c args bytes program is says = elim says [ ]
+ran BadProbes c args bytes program is says = elim says [ ]
+ran BadTrace c args bytes program is says = elim says [ ]
+ran BadScript c args bytes program is says = elim says [ ]
+ran No c args bytes program is says = elim says [ ]
 
-read : (status : Status) (c : Call) (held : List Entry) (name bytes : List ℕ) (program : Body) →
-    FileSays Program status c.files name c.files_after (Refuses c.outcome (blamed status Program)) (λ text. TextSays status text c.outcome) →
-    c.files.told ≡ Some held → contents_of held name ≡ Some bytes → length bytes ≤ max_bytes Program → IsProgram bytes program → Ran status ⊎ CountedFault c
-read status c held name bytes program (inl says) told there within is = refused status c name bytes held says.0 told there within
-read status c held name bytes program (inr (loaded, loads, says)) told there within is =
-    let same : bytes ≡ loaded = same_bytes bytes loaded (sym there ∙ found_there c.files name (λ found. found ≡ Some loaded) held loads.held told) in
-    ran status c loaded program (subst (λ b. IsProgram b program) same is) says
+read : (status : Status) (c : Call) (held : List Entry) (args : RunArgs) (bytes : List ℕ) (program : Body) → RunSays status c args →
+    c.files.told ≡ Some held → contents_of held args.file ≡ Some bytes → length bytes ≤ max_bytes Program → IsProgram bytes program → Ran status ⊎ CountedFault c
+read status c held args bytes program (inl says) told there within is = refused status c args.file bytes held says.0 told there within
+read status c held args bytes program (inr (loaded, loads, says)) told there within is =
+    let same : bytes ≡ loaded = same_bytes bytes loaded (sym there ∙ found_there c.files args.file (λ found. found ≡ Some loaded) held loads.held told) in
+    ran status c args loaded program (subst (λ b. IsProgram b program) same is) says
 
-pub good_program : (status : Status) (c : Call) (held : List Entry) (name bytes : List ℕ) (program : Body) → Says status c → run_file c.words ≡ Some name → c.files.told ≡ Some held → contents_of held name ≡ Some bytes → length bytes ≤ max_bytes Program → IsProgram bytes program → Ran status ⊎ CountedFault c
-good_program status c held name bytes program (inl says) named told there within is =
-    let none : run_file c.words ≡ None = says.words in absurd (let wrong : ⊥ = cc in wrong)
-good_program status c held name bytes program (inr says) named told there within is =
-    let here : FileSays Program status c.files name c.files_after (Refuses c.outcome (blamed status Program)) (λ text. TextSays status text c.outcome) =
-    subst (λ o. IsSomeAnd o (λ n. FileSays Program status c.files n c.files_after (Refuses c.outcome (blamed status Program)) (λ text. TextSays status text c.outcome))) named says in
-    read status c held name bytes program here told there within is
+pub good_program : (status : Status) (c : Call) (held : List Entry) (args : RunArgs) (bytes : List ℕ) (program : Body) → Says status c → asked c.words ≡ Ok (Run args) →
+    is_built (Run args) ≡ true → c.files.told ≡ Some held → contents_of held args.file ≡ Some bytes → length bytes ≤ max_bytes Program → IsProgram bytes program → Ran status ⊎ CountedFault c
+good_program status c held args bytes program says words built told there within is =
+    let request : RequestSays (is_built (Run args)) status c (Run args) = subst (λ (r : Result Request WordFault). WordsSay r status c) words says in
+    let here : RunSays status c args = subst (λ b. RequestSays b status c (Run args)) built request in
+    read status c held args bytes program here told there within is

@@ -1,7 +1,9 @@
 pub mod Showing
-pub mod NextEvents
-pub mod Bounding
+pub mod PureSteps
+pub mod Weighing
+pub mod Committing
 pub mod Pieces
 pub mod Ending
 pub mod Complete
+pub mod Wording
 pub mod Executing

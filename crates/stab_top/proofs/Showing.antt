@@ -9,6 +9,7 @@ use Rattle.plain_model.specs.Expression.{Expr}
 use Rattle.plain_model.specs.State.{State, start, plain, after_steps}
 use Rattle.plain_model.specs.Standing.{StandsFor, nothing, step, IsRun}
 use Rattle.stab_top.specs.Book.{ByOneWorker, IsShown}
+use Rattle.stab_top.specs.Commit.{AddsStep, KeepsShown}
 
 -- no number of the run is above this one
 Below : ℕ → List Numbered → Type 0
@@ -101,3 +102,25 @@ shows_step main journal journal' before after worker label events left made show
 pub by_one_push : (events : List Event) (e : Event) → ByOneWorker events → e.worker ≡ 1 → ByOneWorker (events ++ e ∷ [])
 by_one_push [] e all one = (one, tt)
 by_one_push (d ∷ events) e all one = (all.0, by_one_push events e all.1 one)
+
+-- one thing after the other
+pub keeps_then : (j1 j2 j3 : Journal) (s1 s2 s3 : State) → KeepsShown j1 s1 j2 s2 → KeepsShown j2 s2 j3 s3 → KeepsShown j1 s1 j3 s3
+keeps_then j1 j2 j3 s1 s2 s3 first second = record { shown = λ main is. second.shown main (first.shown main is); by_one = λ one. second.by_one (first.by_one one) }
+
+-- nothing came
+pub keeps_same : (j : Journal) (s s' : State) → s' ≡ s → KeepsShown j s j s'
+keeps_same j s s' same = record { shown = λ main is. subst (IsShown main j) (sym same) is; by_one = λ one. one }
+
+-- room was made
+pub keeps_room : (j j' : Journal) (s : State) → j' ≡ record j { spare = j'.spare } → KeepsShown j s j' s
+keeps_room j j' s rest = record {
+  shown = λ main is. subst (λ x. IsShown main x s) (sym rest) (is.0, record { stands = is.1.stands; left = is.1.left; is_run = is.1.is_run });
+  by_one = λ one. subst ByOneWorker (sym (ap (λ x. x.events) rest)) one;
+}
+
+-- a step came
+pub keeps_step : (j j' : Journal) (s s' : State) (label : Label) → AddsStep label j.events s j'.events s' → survivors j' ≡ survivors j ++ step_at (length j.events + 1) (Step label) → KeepsShown j s j' s'
+keeps_step j j' s s' label adds left = record {
+  shown = λ main is. shows_step main j j' s s' 1 label adds.event left adds.step is;
+  by_one = λ one. subst ByOneWorker (sym adds.event) (by_one_push j.events (record { worker = 1; what = Step label }) one refl);
+}

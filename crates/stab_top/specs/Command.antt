@@ -1,15 +1,14 @@
 -- What a call of the program says by its exit status.
-use Rattle.std.specs.Prelude.{◌≡◌, ℕ, List, Option, None, ◌⊎◌}
+use Rattle.std.specs.Prelude.{◌≡◌, ℕ, List, Option, ◌⊎◌}
 use Rattle.stab_files.specs.Count.{Rose}
 use Rattle.stab_files.specs.Entry.{Entry}
 use Rattle.stab_files.specs.Told.{Appends, AppendsPrefix}
 use Rattle.stab_top.specs.declared.report.Status.{Status}
 use Rattle.stab_top.specs.declared.report.Status.TheVariants.{NoMemory}
-use Rattle.stab_top.specs.declared.report.Role.{Role}
 use Rattle.stab_top.specs.Book.{Book}
 use Rattle.stab_top.specs.Call.{Says}
 use Rattle.stab_top.specs.Loading.{Device}
-use Rattle.stab_top.specs.Reason.{reason_text, status_number}
+use Rattle.stab_top.specs.Reason.{Blame, no_blame, reason_text, status_number}
 
 -- a piece was written whole, or a prefix of it, and then a fault was counted
 abbrev pub Writes : Device (List ℕ) → Device (List ℕ) → List ℕ → Type 0
@@ -21,8 +20,8 @@ abbrev pub Rests : Device (List ℕ) → Device (List ℕ) → Type 0
 Rests sink after = (after.told ≡ sink.told) × (after.faults ≡ sink.faults)
 
 -- the exit status is the status's number, and the reason stands on standard error, but for want of memory
-abbrev pub EndsWith : Status → Option Role → ℕ → Device (List ℕ) → Device (List ℕ) → Type 0
-EndsWith status file number errors after = (number ≡ status_number status) × (Writes errors after (reason_text status file) ⊎ Rests errors after)
+abbrev pub EndsWith : Status → Blame → ℕ → Device (List ℕ) → Device (List ℕ) → Type 0
+EndsWith status blame number errors after = (number ≡ status_number status) × (Writes errors after (reason_text status blame) ⊎ Rests errors after)
 
 -- what was there before and after a call of the program, and its exit status
 pub record Execution : Type 0 where
@@ -37,6 +36,6 @@ pub record Execution : Type 0 where
 -- there is a status that says it of these words, and the program ended with it; or the memory for the words was refused
 abbrev pub Executes : List (List ℕ) → Execution → Type 0
 Executes words e =
-    ((status : Status) × (book : Option Book) × (file : Option Role) × EndsWith status file e.number e.errors e.errors_after
-    × Says status (record { words = words; files = e.files; files_after = e.files_after; outcome = record { sink = e.sink; sink_after = e.sink_after; book = book; file = file } }))
-    ⊎ (EndsWith NoMemory None e.number e.errors e.errors_after × Rests e.sink e.sink_after × (e.files_after ≡ e.files.faults))
+    ((status : Status) × (book : Option Book) × (blame : Blame) × EndsWith status blame e.number e.errors e.errors_after
+    × Says status (record { words = words; files = e.files; files_after = e.files_after; outcome = record { sink = e.sink; sink_after = e.sink_after; book = book; blame = blame } }))
+    ⊎ (EndsWith NoMemory no_blame e.number e.errors e.errors_after × Rests e.sink e.sink_after × (e.files_after ≡ e.files.faults))

@@ -1,7 +1,7 @@
 pub mod Reason
 pub mod Words
 pub mod Book
-pub mod NextEvent
+pub mod Commit
 pub mod Loading
 pub mod Call
 pub mod Command

@@ -1,5 +1,7 @@
 -- The numbers and names of statuses, and the line that tells a reason.
-use Rattle.std.specs.Prelude.{ℕ, List, [], ◌∷◌, ◌++◌, Option, Some, None, codes}
+use Rattle.std.specs.Prelude.{ℕ, List, [], ◌∷◌, ◌++◌, Option, Some, None, codes, decimal}
+use Rattle.stab_words.specs.declared.request.WordFault.{WordFault}
+use Rattle.stab_words.specs.FaultText.{fault_name, fault_word}
 use Rattle.stab_top.specs.declared.report.Status.{Status}
 use Rattle.stab_top.specs.declared.report.Status.TheVariants.{Done, Held, BadWords, BadText, NoFile, TooBig, FileFault, SinkFault, Spent, NoMemory, BadProbes, BadTrace, BadScript, No, NotBuilt}
 use Rattle.stab_top.specs.declared.report.Role.{Role}
@@ -48,12 +50,39 @@ role_name Probes = codes "probes"
 role_name Trace = codes "trace"
 role_name Script = codes "script"
 
--- the status, and the role of the file where there is one
-abbrev pub reason_line : Status → Option Role → List ℕ
-reason_line status None = codes "stab: " ++ status_name status ++ 10 ∷ []
-reason_line status (Some role) = codes "stab: " ++ status_name status ++ 32 ∷ role_name role ++ 10 ∷ []
+-- what a report blames beside its status: the fault of the words, the file
+pub record Blame : Type 0 where
+  pub words : Option WordFault
+  pub file : Option Role
+
+abbrev pub no_blame : Blame
+no_blame = record { words = None; file = None }
+
+abbrev pub blames_words : WordFault → Blame
+blames_words fault = record { words = Some fault; file = None }
+
+abbrev pub blames_file : Option Role → Blame
+blames_file file = record { words = None; file = file }
+
+-- a word of the line, behind a space
+abbrev pub role_word : Option Role → List ℕ
+role_word None = []
+role_word (Some role) = 32 ∷ role_name role
+
+abbrev pub number_word : Option ℕ → List ℕ
+number_word None = []
+number_word (Some n) = 32 ∷ decimal n
+
+-- the fault's name, and the number of the word that it is about
+abbrev pub fault_words : Option WordFault → List ℕ
+fault_words None = []
+fault_words (Some fault) = 32 ∷ (fault_name fault ++ number_word (fault_word fault))
+
+-- the status, and what is blamed
+abbrev pub reason_line : Status → Blame → List ℕ
+reason_line status blame = codes "stab: " ++ (status_name status ++ (role_word blame.file ++ (fault_words blame.words ++ 10 ∷ [])))
 
 -- nothing for Done, and else a line
-abbrev pub reason_text : Status → Option Role → List ℕ
-reason_text Done role = []
-reason_text status role = reason_line status role
+abbrev pub reason_text : Status → Blame → List ℕ
+reason_text Done blame = []
+reason_text status blame = reason_line status blame

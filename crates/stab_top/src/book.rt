@@ -1,9 +1,11 @@
 //! The book of a run.
-ghost use Rattle.std.specs.Prelude.{◌≡◌, ◌<◌, ◌≤◌, [], true, false, IfOk, OnErr};
+ghost use Rattle.std.specs.Prelude.{◌≡◌, ◌<◌, [], IfOk};
+ghost use Rattle.stab_journal.specs.Event.{weight_of};
 ghost use Rattle.plain_model.specs.Program.{main_expr};
-ghost use Rattle.plain_model.specs.State.{IsQuiet, start, work, work_left};
-ghost use Rattle.stab_top.specs.Book.{IsBook, IsShown};
-ghost use Rattle.stab_top.specs.NextEvent.{AddsEvent};
+ghost use Rattle.plain_model.specs.State.{start};
+ghost use Rattle.stab_top.specs.Book.{IsBook};
+ghost use Rattle.stab_top.specs.Commit.{CommitSays};
+ghost use Rattle.stab_top.specs.declared.book.Commit.TheVariants.{Taken};
 
 use crate::run;
 use plain_model::{Job, PlainState};
@@ -11,6 +13,17 @@ use stab_base::NoMemory;
 use stab_journal::History;
 use std::alloc::Global;
 use std::marker::Model;
+
+/// What a commit answers.
+#[derive(Clone, Copy, PartialEq, Eq, Debug)]
+pub enum Commit {
+    /// A thread made its pure steps and its act.
+    Taken,
+    /// No thread can step.
+    Quiet,
+    /// The fuel is used up, and a thread can step.
+    Spent,
+}
 
 /// The job of a run, what happened so far, and the state that it led to. The type keeps that what happened
 /// stands for a run of the plain language from the start state to this state.
@@ -41,7 +54,6 @@ impl Model for Book {
 impl Book {
     /// The book of a job before its first step.
     pub fn new(alloc: Global, job: Job) -> Result<Book, NoMemory>
-        requires { work (main_expr job.program) < job.fuel }
         ensures job { IfOk result (λ b. b.job ≡ job) }
         ensures history { IfOk result (λ b. b.history.events ≡ []) }
         ensures state { IfOk result (λ b. b.state ≡ start (main_expr job.program)) }
@@ -78,21 +90,27 @@ impl Book {
         &self.state
     }
 
-    /// Makes the next event and tells whether there was one: a thread's pure steps, as many as it has within
-    /// the quantum, or its act. An `Err` leaves the history and the state.
-    pub fn make_event(&mut self, alloc: Global) -> Result<bool, NoMemory>
+    /// Commits a thread's pure steps, as many as it has within the quantum, and the act to which they lead. The fuel is
+    /// tested before, so an act is made also where its thread's pure steps used up the fuel. After want of memory the book
+    /// may have the pure steps alone, or some of them.
+    pub fn commit(&mut self, alloc: Global) -> Result<Commit, NoMemory>
         ensures job { self.new.job ≡ self.old.job }
-        ensures rest { IfOk result (λ went. went ≡ false → IsQuiet self.new.state) }
-        ensures still { IfOk result (λ went. went ≡ false → (self.new.state ≡ self.old.state) × (self.new.history.events ≡ self.old.history.events)) }
-        ensures event { IfOk result (λ went. went ≡ true → AddsEvent self.old.job.quantum self.old.history.events self.old.state self.new.history.events self.new.state) }
-        ensures err { OnErr result ((self.new.state ≡ self.old.state) × (self.new.history.events ≡ self.old.history.events)) }
-        ensures less { IfOk result (λ went. went ≡ true → work_left self.new.state < work_left self.old.state) }
+        ensures says { IfOk result (λ answer. CommitSays answer self.old self.new) }
+        ensures heavier { IfOk result (λ answer. answer ≡ Taken → weight_of self.old.history.events < weight_of self.new.history.events) }
     {
-        run::make_event(
+        let Some(t) = self.state.ready() else {
+            return Ok(Commit::Quiet);
+        };
+        if self.history.weight() >= self.job.fuel() {
+            return Ok(Commit::Spent);
+        }
+        run::commit(
             alloc,
             &mut self.history,
             &mut self.state,
+            t,
             self.job.quantum(),
-        )
+        )?;
+        Ok(Commit::Taken)
     }
 }

@@ -4,15 +4,20 @@
 mod book;
 mod loading;
 mod program;
+mod reason_line;
 mod report;
 mod run;
+mod running;
 #[cfg(test)]
 mod tests;
 mod top;
+#[cfg(test)]
+mod word_tests;
 mod words;
 mod writing;
 
-pub use book::Book;
+pub use book::{Book, Commit};
 pub use program::command;
-pub use report::{Gate, Report, Role, Status, reason};
+pub use reason_line::reason;
+pub use report::{Gate, Report, Role, Status};
 pub use top::{good_programs_run, stab};

@@ -4,11 +4,12 @@ ghost use Rattle.std.specs.IoError.{error_kind};
 ghost use Rattle.std.specs.Vec.Iter.{into_iter_items};
 ghost use Rattle.stab_top.specs.Call.{Says};
 ghost use Rattle.stab_top.specs.Command.{EndsWith, Executes, Rests, Writes};
-ghost use Rattle.stab_top.specs.Reason.{reason_text, status_number};
-ghost use Rattle.stab_top.specs.declared.report.Status.TheVariants.{NoMemory as OutOfMemory, NotBuilt};
+ghost use Rattle.stab_top.specs.Reason.{no_blame, reason_text, status_number};
+ghost use Rattle.stab_top.specs.declared.report.Status.TheVariants.{BadWords, NoMemory as OutOfMemory};
 
-use crate::report::{Gate, Report, Status, reason};
-use crate::top::{refusal, stab};
+use crate::reason_line::reason;
+use crate::report::{Gate, Report, Status};
+use crate::top::stab;
 use stab_base::NoMemory;
 use stab_files::{Files, Sink};
 use std::alloc::Global;
@@ -44,7 +45,7 @@ pub fn command<R: Threads + Wait + Sync, F: Files, K: Sink, E: Sink>(
       number = result;
     })) }
     ensures no_memory { IfErr args (λ error. error_kind error ≡ ErrorKind.OutOfMemory → result ≡ status_number OutOfMemory) }
-    ensures no_text { IfErr args (λ error. error_kind error ≢ ErrorKind.OutOfMemory → result ≡ status_number NotBuilt) }
+    ensures no_text { IfErr args (λ error. error_kind error ≢ ErrorKind.OutOfMemory → result ≡ status_number BadWords) }
     ensures kept { F.held files.new ≡ F.held files.old }
 {
     match args {
@@ -74,14 +75,14 @@ fn called<R: Threads + Wait + Sync, F: Files, K: Sink>(
         sink = record { told = K.told sink.old; faults = K.faults sink.old };
         sink_after = record { told = K.told sink.new; faults = K.faults sink.new };
         book = result.book;
-        file = result.file;
+        blame = record { words = result.words_fault; file = result.file };
       };
-    }) ⊎ ((result.status ≡ OutOfMemory) × (result.file ≡ None) × (K.told sink.new ≡ K.told sink.old) × (K.faults sink.new ≡ K.faults sink.old) × (F.faults files.new ≡ F.faults files.old)) }
+    }) ⊎ ((result.status ≡ OutOfMemory) × (record { words = result.words_fault; file = result.file } ≡ no_blame) × (K.told sink.new ≡ K.told sink.old) × (K.faults sink.new ≡ K.faults sink.old) × (F.faults files.new ≡ F.faults files.old)) }
     ensures kept { F.held files.new ≡ F.held files.old }
 {
     match words(alloc, args) {
         Ok(words) => stab(rt, alloc, &words, files, sink, &OpenGate),
-        Err(NoMemory) => refusal(Status::NoMemory, None),
+        Err(NoMemory) => Report::refusal(Status::NoMemory),
     }
 }
 
@@ -103,22 +104,22 @@ fn all(alloc: Global, mut args: Args) -> Result<Vec<String>, NoMemory>
     Ok(all)
 }
 
-/// An argument that isn't text is no word of a command.
+/// An argument that isn't text is no word, so no number tells which it is.
 fn refused_words(error: &io::Error) -> Report
     ensures no_memory { error_kind error.now ≡ ErrorKind.OutOfMemory → result.status ≡ OutOfMemory }
-    ensures no_text { error_kind error.now ≢ ErrorKind.OutOfMemory → result.status ≡ NotBuilt }
+    ensures no_text { error_kind error.now ≢ ErrorKind.OutOfMemory → result.status ≡ BadWords }
     ensures book { result.book ≡ None }
-    ensures file { result.file ≡ None }
+    ensures blame { record { words = result.words_fault; file = result.file } ≡ no_blame }
 {
     if error.kind() == ErrorKind::OutOfMemory {
-        refusal(Status::NoMemory, None)
+        Report::refusal(Status::NoMemory)
     } else {
-        refusal(Status::NotBuilt, None)
+        Report::refusal(Status::BadWords)
     }
 }
 
 fn reason_line(alloc: Global, report: &Report) -> Result<Vec<u8>, NoMemory>
-    ensures { IfOk result (λ line. line.items ≡ reason_text report.now.status report.now.file) }
+    ensures { IfOk result (λ line. line.items ≡ reason_text report.now.status (record { words = report.now.words_fault; file = report.now.file })) }
 {
     let mut line = Vec::new(alloc);
     reason(alloc, report, &mut line)?;
@@ -127,7 +128,7 @@ fn reason_line(alloc: Global, report: &Report) -> Result<Vec<u8>, NoMemory>
 
 /// Writes the reason, where there is memory for it, and gives the number of the status.
 fn finish<E: Sink>(alloc: Global, report: &Report, errors: &mut E) -> u8
-    ensures { EndsWith report.now.status report.now.file result (record { told = E.told errors.old; faults = E.faults errors.old })
+    ensures { EndsWith report.now.status (record { words = report.now.words_fault; file = report.now.file }) result (record { told = E.told errors.old; faults = E.faults errors.old })
         (record { told = E.told errors.new; faults = E.faults errors.new }) }
 {
     end(report, reason_line(alloc, report), errors)
@@ -136,10 +137,10 @@ fn finish<E: Sink>(alloc: Global, report: &Report, errors: &mut E) -> u8
 /// Writes the reason, where there was memory for it, and gives the number of the status. A reason that can't be written
 /// changes no status.
 fn end<E: Sink>(report: &Report, line: Result<Vec<u8>, NoMemory>, errors: &mut E) -> u8
-    requires { IfOk line (λ line. line.items ≡ reason_text report.now.status report.now.file) }
+    requires { IfOk line (λ line. line.items ≡ reason_text report.now.status (record { words = report.now.words_fault; file = report.now.file })) }
     ensures number { result ≡ status_number report.now.status }
     ensures written { IfOk line (λ _. Writes (record { told = E.told errors.old; faults = E.faults errors.old })
-        (record { told = E.told errors.new; faults = E.faults errors.new }) (reason_text report.now.status report.now.file)) }
+        (record { told = E.told errors.new; faults = E.faults errors.new }) (reason_text report.now.status (record { words = report.now.words_fault; file = report.now.file }))) }
     ensures silent { IfErr line (λ _. Rests (record { told = E.told errors.old; faults = E.faults errors.old })
         (record { told = E.told errors.new; faults = E.faults errors.new })) }
 {

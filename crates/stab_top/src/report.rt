@@ -1,11 +1,11 @@
 //! What a call reports.
-ghost use Rattle.std.specs.Prelude.{◌≡◌, ◌++◌, OnOk, OnErr};
+ghost use Rattle.std.specs.Prelude.{◌≡◌, Some, None};
 ghost use Rattle.stab_top.specs.Loading.{max_bytes};
-ghost use Rattle.stab_top.specs.Reason.{reason_text, role_name, status_name, status_number};
+ghost use Rattle.stab_top.specs.Reason.{blames_file, blames_words, no_blame, role_name, status_name, status_number};
+ghost use Rattle.stab_top.specs.declared.report.Status.TheVariants.{BadWords as BadWordsStatus};
 
 use crate::book::Book;
-use stab_base::NoMemory;
-use std::alloc::Global;
+use stab_words::WordFault;
 
 /// How a call ended. Its number is the program's exit status.
 #[derive(Clone, Copy, PartialEq, Eq, Debug)]
@@ -113,32 +113,66 @@ pub struct Report {
     pub status: Status,
     /// The book of a run that came to its end, also where its output couldn't be written.
     pub book: Option<Book>,
+    /// Why the words were refused.
+    pub words_fault: Option<WordFault>,
     /// The file that is missing, too big or couldn't be read.
     pub file: Option<Role>,
+}
+
+impl Report {
+    /// The report of a run that came to its end.
+    pub(crate) fn ending(status: Status, book: Book) -> Report
+        ensures status { result.status ≡ status }
+        ensures book { result.book ≡ Some book }
+        ensures blame { record { words = result.words_fault; file = result.file } ≡ no_blame }
+    {
+        Report {
+            status,
+            book: Some(book),
+            words_fault: None,
+            file: None,
+        }
+    }
+
+    /// The report of a call that did nothing, where nothing is to blame.
+    pub(crate) fn refusal(status: Status) -> Report
+        ensures status { result.status ≡ status }
+        ensures book { result.book ≡ None }
+        ensures blame { record { words = result.words_fault; file = result.file } ≡ no_blame }
+    {
+        Report::bad_file(status, None)
+    }
+
+    /// The report of a file that was refused.
+    pub(crate) fn bad_file(status: Status, file: Option<Role>) -> Report
+        ensures status { result.status ≡ status }
+        ensures book { result.book ≡ None }
+        ensures blame { record { words = result.words_fault; file = result.file } ≡ blames_file file }
+    {
+        Report {
+            status,
+            book: None,
+            words_fault: None,
+            file,
+        }
+    }
+
+    /// The report of words that have a fault.
+    pub(crate) fn bad_words(fault: WordFault) -> Report
+        ensures status { result.status ≡ BadWordsStatus }
+        ensures book { result.book ≡ None }
+        ensures blame { record { words = result.words_fault; file = result.file } ≡ blames_words fault }
+    {
+        Report {
+            status: Status::BadWords,
+            book: None,
+            words_fault: Some(fault),
+            file: None,
+        }
+    }
 }
 
 /// Is called by a worker before each commit.
 pub trait Gate {
     fn before_commit(&self, worker: u32);
-}
-
-/// Adds the line that tells why a call didn't end as Done: the status and, where a file is the cause, its role.
-/// Nothing is added for Done.
-pub fn reason(alloc: Global, report: &Report, out: &mut Vec<u8>) -> Result<(), NoMemory>
-    ensures ok { OnOk result (out.new.items ≡ out.old.items ++ reason_text report.now.status report.now.file) }
-    ensures err { OnErr result (out.new.items ≡ out.old.items) }
-{
-    if report.status == Status::Done {
-        return Ok(());
-    }
-    let status = report.status.name();
-    let line = match report.file {
-        Some(role) => {
-            let role = role.name();
-            format!(in alloc; "stab: {status} {role}\n")?
-        }
-        None => format!(in alloc; "stab: {status}\n")?,
-    };
-    out.extend_from_slice(line.as_bytes())?;
-    Ok(())
 }

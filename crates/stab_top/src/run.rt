@@ -1,15 +1,13 @@
 //! The events of a run.
-ghost use Rattle.std.specs.Prelude.{◌≡◌, ◌+◌, ◌<◌, ◌≤◌, Some, None, true, false, IfOk, IsSome, OnOk, OnErr};
+ghost use Rattle.std.specs.Prelude.{◌≡◌, ◌+◌, ◌<◌, ◌≤◌, Some, None, OnOk};
 ghost use Rattle.std.specs.FinMap as map;
-ghost use Rattle.stab_journal.specs.Event.{weigh, weight_of};
-ghost use Rattle.stab_journal.specs.declared.event.What.TheVariants as What;
-ghost use Rattle.plain_model.specs.Machine.{LooksAt};
-ghost use Rattle.plain_model.specs.State.{IsQuiet, local_of, plain, work_left};
-ghost use Rattle.plain_model.specs.declared.thread.Look.TheVariants as looks;
-ghost use Rattle.stab_top.specs.Book.{max_fuel};
-ghost use Rattle.stab_top.specs.NextEvent.{IsNextStep, KeepsShown, AddsEvent};
+ghost use Rattle.stab_journal.specs.Event.{IsName, weight_of};
+ghost use Rattle.stab_journal.specs.Journal.{IsValid};
+ghost use Rattle.plain_model.specs.Job.{max_fuel, max_quantum};
+ghost use Rattle.plain_model.specs.State.{CanStep, local_of};
+ghost use Rattle.stab_top.specs.Commit.{AddsAct, AddsCommit, AddsPureSteps, KeepsShown};
 
-use plain_model::{Look, PlainState, PlayFault};
+use plain_model::{PlainState, PlayFault};
 use stab_base::{NoMemory, Seq, ThreadId};
 use stab_journal::{Event, History, Label, What};
 use std::alloc::Global;
@@ -17,107 +15,116 @@ use std::alloc::Global;
 /// The one worker of a run.
 const WORKER: u32 = 1;
 
-/// Makes the next event: as many pure steps of a thread as the quantum allows, or its act.
-/// Tells whether there was one.
-pub fn make_event(
+/// Commits the pure steps of a thread, as many as it has within the quantum, and then its act where it is at one.
+/// Each is an event.
+pub fn commit(
     alloc: Global,
     history: &mut History,
     state: &mut PlainState,
+    t: ThreadId,
     quantum: u32,
-) -> Result<bool, NoMemory>
-    requires quantum { 1 ≤ quantum }
-    requires small { weight_of history.old.events + work_left state.old ≤ max_fuel }
-    ensures goes { KeepsShown history.old state.old history.new state.new }
-    ensures small { weight_of history.new.events + work_left state.new ≤ weight_of history.old.events + work_left state.old }
-    ensures rest { IfOk result (λ went. went ≡ false → IsQuiet state.new) }
-    ensures still { IfOk result (λ went. went ≡ false → (state.new ≡ state.old) × (history.new.events ≡ history.old.events)) }
-    ensures event { IfOk result (λ went. went ≡ true → AddsEvent quantum history.old.events state.old history.new.events state.new) }
-    ensures less { IfOk result (λ went. went ≡ true → work_left state.new < work_left state.old) }
-    ensures err { OnErr result ((state.new ≡ state.old) × (history.new.events ≡ history.old.events)) }
+) -> Result<(), NoMemory>
+    requires some { 1 ≤ quantum }
+    requires most { quantum ≤ max_quantum }
+    requires name { IsName t.0 }
+    requires can_step { CanStep (map.get state.old.threads t.0) }
+    requires valid { IsValid history.old }
+    requires fuel { weight_of history.old.events < max_fuel }
+    ensures keeps { KeepsShown history.old state.old history.new state.new }
+    ensures ok { OnOk result (AddsCommit quantum history.old.events state.old history.new.events state.new) }
+    ensures heavier { OnOk result (weight_of history.old.events < weight_of history.new.events) }
+{
+    history.reserve(2)?;
+    commit_pure_steps(alloc, history, state, t, quantum)?;
+    commit_act(alloc, history, state, t)
+}
+
+// Commits the pure steps of a thread. Where memory was refused, those that were made.
+fn commit_pure_steps(
+    alloc: Global,
+    history: &mut History,
+    state: &mut PlainState,
+    t: ThreadId,
+    quantum: u32,
+) -> Result<(), NoMemory>
+    requires some { 1 ≤ quantum }
+    requires most { quantum ≤ max_quantum }
+    requires name { IsName t.0 }
+    requires room { 2 ≤ history.old.spare }
+    requires weight { weight_of history.old.events < max_fuel }
+    ensures keeps { KeepsShown history.old state.old history.new state.new }
+    ensures ok { OnOk result (AddsPureSteps quantum t history.old.events state.old history.new.events state.new) }
+    ensures room { 1 ≤ history.new.spare }
+    ensures weight { weight_of history.new.events ≤ weight_of history.old.events + quantum }
 {
     let number = Seq(history.len() + 1);
-    history.reserve(1)?;
-    let Some(label) = next_step(alloc, state, number, quantum)? else {
-        return Ok(false);
-    };
+    let Made { steps, end } = pure_steps(alloc, state, number, t, quantum);
+    if steps == 0 {
+        return end;
+    }
     history.push(Event {
         worker: WORKER,
-        what: What::Step(label),
+        what: What::Step(Label::Local(t, steps)),
     });
-    Ok(true)
+    end
 }
 
-// Plays the next step, and tells which it was; none where the state is quiet.
-fn next_step(
+// Commits the act of a thread, where it is at one.
+fn commit_act(
     alloc: Global,
+    history: &mut History,
     state: &mut PlainState,
-    number: Seq,
-    quantum: u32,
-) -> Result<Option<Label>, NoMemory>
-    requires { 1 ≤ quantum }
-    ensures ok { IfOk result (IsNextStep quantum state.old number.0 state.new) }
-    ensures err { OnErr result (state.new ≡ state.old) }
+    t: ThreadId,
+) -> Result<(), NoMemory>
+    requires name { IsName t.0 }
+    requires room { 1 ≤ history.old.spare }
+    requires weight { weight_of history.old.events ≤ max_fuel + max_quantum }
+    ensures keeps { KeepsShown history.old state.old history.new state.new }
+    ensures ok { OnOk result (AddsAct t history.old.events state.old history.new.events state.new) }
 {
-    let Some(t) = state.ready() else {
-        return Ok(None);
-    };
-    match state.look(t) {
-        Some(Look::Pure) => {
-            let steps = pure_steps(alloc, state, number, t, quantum);
-            Ok(Some(Label::Local(t, steps)))
+    let number = Seq(history.len() + 1);
+    let label = Label::Print(t);
+    match state.play(alloc, number, &label) {
+        Ok(()) => {
+            history.push(Event {
+                worker: WORKER,
+                what: What::Step(label),
+            });
+            Ok(())
         }
-        Some(Look::Act(_)) => {
-            play(alloc, state, number, &Label::Print(t))?;
-            Ok(Some(Label::Print(t)))
-        }
-        Some(Look::Done) => unreachable!(),
-        Some(Look::Failed(_)) => unreachable!(),
-        None => unreachable!(),
-    }
-}
-
-// Makes pure steps of a thread, as many as it has and `most` at most, and tells how many.
-fn pure_steps(alloc: Global, state: &mut PlainState, number: Seq, t: ThreadId, most: u32) -> u32
-    requires some { 1 ≤ most }
-    requires pure { LooksAt (map.get state.old.threads t.0) (Some looks.Pure) }
-    ensures some { 1 ≤ result }
-    ensures most { result ≤ most }
-    ensures made { local_of state.old t.0 result ≡ Some state.new }
-    ensures all { result < most → local_of state.new t.0 1 ≡ None }
-    ensures less { work_left state.new + result ≤ work_left state.old }
-{
-    for made in 0..most {
-        if !step_on(alloc, state, number, t) {
-            return made;
-        }
-    }
-    most
-}
-
-// Makes the next pure step of a thread, and tells whether there was one.
-fn step_on(alloc: Global, state: &mut PlainState, number: Seq, t: ThreadId) -> bool
-    ensures stepped { result ≡ true → local_of state.old t.0 1 ≡ Some state.new }
-    ensures less { result ≡ true → work_left state.new + 1 ≤ work_left state.old }
-    ensures none { result ≡ false → local_of state.old t.0 1 ≡ None }
-    ensures still { result ≡ false → state.new ≡ state.old }
-{
-    match state.play(alloc, number, &Label::Local(t, 1)) {
-        Ok(()) => true,
-        Err(PlayFault::NoStep) => false,
-        Err(PlayFault::NoMemory) => unreachable!(),
-    }
-}
-
-// Plays a step that the language has.
-fn play(alloc: Global, state: &mut PlainState, number: Seq, label: &Label) -> Result<(), NoMemory>
-    requires { IsSome (plain state.old number.0 label.now) }
-    ensures ok { OnOk result (plain state.old number.0 label.now ≡ Some state.new) }
-    ensures less { OnOk result (work_left state.new + weigh (What.Step label.now) ≤ work_left state.old) }
-    ensures err { OnErr result (state.new ≡ state.old) }
-{
-    match state.play(alloc, number, label) {
-        Ok(()) => Ok(()),
+        Err(PlayFault::NoStep) => Ok(()),
         Err(PlayFault::NoMemory) => Err(NoMemory),
-        Err(PlayFault::NoStep) => unreachable!(),
+    }
+}
+
+// Pure steps that were made, and whether memory was refused at the next one.
+#[derive(Drop)]
+struct Made {
+    steps: u32,
+    end: Result<(), NoMemory>,
+}
+
+// Makes pure steps of a thread, as many as it has and `most` at most.
+fn pure_steps(alloc: Global, state: &mut PlainState, number: Seq, t: ThreadId, most: u32) -> Made
+    ensures none { result.steps ≡ 0 → state.new ≡ state.old }
+    ensures made { 1 ≤ result.steps → local_of state.old t.0 result.steps ≡ Some state.new }
+    ensures most { result.steps ≤ most }
+    ensures all { OnOk result.end (result.steps < most → local_of state.new t.0 1 ≡ None) }
+{
+    for steps in 0..most {
+        match state.play(alloc, number, &Label::Local(t, 1)) {
+            Ok(()) => {}
+            Err(PlayFault::NoStep) => return Made { steps, end: Ok(()) },
+            Err(PlayFault::NoMemory) => {
+                return Made {
+                    steps,
+                    end: Err(NoMemory),
+                };
+            }
+        }
+    }
+    Made {
+        steps: most,
+        end: Ok(()),
     }
 }

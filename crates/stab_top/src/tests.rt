@@ -1,6 +1,7 @@
 //! Whole calls over files and a sink in memory.
 
-use crate::report::{Gate, Report, Role, Status, reason};
+use crate::reason_line::reason;
+use crate::report::{Gate, Report, Role, Status};
 use crate::top::stab;
 use stab_base::{Seq, ThreadId, Value};
 use stab_files::{MemFiles, MemSink};
@@ -223,18 +224,6 @@ fn the_program_is_loaded_once(rt: HostRuntime) -> Result<(), Fail> {
 }
 
 #[test]
-fn other_numbers_of_words(rt: HostRuntime) -> Result<(), Fail> {
-    for count in [0, 1, 3, 4, 5] {
-        let mut words = texts(rt.alloc(), &["run", "p", "p", "p", "p"])?;
-        words.truncate(count);
-        let call = called_by(&rt, rt.alloc(), &words, SUM, [&[], &[]])?;
-        assert_eq!(rt; call.status, Status::NotBuilt, "of {count} words");
-        assert_eq!(rt; call.written.len(), 0, "of {count} words");
-    }
-    Ok(())
-}
-
-#[test]
 fn fifty_thousand_prints(rt: HostRuntime) -> Result<(), Fail> {
     let text = block_of(rt.alloc(), b"print(7);", 50_000)?;
     let call = called(&rt, rt.alloc(), &["run", "p"], &text, [&[], &[]])?;
@@ -288,11 +277,9 @@ fn one_byte_too_many(rt: HostRuntime) -> Result<(), Fail> {
 }
 
 #[test]
-fn not_built(rt: HostRuntime) -> Result<(), Fail> {
+fn no_program_of_sums(rt: HostRuntime) -> Result<(), Fail> {
     let call = called(&rt, rt.alloc(), &["run", "p"], b"", [&[], &[]])?;
     assert_eq!(rt; call.status, Status::NotBuilt);
-    let call = called(&rt, rt.alloc(), &["check", "a"], SUM, [&[], &[]])?;
-    assert_eq!(rt; call.status.number(), 14);
     assert_eq!(rt; call.line.as_slice(), b"stab: NotBuilt\n".as_slice());
     Ok(())
 }

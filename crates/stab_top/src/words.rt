@@ -1,28 +1,15 @@
-//! The words that the program was called with.
-ghost use Rattle.std.specs.Prelude.{◌≡◌, map, string_bytes};
-ghost use Rattle.std.specs.Option.{option_map};
-ghost use Rattle.stab_top.specs.Words.{is_file_name, run_file};
+//! Which words are built.
+ghost use Rattle.std.specs.Prelude.{◌≡◌};
+ghost use Rattle.stab_top.specs.Words.{is_built};
 
-/// The file of `run FILE`, and nothing for other words. A file's name isn't empty and doesn't begin with `-`.
-pub fn run_file(words: &[String]) -> Option<&str>
-    ensures { option_map (λ name. name.now) result ≡ run_file (map string_bytes words.now) }
-{
-    let [command, file] = words else {
-        return None;
-    };
-    let (command, file) = (command.as_str(), file.as_str());
-    if command.as_bytes() == b"run".as_slice() && is_file_name(file.as_bytes()) {
-        Some(file)
-    } else {
-        None
-    }
-}
+use stab_words::Request;
 
-fn is_file_name(name: &[u8]) -> bool
-    ensures { result ≡ is_file_name name.now }
+/// Whether what the words ask for is built: a run without probes. One worker runs, whatever their number.
+pub fn is_built(request: &Request) -> bool
+    ensures { result ≡ is_built request.now }
 {
-    match name {
-        [] => false,
-        [first, ..] => *first != b'-',
+    match request {
+        Request::Run(args) => args.probes.is_none(),
+        _ => false,
     }
 }

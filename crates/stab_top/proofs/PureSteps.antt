@@ -1,44 +1,11 @@
--- Which step is next, and several pure steps as one.
+-- Several pure steps as one, and that a thread that can step has a step.
 use Rattle.std.specs.Ordering.{nat_cmp, eq_by_cmp}
 use Rattle.std.specs.Cmp.{nat_cmp_total, eq_by_cmp_equiv}
 use Rattle.std.specs.FinMap as map
 use Rattle.std.specs.FinMap.{FinMap, nat_cmp-IsAntisymmetric, get-insert, same_map}
-use Rattle.std.proofs.Common.{arith, ◌≡◌, ℕ, zero, suc, ◌+◌, ◌≤◌, Bool, true, false, cond, Option, Some, None, IsSome, IsSomeAnd, option_and_then, option_map, refl, sym, ap, subst, ◌∙◌}
-use Rattle.stab_base.specs.declared.fault.Fault as base
-use Rattle.plain_model.specs.declared.thread.Look as seen
-use Rattle.plain_model.specs.declared.thread.Look.TheVariants.{Pure, Act, Done, Failed}
-use Rattle.plain_model.specs.declared.thread.ActKind.{ActKind}
+use Rattle.std.proofs.Common.{arith, ◌≡◌, ℕ, zero, suc, ◌+◌, ◌≤◌, Bool, true, false, cond, Option, Some, None, option_and_then, option_map, refl, sym, ap, subst, ◌∙◌}
 use Rattle.plain_model.specs.Expression.{Expr, Look, done, fault, act, prints, pure, look}
-use Rattle.plain_model.specs.State.{State, pure_of, pure_steps, some_pure_steps, with_thread, after_print, printed_by, local_of, print_of, IsEnded, CanStep}
-use Rattle.plain_model.specs.Machine.{Looks, LooksAt}
-
-pure_is : (s : State) (t : ℕ) (e : Expr) (l : Look) → Looks l Pure → IsSome (option_map (with_thread s t) (option_and_then (pure_steps 0) (pure_of l)))
-pure_is s t e (done v) h = cc
-pure_is s t e (fault k) h = cc
-pure_is s t e (act (prints v)) h = cc
-pure_is s t e (pure d) h = refl
-
--- a thread at which a pure step is told has one
-pub pure_next : (s : State) (t : ℕ) → LooksAt (map.get s.threads t) (Some Pure) → IsSome (local_of s t 1)
-pure_next s t h =
-    elim (map.get s.threads t) as (λ o. LooksAt o (Some Pure) → IsSome (option_and_then (λ e. option_map (with_thread s t) (some_pure_steps 1 e)) o)) [
-      | None ↦ λ k. cc
-      | Some e ↦ λ k. pure_is s t e (look e) k
-    ] h
-
-print_is : (s : State) (t : ℕ) (e : Expr) (kind : ActKind) (l : Look) → Looks l (Act kind) → IsSome (option_map (after_print s t e) (printed_by l))
-print_is s t e kind (done v) h = cc
-print_is s t e kind (fault k) h = cc
-print_is s t e kind (act (prints v)) h = refl
-print_is s t e kind (pure d) h = cc
-
--- a thread at which a print is told has one
-pub print_next : (s : State) (t : ℕ) (kind : ActKind) → LooksAt (map.get s.threads t) (Some (Act kind)) → IsSome (print_of s t)
-print_next s t kind h =
-    elim (map.get s.threads t) as (λ o. LooksAt o (Some (Act kind)) → IsSome (option_and_then (λ e. option_map (after_print s t e) (printed_by (look e))) o)) [
-      | None ↦ λ k. cc
-      | Some e ↦ λ k. print_is s t e kind (look e) k
-    ] h
+use Rattle.plain_model.specs.State.{State, pure_of, pure_steps, some_pure_steps, with_thread, after_print, printed_by, local_of, print_of, CanStep, IsEnded}
 
 twice : {X : Type 0} (b : Bool) (v w : X) (o : Option X) → cond b (Some w) (cond b (Some v) o) ≡ cond b (Some w) o
 twice true v w o = refl
@@ -96,39 +63,24 @@ pub one_more_local : (s mid after : State) (t n : ℕ) → (n ≡ 0 → mid ≡ 
 one_more_local s mid after t zero start made step = subst (λ x. local_of x t 1 ≡ Some after) (start refl) step
 one_more_local s mid after t (suc n) start made step = local_more s mid after t (suc n) (omega arith) (made (omega arith)) step
 
-none_is_not_some : (o : Option State) → o ≡ None → IsSome o → ⊥
-none_is_not_some None h some = cc
-none_is_not_some (Some s) h some = cc
+-- no pure step is no step
+pub some_made : (s mid : State) (t n : ℕ) → local_of s t n ≡ Some mid → 1 ≤ n
+some_made s mid t zero h =
+    let p = then_some (map.get s.threads t) (λ e. option_map (with_thread s t) (some_pure_steps 0 e)) mid h in
+    let none : ◌≡◌ {A = Option State} None (Some mid) = p.2 in absurd (let wrong : ⊥ = cc in wrong)
+some_made s mid t (suc n) h = omega arith
 
--- a thread that had a pure step and has no further one has made some
-pub some_made : (s mid : State) (t n : ℕ) → LooksAt (map.get s.threads t) (Some Pure) → (n ≡ 0 → mid ≡ s) → local_of mid t 1 ≡ None → 1 ≤ n
-some_made s mid t zero told start none = absurd (none_is_not_some (local_of s t 1) (subst (λ x. local_of x t 1 ≡ None) (start refl) none) (pure_next s t told))
-some_made s mid t (suc n) told start none = omega arith
+steps_or_prints : (s : State) (t : ℕ) (e : Expr) (l : Look) → (IsEnded l → ⊥) →
+    option_map (with_thread s t) (option_and_then (pure_steps 0) (pure_of l)) ≡ None → option_map (after_print s t e) (printed_by l) ≡ None → ⊥
+steps_or_prints s t e (done v) can none silent = can tt
+steps_or_prints s t e (fault k) can none silent = can tt
+steps_or_prints s t e (act (prints v)) can none silent = cc
+steps_or_prints s t e (pure d) can none silent = cc
 
-looks_not_done : (l : Look) → Looks l Done → (IsEnded l → ⊥) → ⊥
-looks_not_done (done v) h can = can tt
-looks_not_done (fault k) h can = can tt
-looks_not_done (act (prints v)) h can = cc
-looks_not_done (pure e) h can = cc
-
-looks_not_failed : (l : Look) (j : base.Fault) → Looks l (Failed j) → (IsEnded l → ⊥) → ⊥
-looks_not_failed (done v) j h can = can tt
-looks_not_failed (fault k) j h can = can tt
-looks_not_failed (act (prints v)) j h can = cc
-looks_not_failed (pure e) j h can = cc
-
-nothing_told : (P : seen.Look → Type 0) → IsSomeAnd None P → ⊥
-nothing_told P h = h
-
--- a thread that can step hasn't ended, and is there
-pub not_done : (o : Option Expr) → CanStep o → LooksAt o (Some Done) → ⊥
-not_done None can h = can
-not_done (Some e) can h = looks_not_done (look e) h can
-
-pub not_failed : (o : Option Expr) (j : base.Fault) → CanStep o → LooksAt o (Some (Failed j)) → ⊥
-not_failed None j can h = can
-not_failed (Some e) j can h = looks_not_failed (look e) j h can
-
-pub not_missing : (o : Option Expr) → CanStep o → LooksAt o None → ⊥
-not_missing None can h = can
-not_missing (Some e) can h = nothing_told (Looks (look e)) h
+-- a thread that can step has a pure step or a print
+pub has_step : (s : State) (t : ℕ) → CanStep (map.get s.threads t) → local_of s t 1 ≡ None → print_of s t ≡ None → ⊥
+has_step s t can none silent =
+    elim (map.get s.threads t) as (λ o. CanStep o → option_and_then (λ e. option_map (with_thread s t) (some_pure_steps 1 e)) o ≡ None → option_and_then (λ e. option_map (after_print s t e) (printed_by (look e))) o ≡ None → ⊥) [
+      | None ↦ λ c n p. c
+      | Some e ↦ λ c n p. steps_or_prints s t e (look e) c n p
+    ] can none silent
