@@ -9,16 +9,18 @@ use std::env::Args;
 use std::io;
 
 fn main(rt: HostRuntime) -> io::Result<()> {
-    for words in [
-        ["run", "sum.stab"],
-        ["run", "overflow.stab"],
-        ["run", "nowhere.stab"],
-        ["check", "sum.stab"],
+    for line in [
+        "run sum.stab",
+        "run overflow.stab",
+        "run sum.stab --speed 3",
+        "run nowhere.stab",
+        "run prints.stab --fuel 1",
+        "types sum.stab",
     ] {
         let mut files = DiskFiles::new(&rt);
         let mut output = OutSink::new(io::writer(&rt));
         let mut errors = OutSink::new(io::writer(&rt));
-        let args = args(rt.alloc(), words)?;
+        let args = args(rt.alloc(), line)?;
         let number = command(
             &rt,
             rt.alloc(),
@@ -33,9 +35,10 @@ fn main(rt: HostRuntime) -> io::Result<()> {
 }
 
 // The arguments of a call: the program's name and the words.
-fn args(alloc: Global, words: [&str; 2]) -> Result<Args, AllocError> {
-    let name = String::from_str(alloc, "stab")?;
-    let command = String::from_str(alloc, words[0])?;
-    let file = String::from_str(alloc, words[1])?;
-    Ok(vec![in alloc; name, command, file]?.into_iter())
+fn args(alloc: Global, line: &str) -> Result<Args, AllocError> {
+    let mut args = vec![in alloc; String::from_str(alloc, "stab")?]?;
+    for word in line.split(' ') {
+        args.push(String::from_str(alloc, word)?)?;
+    }
+    Ok(args.into_iter())
 }
