@@ -12,22 +12,20 @@ use Rattle.std.proofs.lemmas.Bool.{false≢true, eqb-true}
 use Rattle.std.proofs.lemmas.List.Elements.{All-from_recursion, recursion_from_All, All-nil}
 use Rattle.stab_base.specs.Datum.{Datum, unit}
 use Rattle.stab_base.specs.Printed.{HasTexts}
-use Rattle.stab_journal.specs.declared.event.Label.{Label}
 use Rattle.stab_journal.specs.declared.event.Label.TheVariants.{Local, Print}
 use Rattle.stab_code.specs.Program.{ProgramParts}
 use Rattle.stab_code.specs.Valid.{IsValid}
 use Rattle.plain_language.specs.Expression.{Expr}
-use Rattle.plain_language.specs.Look.{look, answered}
+use Rattle.plain_language.specs.Look.{answered}
 use Rattle.plain_language.specs.Outcome.{called}
 use Rattle.plain_language.specs.Plain.{PlainState, start, language_of, effect_of, plain_step, look_in}
 use Rattle.plain_language.specs.Program.{body}
-use Rattle.plain_language.specs.Quiet.{IsQuiet, is_resting}
-use Rattle.plain_language.specs.Steps.{Effect, apply}
-use Rattle.plain_language.specs.Table.{Act, Language, spawns, makes_chan, makes_ref, gets, sets, sends, receives, picks, enters, stabilizes, cuts, pins, prints, probes, attempts, Look, done, fault, act, pure, pure_of, pure_steps, to, local_by, print_by}
+use Rattle.plain_language.specs.Steps.{apply}
+use Rattle.plain_language.specs.Table.{Language, spawns, makes_chan, makes_ref, gets, sets, sends, receives, picks, enters, stabilizes, cuts, pins, prints, probes, attempts, Look, done, fault, act, pure, pure_of, pure_steps, to, local_by, print_by}
 use Rattle.plain_language.proofs.Applying.{get_inserted}
-use Rattle.plain_run.specs.Alone.{IsAlone, main_thread, only}
+use Rattle.plain_run.specs.Alone.{IsAlone, main_thread}
 use Rattle.plain_run.specs.Calm.{calm}
-use Rattle.plain_run.specs.Contents.{IsExprIn, IsActIn, IsLookIn}
+use Rattle.plain_run.specs.Contents.{IsExprIn, IsLookIn}
 use Rattle.plain_run.specs.Commit.{Lacks}
 use Rattle.plain_run.specs.Making.{Makes}
 use Rattle.plain_run.specs.Sequential.{IsSequential}

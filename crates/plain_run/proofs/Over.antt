@@ -1,5 +1,5 @@
 -- A run that is over.
-use Rattle.std.proofs.Common.{◌≡◌, inl, inr, ℕ, ◌≤◌, refl, sym, ap, subst}
+use Rattle.std.proofs.Common.{◌≡◌, inl, inr, ◌≤◌, refl, sym, subst}
 use Rattle.stab_journal.specs.Event.{weight_of}
 use Rattle.plain_language.specs.Plain.{language_of}
 use Rattle.plain_language.specs.Quiet.{IsQuiet}

@@ -1,20 +1,16 @@
 -- What is known when a step was played or refused.
-use Rattle.std.proofs.Common.{◌≡◌, ◌⊎◌, inl, inr, ℕ, zero, suc, ◌+◌, ◌<◌, ◌≤◌, List, [], ◌∷◌, ◌++◌, length, Some, None, Result, Ok, Err, OnOk, refl, sym, ap, subst, ◌∙◌, arith}
-use Rattle.stab_journal.specs.declared.event.Label.{Label}
-use Rattle.stab_journal.specs.declared.event.Label.TheVariants.{Local, Print}
+use Rattle.std.proofs.Common.{◌≡◌, inl, inr, ℕ, zero, suc, ◌+◌, ◌<◌, ◌≤◌, List, [], ◌∷◌, ◌++◌, length, Some, None, Result, Ok, Err, OnOk, refl, sym, subst, arith}
+use Rattle.stab_journal.specs.declared.event.Label.TheVariants.{Local}
 use Rattle.stab_journal.specs.declared.event.What.TheVariants.{Step}
 use Rattle.stab_journal.specs.declared.event.Event.{Event}
-use Rattle.stab_journal.specs.Journal.{Journal, survivors, step_at}
 use Rattle.plain_language.specs.Held.{Held}
 use Rattle.stab_code.specs.Program.{ProgramParts}
 use Rattle.plain_language.specs.Plain.{PlainState, plain_step}
 use Rattle.plain_language.specs.Standing.{event}
 use Rattle.plain_run.specs.Alone.{IsAlone, main_thread}
-use Rattle.plain_run.specs.Commit.{AddsStep, AddsPureSteps, AddsPrint, Lacks}
-use Rattle.plain_run.specs.Keeping.{Keeps}
+use Rattle.plain_run.specs.Commit.{AddsStep, AddsPureSteps, Lacks}
 use Rattle.plain_run.specs.Making.{Makes}
-use Rattle.plain_run.proofs.Alone.{lacks_local, makes_alone, makes_more, print_alone}
-use Rattle.plain_run.proofs.Booking.{keeps_same, keeps_step}
+use Rattle.plain_run.proofs.Alone.{lacks_local, makes_alone, makes_more}
 
 -- pure steps of a state whose program is the first one's
 pub made_more : (p q : ProgramParts) (s s' s'' : PlainState) (number n : ℕ) → IsAlone p s → q ≡ p → Makes p s number n s' → plain_step q s' number (Local main_thread 1) ≡ Some s'' → Makes p s number (n + 1) s''

@@ -1,5 +1,5 @@
 -- What heads and values stand in the bodies of a program.
-use Rattle.std.proofs.Common.{◌≡◌, ℕ, zero, suc, List, [], ◌∷◌, ◌++◌, Option, Some, None}
+use Rattle.std.proofs.Common.{ℕ, zero, suc, List, [], ◌∷◌, ◌++◌, Option, Some, None}
 use Rattle.std.specs.Prelude.{slice_get, unwrap_or}
 use Rattle.std.specs.List.{All, AllByRecursion}
 use Rattle.std.proofs.lemmas.List.Elements.{recursion_from_All}
@@ -8,8 +8,8 @@ use Rattle.stab_code.specs.declared.head.Head.TheVariants as code_head
 use Rattle.stab_code.specs.declared.node_id.NodeId.{NodeId}
 use Rattle.stab_code.specs.Nodes.{NodeParts}
 use Rattle.stab_code.specs.Trees.{Tree, Trees, tree, none, more}
-use Rattle.stab_code.specs.Program.{ProgramParts, FunctionParts, body_of, tree_among, trees_among, trees_after}
-use Rattle.plain_language.specs.Expression.{Expr, Parts}
+use Rattle.stab_code.specs.Program.{ProgramParts, FunctionParts, body_of, trees_among, trees_after}
+use Rattle.plain_language.specs.Expression.{Parts}
 use Rattle.plain_language.specs.Program.{form_of, expr_of, exprs_of, body_by, body}
 use Rattle.plain_run.specs.Contents.{Contents, IsExprIn, ArePartsIn}
 

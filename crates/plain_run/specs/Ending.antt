@@ -1,8 +1,8 @@
 -- The lines of thread 1 at the end of a run, by what is next for it.
-use Rattle.std.specs.Prelude.{ℕ, Bool, true, false, List, ◌++◌, Option, Some, None}
+use Rattle.std.specs.Prelude.{ℕ, Bool, true, false, List, ◌++◌, Option, Some}
 use Rattle.stab_base.specs.declared.fault.Fault.{Fault}
 use Rattle.plain_language.specs.declared.look.Look.{Look}
-use Rattle.plain_language.specs.declared.look.Look.TheVariants.{Done, Failed, Pure, Act}
+use Rattle.plain_language.specs.declared.look.Look.TheVariants.{Done, Failed}
 use Rattle.plain_language.specs.Table as table
 use Rattle.plain_language.specs.Shown.{counts, fault_line}
 

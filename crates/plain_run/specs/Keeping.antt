@@ -1,5 +1,4 @@
 -- What comes next keeps what a book keeps.
-use Rattle.std.specs.Prelude.{ℕ}
 use Rattle.stab_journal.specs.Journal.{Journal}
 use Rattle.stab_code.specs.Program.{ProgramParts}
 use Rattle.plain_language.specs.Plain.{PlainState}

@@ -1,5 +1,5 @@
-use Rattle.std.proofs.Common.{◌≡◌, ap, subst}
-use Rattle.plain_run.specs.Commit.{AddsCommit, AddsPrint, AddsPureSteps}
+use Rattle.std.proofs.Common.{ap, subst}
+use Rattle.plain_run.specs.Commit.{AddsPrint, AddsPureSteps}
 use Rattle.plain_run.proofs.Stepping.{on_ok}
 use Rattle.plain_run.proofs.commit.commit.Goals as goal
 

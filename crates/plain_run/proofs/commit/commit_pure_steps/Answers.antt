@@ -1,4 +1,4 @@
-use Rattle.std.proofs.Common.{◌≡◌, ◌+◌, ◌≤◌, ◌++◌, ap, ◌∙◌, arith}
+use Rattle.std.proofs.Common.{◌+◌, ◌++◌, ap, ◌∙◌, arith}
 use Rattle.stab_journal.specs.Journal.{survivors, step_at}
 use Rattle.stab_journal.specs.declared.event.Label.TheVariants.{Local}
 use Rattle.stab_journal.specs.declared.event.What.TheVariants.{Step}

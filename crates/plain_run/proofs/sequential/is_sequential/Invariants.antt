@@ -1,4 +1,4 @@
-use Rattle.std.proofs.Common.{◌≡◌, ℕ, ◌-◌, ◌≤◌, length, take, false}
+use Rattle.std.proofs.Common.{◌≡◌, ◌-◌, ◌≤◌, length, take, false}
 use Rattle.std.specs.List.{All}
 use Rattle.plain_run.specs.Sequential.{acts_besides}
 use Rattle.plain_run.proofs.sequential.is_sequential.Given as goal

@@ -1,7 +1,4 @@
-use Rattle.std.proofs.Common.{◌≡◌, ◌<◌, ◌+◌, ℕ, [], List, refl, sym, ap, subst, ◌∙◌, arith}
-use Rattle.stab_journal.specs.declared.event.Event.{Event}
-use Rattle.stab_journal.specs.Journal.{Journal, survivors_from}
-use Rattle.stab_journal.specs.Event.{weight_of}
+use Rattle.std.proofs.Common.{◌≡◌, sym, ap, subst, ◌∙◌}
 use Rattle.plain_language.specs.Held.{Held}
 use Rattle.plain_language.specs.Plain.{start}
 use Rattle.plain_run.specs.Book.{IsShown, ByOneWorker}

@@ -1,4 +1,4 @@
-use Rattle.std.proofs.Common.{◌≡◌, ◌-◌, ℕ}
+use Rattle.std.proofs.Common.{◌≡◌, ◌-◌}
 use Rattle.stab_journal.specs.Event.{weight_of}
 use Rattle.plain_run.proofs.book.Book.run.Given as goal
 
