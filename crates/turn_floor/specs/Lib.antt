@@ -1,0 +1,9 @@
+pub mod Counts
+pub mod Joined
+pub mod Keeps
+pub mod Parts
+pub mod Plays
+pub mod Served
+pub mod Start
+pub mod Turn
+pub mod Turns
