@@ -1,0 +1,15 @@
+//! The evaluator: a thread's text on its way.
+#![tactic(auto)]
+
+mod act;
+mod control;
+mod env;
+mod frame;
+mod machine;
+mod node;
+mod site;
+
+pub use act::Act;
+pub use control::{CallRefused, Control};
+pub use frame::Frame;
+pub use site::Site;
