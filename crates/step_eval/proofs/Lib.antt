@@ -1,4 +1,5 @@
 pub mod Calls
+pub mod Ending
 pub mod Forms
 pub mod Nodes
 pub mod Shares

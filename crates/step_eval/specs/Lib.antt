@@ -5,6 +5,7 @@ pub mod Fits
 pub mod FrameView
 pub mod Meaning
 pub mod Ready
+pub mod Rests
 pub mod Scoped
 pub mod Turns
 pub mod View

@@ -1,16 +1,19 @@
 //! Controls.
 ghost use Rattle.std.specs.Prelude.{◌≡◌, ◌≤◌, ◌+◌, length, IfOk, IfErr};
 ghost use Rattle.stab_code.specs.Program.{ProgramParts};
+ghost use Rattle.stab_code.specs.Valid.{IsValid};
 ghost use Rattle.plain_language.specs.Expression.{failed};
 ghost use Rattle.plain_language.specs.Outcome.{called};
 ghost use Rattle.plain_language.specs.Program.{body};
 ghost use Rattle.step_eval.specs.ControlView.{expr_of, Fits};
 ghost use Rattle.step_eval.specs.Entries.{entered};
+ghost use Rattle.step_eval.specs.Rests.{rest_of};
 ghost use Rattle.step_eval.specs.Turns.{Takes};
 
 use crate::env::Env;
-use crate::machine::Machine;
+use crate::machine::{Focus, Machine};
 use crate::node::entry;
+use crate::rest::Rest;
 use stab_base::{Fault, FnId, NoMemory, Value};
 use stab_code::{NodeId, Program};
 use std::alloc::Global;
@@ -100,5 +103,18 @@ impl Control {
         ensures fits { (p : ProgramParts) → Fits p self.new }
     {
         self.machine.fail(fault);
+    }
+
+    /// Whether the control is on its way, is a value, or is a fault.
+    pub fn rest(&self) -> Rest
+        ensures { (p : ProgramParts) → IsValid p → Fits p self.now → result ≡ rest_of (expr_of p self.now) }
+    {
+        match &self.machine.focus {
+            Focus::Fault(k) => Rest::Failed(*k),
+            Focus::Value(_v) => self.machine.rest_of_value(),
+            Focus::Begun(_n) => Rest::Going,
+            Focus::Form => Rest::Going,
+            Focus::Act(_a) => Rest::Going,
+        }
     }
 }

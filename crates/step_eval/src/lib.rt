@@ -7,9 +7,11 @@ mod env;
 mod frame;
 mod machine;
 mod node;
+mod rest;
 mod site;
 
 pub use act::Act;
 pub use control::{CallRefused, Control};
 pub use frame::Frame;
+pub use rest::Rest;
 pub use site::Site;

@@ -1,14 +1,17 @@
 //! The machine: a form at hand, and the frames round it.
-ghost use Rattle.std.specs.Prelude.{◌≡◌, [], None, map, IfOk};
+ghost use Rattle.std.specs.Prelude.{◌≡◌, ◌≢◌, [], None, map, IfOk};
+ghost use Rattle.std.specs.Bool.{OnFalse, OnTrue};
 ghost use Rattle.std.specs.Arc.{arc_value};
 ghost use Rattle.step_eval.specs.ControlView.{view_of};
 ghost use Rattle.step_eval.specs.Entries.{entered};
 ghost use Rattle.step_eval.specs.View.{here_of, round_of};
 ghost use Rattle.step_eval.specs.declared.machine.Focus.TheVariants as Focus;
+ghost use Rattle.step_eval.specs.declared.rest.Rest.TheVariants.{Done, Going};
 
 use crate::act::Act;
 use crate::env::{Env, copied};
 use crate::frame::Frame;
+use crate::rest::Rest;
 use crate::site::Site;
 use stab_base::{Fault, NoMemory, Seq, Value};
 use stab_code::NodeId;
@@ -70,6 +73,29 @@ impl Machine {
         match value {
             None => Machine::alone(alloc, Focus::Begun(n), n, env),
             Some(v) => Machine::alone(alloc, Focus::Value(v), n, env),
+        }
+    }
+
+    /// Whether no frame stands round the focus.
+    pub(crate) fn is_alone(&self) -> bool
+        ensures alone { OnTrue result (round_of self.now ≡ []) }
+        ensures some { OnFalse result (round_of self.now ≢ []) }
+    {
+        match &self.top {
+            Some(_frame) => false,
+            None => self.frames.is_empty(),
+        }
+    }
+
+    /// Whether a machine that looks at a value has ended.
+    pub(crate) fn rest_of_value(&self) -> Rest
+        ensures alone { round_of self.now ≡ [] → result ≡ Done }
+        ensures some { round_of self.now ≢ [] → result ≡ Going }
+    {
+        if self.is_alone() {
+            Rest::Done
+        } else {
+            Rest::Going
         }
     }
 
