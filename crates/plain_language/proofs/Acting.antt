@@ -1,5 +1,5 @@
 -- Effects of labels on an expression that stands at another act.
-use Rattle.std.proofs.Common.{◌≡◌, ℕ, Bool, true, false, cond, nat_eq, List, Bor, Option, Some, None, refl, sym, ap, ◌∙◌, arith}
+use Rattle.std.proofs.Common.{◌≡◌, ℕ, true, false, cond, nat_eq, List, Bor, Option, Some, None, refl, sym, ap, ◌∙◌, arith}
 use Rattle.std.specs.Prelude.{ℤ, option_map}
 use Rattle.std.proofs.lemmas.Bool.Decides.{nat_tests}
 use Rattle.stab_base.specs.Datum.{Datum}
@@ -7,7 +7,7 @@ use Rattle.stab_base.specs.declared.numbers.ChanId.{ChanId}
 use Rattle.stab_base.specs.declared.numbers.FnId.{FnId}
 use Rattle.stab_base.specs.declared.numbers.RefId.{RefId}
 use Rattle.plain_language.specs.declared.act.Act.{Act}
-use Rattle.plain_language.specs.declared.act.Act.TheVariants.{Spawn, NewChan, NewRef, Get, Set, Send, Recv, Pick, Enter, Stabilize, Cut, Pin, Print, Probe, Attempt}
+use Rattle.plain_language.specs.declared.act.Act.TheVariants.{Spawn, NewRef, Get, Set, Send, Enter, Print, Probe}
 use Rattle.plain_language.specs.Acts.{act_of, act_in}
 use Rattle.plain_language.specs.Expression.{Expr}
 use Rattle.plain_language.specs.Table as table

@@ -1,5 +1,5 @@
 -- The innermost section, with none outside.
-use Rattle.std.proofs.Common.{◌≡◌, ℕ, List, [], ◌∷◌, Option, None, Some, refl, ap}
+use Rattle.std.proofs.Common.{◌≡◌, List, [], ◌∷◌, Option, None, Some, refl, ap}
 use Rattle.plain_language.specs.Redex.{Frame, Redex, innermost, section_or, frames_of}
 use Rattle.plain_language.specs.Busy.{innermost_or, mark_or}
 

@@ -1,5 +1,5 @@
 -- A state together with the program that runs in it, and how proofs store the two.
-use Rattle.std.specs.Prelude.{ℕ, List, refl}
+use Rattle.std.specs.Prelude.{List, refl}
 use Rattle.std.specs.Ordering.{nat_cmp}
 use Rattle.std.specs.FinMap as map
 use Rattle.std.specs.FinMap.{FinMap}

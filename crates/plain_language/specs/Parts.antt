@@ -1,5 +1,5 @@
 -- The state of lists of its parts. Where a number stands twice in a list, the first counts.
-use Rattle.std.specs.Prelude.{ℕ, List, map as each}
+use Rattle.std.specs.Prelude.{List, map as each}
 use Rattle.std.specs.Ordering.{nat_cmp}
 use Rattle.std.specs.FinMap.{FinMap, from_entries}
 use Rattle.std.specs.FinSet.{FinSet, from_list}

@@ -1,6 +1,5 @@
 -- A history by hand: two threads meet in a section of the first, which is taken back; a third thread prints and cuts.
-use Rattle.std.specs.Prelude.{ℕ, pos, List, [], ◌∷◌, map as each, take}
-use Rattle.stab_journal.specs.declared.event.Label.{Label}
+use Rattle.std.specs.Prelude.{ℕ, pos, List, [], ◌∷◌, map as each}
 use Rattle.stab_journal.specs.declared.event.Label.TheVariants.{Enter, Comm, Probe, Print, Cut}
 use Rattle.stab_journal.specs.declared.event.What.{What}
 use Rattle.stab_journal.specs.declared.event.What.TheVariants.{Step, Undo, Release}

@@ -1,4 +1,4 @@
-use Rattle.std.proofs.Common.{ℕ, zero, suc, refl, ap}
+use Rattle.std.proofs.Common.{zero, suc, refl}
 use Rattle.stab_journal.specs.Script.{FollowsScript}
 use Rattle.std.proofs.Common.{pos, [], ◌∷◌}
 use Rattle.plain_language.specs.Sample.{sample}

@@ -1,6 +1,6 @@
-use Rattle.std.proofs.Common.{◌≡◌, ℕ, List, [], ◌∷◌, ◌++◌, map, ap, ◌∙◌, arith, rules}
+use Rattle.std.proofs.Common.{◌≡◌, ℕ, [], ◌∷◌, ◌++◌, map, ap, ◌∙◌, arith, rules}
 use Rattle.std.specs.Ordering.{nat_cmp}
-use Rattle.std.specs.FinMap.{FinMap, from_entries}
+use Rattle.std.specs.FinMap.{from_entries}
 use Rattle.std.proofs.lemmas.Grind.{common_steps}
 use Rattle.stab_base.specs.declared.numbers.RefId.{RefId}
 use Rattle.stab_base.specs.Datum.{Datum}

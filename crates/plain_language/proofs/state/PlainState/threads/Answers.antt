@@ -1,6 +1,5 @@
-use Rattle.std.proofs.Common.{length, ◌≡◌, ℕ, ◌<◌, Option, Some, None, is_some, true, ◌∙◌, ap, sym, subst, IsSome, arith}
+use Rattle.std.proofs.Common.{length, ◌<◌, is_some, ◌∙◌, ap, sym}
 use Rattle.std.proofs.lemmas.Bool.{false≢true}
-use Rattle.plain_language.specs.Expression.{Expr}
 use Rattle.plain_language.specs.Held.{Held}
 use Rattle.plain_language.specs.Plain.{standing}
 use Rattle.plain_language.proofs.Maps.{get_looked, nothing_there, not_below}
