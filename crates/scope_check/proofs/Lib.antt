@@ -1,0 +1,9 @@
+pub mod After
+pub mod Characters
+pub mod Facts
+pub mod Joined
+pub mod OwnSlots
+pub mod Programs
+pub mod Sizes
+pub mod SoundSyntax
+pub mod SoundTokens

@@ -1,0 +1,38 @@
+-- Words on the syntax: the forms of a program's bodies, and what a form's head says.
+use Rattle.std.specs.Prelude.{ℕ, ◌+◌, List, [], ◌∷◌, ◌++◌, Option}
+use Rattle.stab_code.specs.declared.head.Head.{Head as Code}
+use Rattle.stab_code.specs.declared.head.Head.TheVariants as code
+use Rattle.stab_parse.specs.declared.symbol.ActWord.{ActWord}
+use Rattle.stab_parse.specs.declared.symbol.ActWord.TheVariants as word
+use Rattle.stab_parse.specs.declared.symbol.Span.{Span}
+use Rattle.stab_parse.specs.declared.tree.Head.{Head}
+use Rattle.stab_parse.specs.declared.tree.Head.TheVariants as head
+use Rattle.stab_parse.specs.Forms.{Form, Parts, no_parts, next_part, body_of}
+use Rattle.stab_parse.specs.Grammar.{Program, no_functions, next_function}
+
+-- how many parts there are
+abbrev pub number_of : Parts → ℕ
+number_of no_parts = 0
+number_of (next_part ps f) = number_of ps + 1
+
+-- for each item of a block the name of its let, or none; other forms have no items
+abbrev pub items_of : Head → List (Option Span)
+items_of (head.Block names) = names
+items_of _ = []
+
+-- the act of each word
+abbrev pub act_of : ActWord → Code
+act_of word.Ref = code.NewRef
+act_of word.Get = code.Get
+act_of word.Recv = code.Recv
+act_of word.Print = code.Print
+act_of word.Fst = code.Fst
+act_of word.Snd = code.Snd
+act_of word.Set = code.Set
+act_of word.Send = code.Send
+act_of word.Pick = code.Pick
+act_of word.Stabilize = code.Stabilize
+act_of word.Cut = code.Cut
+act_of word.Probe = code.Probe
+act_of word.Pin = code.Pin
+act_of word.Attempt = code.Attempt

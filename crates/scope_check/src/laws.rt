@@ -1,0 +1,22 @@
+//! What the definition of a text's program comes to. The calls do nothing.
+ghost use Rattle.std.specs.Prelude.{◌≡◌, ℕ, ◌≤◌, List, length, IfOk, encode_utf8_all};
+ghost use Rattle.stab_code.specs.Valid.{IsValid};
+ghost use Rattle.stab_lex.specs.declared.token.Token.{Token};
+ghost use Rattle.stab_lex.specs.Pieces.{IsTextOf};
+ghost use Rattle.stab_lex.specs.Readings.{Reads};
+ghost use Rattle.stab_parse.specs.declared.symbol.Span.{Span};
+ghost use Rattle.stab_parse.specs.Faults.{IsParsed};
+ghost use Rattle.stab_parse.specs.Grammar.{Program};
+ghost use Rattle.scope_check.specs.Names.{named, text_at};
+ghost use Rattle.scope_check.specs.Scope.{program_scoped};
+
+/// The program that the definition gives for a text is one that can be run.
+pub fn programs_are_valid()
+    ensures { (bytes : List ℕ) (tokens : List Token) (p : Program) → length bytes ≤ 1048576 → Reads bytes tokens → IsParsed tokens p
+        → IfOk (program_scoped bytes p) IsValid }
+{}
+
+/// A text of a program is the UTF-8 of the characters that it stands for.
+pub fn texts_are_characters()
+    ensures { (bytes : List ℕ) (span : Span) (cs : List ℕ) → IsTextOf (named bytes span) cs → text_at bytes span ≡ encode_utf8_all cs }
+{}
