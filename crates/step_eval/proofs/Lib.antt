@@ -1,5 +1,0 @@
-pub mod Calls
-pub mod Ending
-pub mod Forms
-pub mod Nodes
-pub mod Shares
