@@ -10,6 +10,8 @@ mod kept;
 mod opening;
 mod pass;
 mod rule;
+#[cfg(test)]
+mod tests;
 mod view;
 
 pub use counter::{Call, Counter, work};
