@@ -1,0 +1,4 @@
+mod hostile;
+mod missing;
+mod productions;
+mod read;

@@ -1,0 +1,79 @@
+//! How the tests read texts, and how they write forms.
+
+use crate::{FormNode, Head, Lets, ParseFault, Span, Tree, parse};
+use stab_lex::lex;
+use std::alloc::{AllocError, Global};
+use std::process::Abort;
+use std::test::Fail;
+
+/// What the parser answers for a text. One that isn't tokens is `NoMemory`, which no test expects.
+pub(super) fn parsed(rt: &impl Abort, alloc: Global, text: &[u8]) -> Result<Tree, ParseFault> {
+    assert!(rt; text.len() <= 1_048_576);
+    match lex(alloc, text) {
+        Ok(tokens) => parse(alloc, &tokens, text),
+        Err(_) => Err(ParseFault::NoMemory),
+    }
+}
+
+/// The fault of a text, none where it is a program.
+pub(super) fn fault_of(rt: &impl Abort, alloc: Global, text: &[u8]) -> Option<ParseFault> {
+    parsed(rt, alloc, text).err()
+}
+
+/// The forms of a tree in order, each as what it is, how many parts it has where its kind doesn't tell, and its first byte
+/// behind an `@`. Names and texts are as the text has them; a block has the names of its lets, and `_` for each other item.
+pub(super) fn forms_text(alloc: Global, text: &str, tree: &Tree) -> Result<String, Fail> {
+    let mut line = String::new(alloc);
+    for form in tree.forms.all() {
+        if !line.is_empty() {
+            line.push(' ')?;
+        }
+        let (head, at) = (head_text(alloc, text, form)?, form.at);
+        line.push_str(format!(in alloc; "{head}@{at}")?.as_str())?;
+    }
+    Ok(line)
+}
+
+fn head_text(alloc: Global, text: &str, form: &FormNode) -> Result<String, AllocError> {
+    let parts = form.parts;
+    match &form.head {
+        Head::Unit => String::from_str(alloc, "unit"),
+        Head::Truth(truth) => format!(in alloc; "{truth}"),
+        Head::Int(n) => format!(in alloc; "{n}"),
+        Head::Text(span) | Head::Variable(span) => String::from_str(alloc, spelled(text, *span)),
+        Head::Block(lets) => block_text(alloc, text, lets),
+        Head::If => String::from_str(alloc, "if"),
+        Head::Two(op) => format!(in alloc; "{op:?}"),
+        Head::Not => String::from_str(alloc, "Not"),
+        Head::Neg => String::from_str(alloc, "Neg"),
+        Head::Pair => String::from_str(alloc, "pair"),
+        Head::Call(name) => {
+            let name = spelled(text, *name);
+            format!(in alloc; "{name}/{parts}")
+        }
+        Head::Start(word, name) => {
+            let name = spelled(text, *name);
+            format!(in alloc; "{word:?}:{name}/{parts}")
+        }
+        Head::NewChan(_) => String::from_str(alloc, "chan"),
+        Head::Act(word) => format!(in alloc; "{word:?}/{parts}"),
+    }
+}
+
+fn block_text(alloc: Global, text: &str, lets: &Lets) -> Result<String, AllocError> {
+    let mut line = String::from_str(alloc, "block")?;
+    for item in lets.all() {
+        line.push(':')?;
+        match item {
+            Some(name) => line.push_str(spelled(text, *name))?,
+            None => line.push('_')?,
+        }
+    }
+    Ok(line)
+}
+
+/// What stands there.
+pub(super) fn spelled(text: &str, span: Span) -> &str {
+    text.get(span.start as usize..span.end as usize)
+        .unwrap_or("")
+}
