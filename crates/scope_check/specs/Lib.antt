@@ -1,7 +1,11 @@
 pub mod Forms
 pub mod Limits
+pub mod Made
 pub mod Names
 pub mod Placed
+pub mod Places
+pub mod Progress
+pub mod Reading
 pub mod Scope
 pub mod Seen
 pub mod Sound

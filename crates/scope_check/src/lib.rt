@@ -1,10 +1,24 @@
-//! The program that a text's syntax stands for, as a definition: what its names mean, or the first name that means nothing.
+//! The program that a text's syntax stands for: what its names mean, or the first name that means nothing.
 #![tactic(auto)]
 
+mod bodies;
 mod fault;
+mod form;
+mod head;
+mod header;
 mod laws;
+mod names;
+mod numbers;
+mod parts;
+mod plan;
+mod progress;
+mod scoping;
 mod seen;
+#[cfg(test)]
+mod tests;
+mod types;
 
 pub use fault::ScopeFault;
 pub use laws::{programs_are_valid, texts_are_characters};
+pub use scoping::scope;
 pub use seen::Variable;

@@ -5,7 +5,7 @@ ghost use Rattle.std.specs.Prelude.{◌≡◌, IfOk, ◌++◌, ◌∷◌, [], le
 
 use crate::fault::ParseFault;
 use crate::symbol::{ActWord, CallWord, Span};
-use stab_code::{Op, Ty, TyForm};
+use stab_code::{Op, TyForm};
 use std::alloc::Global;
 use std::marker::Model;
 
@@ -108,12 +108,11 @@ impl ParsedType {
         Ok(ParsedType::new(TyForm::Pair(left, right)))
     }
 
-    /// The type of a program's node or function.
-    pub fn into_ty(self) -> Ty
-        ensures { result ≡ self }
+    /// What the type is made of, to match on.
+    pub fn form(&self) -> &TyForm
+        ensures { written_by result.now ≡ self.now }
     {
-        let ParsedType { form } = self;
-        Ty::new(form)
+        &self.form
     }
 }
 

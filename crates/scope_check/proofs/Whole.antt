@@ -1,0 +1,40 @@
+-- A whole program.
+use Rattle.std.proofs.Common.{◌≡◌, inl, inr, ℕ, List, [], ◌∷◌, Some, None, refl, sym, ap, ◌∙◌}
+use Rattle.std.specs.Prelude.{Result, Ok, Err, Option}
+use Rattle.stab_code.specs.Layout.{nodes_of_all}
+use Rattle.stab_code.specs.Nodes.{NodeParts}
+use Rattle.stab_code.specs.Program.{FunctionParts, ProgramParts, program_of}
+use Rattle.stab_parse.specs.declared.tree.Function.{Function}
+use Rattle.stab_parse.specs.FormList.{functions_of}
+use Rattle.stab_parse.specs.Grammar.{Program}
+use Rattle.scope_check.specs.declared.fault.ScopeFault.{ScopeFault}
+use Rattle.scope_check.specs.declared.progress.Progress.{Progress}
+use Rattle.scope_check.specs.Made.{AreFunctionsMade}
+use Rattle.scope_check.specs.Progress.{IsFaultOf, IsFirstFault, texts_of}
+use Rattle.scope_check.specs.Scope.{Defined, after, function_fault, functions_scoped, in_order, main_of, program_scoped, unless}
+
+module _ (bytes : List ℕ) (p : Program) where
+  abbrev made_of : ℕ → Defined → Result ProgramParts ScopeFault
+  made_of main d = Ok (program_of d.functions (nodes_of_all 0 (in_order d.trees)) d.texts (record { 0 = main }))
+
+  abbrev bodies : List Function → Result ProgramParts ScopeFault
+  bodies fs = after (main_of bytes fs) (λ main. after (functions_scoped bytes fs p) (made_of main))
+
+  abbrev whole : List Function → Result ProgramParts ScopeFault
+  whole fs = unless (function_fault bytes [] fs) (bodies fs)
+
+  module _ (fs : List Function) (is : functions_of p ≡ fs) where
+    whole-is : program_scoped bytes p ≡ whole fs
+    whole-is = ap whole is
+
+    module _ (none : function_fault bytes [] fs ≡ None) where
+      behind-names : program_scoped bytes p ≡ bodies fs
+      behind-names = whole-is ∙ ap (λ o. unless o (bodies fs)) none
+
+      pub program-made : (main : ℕ) (new : Progress) (made : List FunctionParts) → main_of bytes fs ≡ Ok main → AreFunctionsMade bytes fs p new made
+          → program_scoped bytes p ≡ Ok (program_of made new.nodes (texts_of new) (record { 0 = main }))
+      program-made main new made e are =
+          behind-names ∙ ap (λ r. after r (λ m. after (functions_scoped bytes fs p) (made_of m))) e ∙ ap (λ r. after r (made_of main)) are.scoped
+          ∙ ap (λ fs_made. Ok (program_of fs_made (nodes_of_all 0 (in_order are.defined.trees)) are.defined.texts (record { 0 = main }))) (sym are.functions)
+          ∙ ap (λ nodes. Ok (program_of made nodes are.defined.texts (record { 0 = main }))) (sym are.nodes)
+          ∙ ap (λ texts. Ok (program_of made new.nodes texts (record { 0 = main }))) (sym are.texts)

@@ -1,0 +1,101 @@
+//! The numbers of texts and variables.
+ghost use Rattle.std.specs.Prelude.{◌≡◌, ◌≤◌, [], Ok, Err, IfOk, IfErr, OnOk, reverse, map, length, ◌+◌, ◌<◌, ◌^◌};
+ghost use Rattle.scope_check.specs.Progress.{IsFaultOf, KeepsNodesAndSeen, met_of, seen_of, texts_of};
+ghost use Rattle.scope_check.specs.Scope.{let_numbered, slot_found, text_numbered};
+ghost use Rattle.scope_check.specs.Names.{slot_of};
+ghost use Rattle.scope_check.specs.Seen.{params_seen};
+
+use crate::fault::ScopeFault;
+use crate::names::{is_same, unknown};
+use crate::progress::Progress;
+use crate::seen::Variable;
+use indexmap::IndexSet;
+use stab_base::TextId;
+use stab_code::Nodes;
+use stab_parse::{Param, Span};
+use std::alloc::Global;
+
+/// The lets of a function.
+const MAX_LETS: usize = 200;
+
+/// The texts of a program.
+const MAX_TEXTS: usize = 1000;
+
+impl Progress {
+    pub(crate) fn new(alloc: Global) -> Progress
+        ensures nodes { result.nodes ≡ [] }
+        ensures texts { texts_of result ≡ [] }
+    {
+        Progress {
+            nodes: Nodes::new(alloc),
+            texts: IndexSet::new(alloc),
+            seen: Vec::new(alloc),
+            lets: 0,
+        }
+    }
+
+    /// Begins a function with these parameters.
+    pub(crate) fn begin(&mut self, params: &[Param]) -> Result<(), ScopeFault>
+        requires { length params.now < 2 ^ 32 }
+        ensures seen { OnOk result (seen_of self.new ≡ params_seen 0 params.now []) }
+        ensures lets { OnOk result (self.new.lets ≡ 0) }
+        ensures nodes { OnOk result (self.new.nodes ≡ self.old.nodes) }
+        ensures texts { OnOk result (texts_of self.new ≡ texts_of self.old) }
+        ensures fault { IfErr result (λ fault. fault ≡ ScopeFault.NoMemory) }
+    {
+        self.lets = 0;
+        self.seen.clear();
+        for i in 0..params.len() {
+            self.seen.push(Variable {
+                name: params[i].name,
+                slot: i as u32,
+            })?;
+        }
+        Ok(())
+    }
+
+    /// The slot of a variable.
+    pub(crate) fn slot(&self, bytes: &[u8], name: Span) -> Result<u32, ScopeFault>
+        ensures { result ≡ slot_found name (slot_of bytes.now (seen_of self.now) name) }
+    {
+        for i in (0..self.seen.len()).rev() {
+            if is_same(bytes, self.seen[i].name, name) {
+                return Ok(self.seen[i].slot);
+            }
+        }
+        Err(unknown(name))
+    }
+
+    /// The number of a text that is written there, which is a new one where it comes first.
+    pub(crate) fn number_text(&mut self, span: Span, text: Vec<u8>) -> Result<TextId, ScopeFault>
+        ensures lets { OnOk result (self.new.lets ≡ self.old.lets) }
+        ensures number { IfOk result (λ number. text_numbered span text.items (texts_of self.old) ≡ Ok (number.0, texts_of self.new)) }
+        ensures others { OnOk result (KeepsNodesAndSeen self.old self.new) }
+        ensures fault { IfErr result (IsFaultOf (text_numbered span text.items (texts_of self.old))) }
+    {
+        if let Some(number) = self.texts.get_index_of(text.as_slice()) {
+            return Ok(TextId(number as u32));
+        }
+        let number = self.texts.len();
+        if number >= MAX_TEXTS {
+            return Err(ScopeFault::TooMany(span.start));
+        }
+        self.texts.insert(text)?;
+        Ok(TextId(number as u32))
+    }
+
+    /// The variable of one let more, in a function that takes so many arguments.
+    pub(crate) fn number_let(&mut self, arity: u32, name: Span) -> Result<Variable, ScopeFault>
+        requires { arity ≤ 8 }
+        ensures variable { IfOk result (λ variable. let_numbered arity name (met_of self.old) ≡ Ok (variable, met_of self.new)) }
+        ensures others { OnOk result (KeepsNodesAndSeen self.old self.new) }
+        ensures fault { IfErr result (λ fault. let_numbered arity name (met_of self.old) ≡ Err fault) }
+    {
+        if self.lets >= MAX_LETS {
+            return Err(ScopeFault::TooMany(name.start));
+        }
+        let slot = arity + self.lets as u32;
+        self.lets += 1;
+        Ok(Variable { name, slot })
+    }
+}

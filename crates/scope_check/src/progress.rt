@@ -1,0 +1,18 @@
+//! What was made and met so far, going through a program's bodies.
+ghost use Rattle.std.specs.Prelude.{◌≤◌, length};
+
+use crate::seen::Variable;
+use indexmap::IndexSet;
+use stab_code::Nodes;
+
+/// What was made so far of a program, its nodes and texts, and of a function: how many lets it has, and the variables that are
+/// seen, the innermost last.
+#[derive(Drop)]
+pub struct Progress {
+    pub nodes: Nodes,
+    pub texts: IndexSet<Vec<u8>>,
+    pub seen: Vec<Variable>,
+    pub lets: usize,
+    ghost few_lets: { lets ≤ 200 },
+    ghost few_texts: { length texts.keys ≤ 1000 },
+}

@@ -1,0 +1,212 @@
+//! Programs whose nodes are written out, and each fault at its place.
+ghost use Rattle.std.specs.Prelude.{◌≤◌, length};
+
+use super::*;
+use stab_base::{FnId, TextId};
+use stab_code::{NodeId, Program};
+use stab_lex::lex;
+use stab_parse::parse;
+use std::alloc::Global;
+use std::process::Abort;
+use std::test::Fail;
+
+fn scoped(rt: &impl Abort, alloc: Global, text: &str) -> Result<Program, ScopeFault> {
+    let bytes = text.as_bytes();
+    assert!(rt; bytes.len() <= 1_048_576);
+    let Ok(tokens) = lex(alloc, bytes) else {
+        panic!(rt; "the text has tokens");
+    };
+    let Ok(tree) = parse(alloc, &tokens, bytes) else {
+        panic!(rt; "the tokens are a syntax");
+    };
+    scope(alloc, &tree, bytes)
+}
+
+fn program_of(rt: &impl Abort, alloc: Global, text: &str) -> Program {
+    match scoped(rt, alloc, text) {
+        Ok(program) => program,
+        Err(_) => panic!(rt; "the text is a program"),
+    }
+}
+
+// The nodes of a program, each as its head and its parts.
+fn expect_nodes(
+    rt: &impl Abort,
+    alloc: Global,
+    program: &Program,
+    nodes: &[&str],
+) -> Result<(), Fail> {
+    for i in 0..nodes.len() {
+        let node = program
+            .node(NodeId(i as u32))
+            .ok_or("the node is there")?;
+        let written = format!(in alloc; "{:?} {:?}", node.head(), node.parts())?;
+        assert_eq!(rt; written.as_str(), nodes[i], "node {i}");
+    }
+    assert!(rt; program.node(NodeId(nodes.len() as u32)).is_none());
+    Ok(())
+}
+
+// A function's slots and its body.
+fn expect_function(rt: &impl Abort, program: &Program, f: u32, slots: u32, body: u32) -> Result<(), Fail> {
+    let function = program.function(FnId(f)).ok_or("the function is there")?;
+    assert_eq!(rt; (function.slots(), function.body()), (slots, NodeId(body)), "function {f}");
+    Ok(())
+}
+
+#[test]
+fn two_functions_and_a_missing_else(rt: HostRuntime) -> Result<(), Fail> {
+    let text = "fn main(): unit { if plus(1, 2) == 3 { cut() } }\nfn plus(a: int, b: int): int { a + b }";
+    let program = program_of(&rt, rt.alloc(), text);
+    assert_eq!(rt; program.main(), FnId(0));
+    assert_eq!(rt; program.functions(), 2);
+    assert_eq!(rt; program.arity(FnId(1)), Some(2));
+    expect_nodes(
+        &rt,
+        rt.alloc(),
+        &program,
+        &[
+            "Int(1) []",
+            "Int(2) []",
+            "Call(FnId(1)) [NodeId(0), NodeId(1)]",
+            "Int(3) []",
+            "Two(Eq) [NodeId(2), NodeId(3)]",
+            "Cut []",
+            "Unit []",
+            "If [NodeId(4), NodeId(5), NodeId(6)]",
+            "Var(0) []",
+            "Var(1) []",
+            "Two(Add) [NodeId(8), NodeId(9)]",
+        ],
+    )?;
+    expect_function(&rt, &program, 0, 0, 7)?;
+    expect_function(&rt, &program, 1, 2, 10)?;
+    Ok(())
+}
+
+#[test]
+fn nested_blocks_and_hidden_lets(rt: HostRuntime) -> Result<(), Fail> {
+    let text = "fn f(x: int): int { let x = { let y = x; y; x }; let x = x; x } fn main(): int { f(1) }";
+    let program = program_of(&rt, rt.alloc(), text);
+    expect_nodes(
+        &rt,
+        rt.alloc(),
+        &program,
+        &[
+            "Var(0) []",
+            "Var(2) []",
+            "Var(0) []",
+            "Block(Slots { slots: [Some(2), None] }) [NodeId(0), NodeId(1), NodeId(2)]",
+            "Var(1) []",
+            "Var(3) []",
+            "Block(Slots { slots: [Some(1), Some(3)] }) [NodeId(3), NodeId(4), NodeId(5)]",
+            "Int(1) []",
+            "Call(FnId(0)) [NodeId(7)]",
+        ],
+    )?;
+    assert_eq!(rt; program.main(), FnId(1));
+    expect_function(&rt, &program, 0, 4, 6)?;
+    expect_function(&rt, &program, 1, 0, 8)?;
+    Ok(())
+}
+
+#[test]
+fn texts_that_repeat(rt: HostRuntime) -> Result<(), Fail> {
+    let text = "fn main(): unit { print(\"b\"); print(\"a\\\"\"); print(\"b\"); print(\"\") }";
+    let program = program_of(&rt, rt.alloc(), text);
+    expect_nodes(
+        &rt,
+        rt.alloc(),
+        &program,
+        &[
+            "Text(TextId(0)) []",
+            "Print [NodeId(0)]",
+            "Text(TextId(1)) []",
+            "Print [NodeId(2)]",
+            "Text(TextId(0)) []",
+            "Print [NodeId(4)]",
+            "Text(TextId(2)) []",
+            "Print [NodeId(6)]",
+            "Block(Slots { slots: [None, None, None] }) [NodeId(1), NodeId(3), NodeId(5), NodeId(7)]",
+        ],
+    )?;
+    let texts = program.texts();
+    assert_eq!(rt; texts.len(), 3);
+    assert_eq!(rt; texts.get(TextId(0)), Some(b"b".as_slice()));
+    assert_eq!(rt; texts.get(TextId(1)), Some(b"a\"".as_slice()));
+    assert_eq!(rt; texts.get(TextId(2)), Some(b"".as_slice()));
+    Ok(())
+}
+
+#[test]
+fn each_head(rt: HostRuntime) -> Result<(), Fail> {
+    let text = "fn main(): unit { spawn g(ref(1), get(chan[(int, ref[text])]())); stable g(true, ()); set(fst(1), snd(2));
+        send(recv(1), pick(1, 2)); stabilize(); pin(); probe(); attempt(); !(-main()) } fn g(a: int, b: int): int { (a, -3) }";
+    let program = program_of(&rt, rt.alloc(), text);
+    expect_nodes(
+        &rt,
+        rt.alloc(),
+        &program,
+        &[
+            "Int(1) []",
+            "NewRef [NodeId(0)]",
+            "NewChan(Ty { form: Pair(Int, Ref(Text)) }) []",
+            "Get [NodeId(2)]",
+            "Spawn(FnId(1)) [NodeId(1), NodeId(3)]",
+            "Truth(true) []",
+            "Unit []",
+            "Stable(FnId(1)) [NodeId(5), NodeId(6)]",
+            "Int(1) []",
+            "Fst [NodeId(8)]",
+            "Int(2) []",
+            "Snd [NodeId(10)]",
+            "Set [NodeId(9), NodeId(11)]",
+            "Int(1) []",
+            "Recv [NodeId(13)]",
+            "Int(1) []",
+            "Int(2) []",
+            "Pick [NodeId(15), NodeId(16)]",
+            "Send [NodeId(14), NodeId(17)]",
+            "Stabilize []",
+            "Pin []",
+            "Probe []",
+            "Attempt []",
+            "Call(FnId(0)) []",
+            "Neg [NodeId(23)]",
+            "Not [NodeId(24)]",
+            "Block(Slots { slots: [None, None, None, None, None, None, None, None] }) [NodeId(4), NodeId(7), NodeId(12), NodeId(18), NodeId(19), NodeId(20), NodeId(21), NodeId(22), NodeId(25)]",
+            "Var(0) []",
+            "Int(-3) []",
+            "Pair [NodeId(27), NodeId(28)]",
+        ],
+    )?;
+    Ok(())
+}
+
+#[test]
+fn faults(rt: HostRuntime) -> Result<(), Fail> {
+    for (text, fault) in [
+        ("", ScopeFault::NoMain),
+        ("fn f(): unit { x }", ScopeFault::NoMain),
+        ("fn main(x: int): unit { y }", ScopeFault::MainTakes),
+        ("fn main(): unit { x } fn main(): unit {}", ScopeFault::Twice(25, 4)),
+        ("fn f(ab: int, ab: int): unit {} fn f(): unit {}", ScopeFault::Twice(14, 2)),
+        (
+            "fn f(a: int, b: int, c: int, d: int, e: int, f: int, g: int, h: int, a: int): unit {}",
+            ScopeFault::TooMany(69),
+        ),
+        ("fn main(): unit { x }", ScopeFault::Unknown(18, 1)),
+        ("fn main(): unit { let xy = xy; }", ScopeFault::Unknown(27, 2)),
+        ("fn main(): unit { { let x = 1; }; x }", ScopeFault::Unknown(34, 1)),
+        ("fn main(): unit { main(x) }", ScopeFault::Arity(18)),
+        ("fn main(): unit { spawn main(1) }", ScopeFault::Arity(24)),
+        ("fn main(): unit { none(x) }", ScopeFault::Unknown(18, 4)),
+        ("fn main(): unit { stable main(1); x }", ScopeFault::Arity(25)),
+    ] {
+        let Err(found) = scoped(&rt, rt.alloc(), text) else {
+            panic!(rt; "the text is no program");
+        };
+        assert_eq!(rt; found, fault, "{text}");
+    }
+    Ok(())
+}
