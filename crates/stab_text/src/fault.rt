@@ -1,3 +1,7 @@
+ghost use Rattle.std.specs.Prelude.{◌≡◌, ◌↔◌, IsTrue};
+ghost use Rattle.stab_text.specs.declared.fault.TextFault.TheVariants.{Lex, Parse, Scope};
+ghost use Rattle.stab_text.specs.Text.{IsNoMemory};
+
 use scope_check::ScopeFault;
 use stab_lex::LexFault;
 use stab_parse::ParseFault;
@@ -11,4 +15,42 @@ pub enum TextFault {
     Parse(ParseFault),
     /// A name of their syntax means nothing there, or there are too many.
     Scope(ScopeFault),
+}
+
+impl TextFault {
+    /// Whether there was no memory for the answer, which says nothing of the bytes.
+    pub fn is_no_memory(self) -> bool
+        ensures { IsTrue result ↔ IsNoMemory self }
+    {
+        matches!(
+            self,
+            TextFault::Lex(LexFault::NoMemory)
+                | TextFault::Parse(ParseFault::NoMemory)
+                | TextFault::Scope(ScopeFault::NoMemory)
+        )
+    }
+}
+
+impl From<LexFault> for TextFault {
+    ghost from_gives = { λ fault text. text ≡ Lex fault };
+
+    fn from(fault: LexFault) -> TextFault {
+        TextFault::Lex(fault)
+    }
+}
+
+impl From<ParseFault> for TextFault {
+    ghost from_gives = { λ fault text. text ≡ Parse fault };
+
+    fn from(fault: ParseFault) -> TextFault {
+        TextFault::Parse(fault)
+    }
+}
+
+impl From<ScopeFault> for TextFault {
+    ghost from_gives = { λ fault text. text ≡ Scope fault };
+
+    fn from(fault: ScopeFault) -> TextFault {
+        TextFault::Scope(fault)
+    }
 }

@@ -1,0 +1,22 @@
+//! Reading programs.
+ghost use Rattle.std.specs.Prelude.{◌≤◌, ◌⊎◌, length, IfOk, IfErr};
+ghost use Rattle.stab_text.specs.Text.{HasFault, IsNoMemory, IsTextOf};
+
+use crate::fault::TextFault;
+use scope_check::scope;
+use stab_code::Program;
+use stab_lex::lex;
+use stab_parse::parse;
+use std::alloc::Global;
+
+/// The program of a text, or its first fault: what isn't tokens comes before what isn't syntax, and that before names that
+/// mean nothing. It takes time that grows with the length of the text, and nothing of it recurses on the text.
+pub fn read_program(alloc: Global, bytes: &[u8]) -> Result<Program, TextFault>
+    requires { length bytes.now ≤ 1048576 }
+    ensures program { IfOk result (IsTextOf bytes.now) }
+    ensures fault { IfErr result (λ fault. IsNoMemory fault ⊎ HasFault bytes.now fault) }
+{
+    let tokens = lex(alloc, bytes)?;
+    let tree = parse(alloc, &tokens, bytes)?;
+    Ok(scope(alloc, &tree, bytes)?)
+}
