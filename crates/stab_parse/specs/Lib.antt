@@ -5,3 +5,4 @@ pub mod Frames
 pub mod Grammar
 pub mod Moves
 pub mod Symbols
+pub mod Takes

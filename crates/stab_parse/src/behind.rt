@@ -5,7 +5,7 @@ ghost use Rattle.stab_parse.specs.Moves.{behind, behind_top, block_done, block_i
 
 use crate::fault::ParseFault;
 use crate::frame::{BlockPlace, Callee, Frame, Level, Phase, Seen};
-use crate::reader::{Reader, Step, deepest, one_more, only};
+use crate::reader::{Reader, Step, deepest, one_more, only, takes_right};
 use crate::symbol::{Span, Symbol};
 use crate::tree::{Function, Head, Lets};
 use stab_code::Op;
@@ -306,6 +306,9 @@ impl Reader {
             ≡ relation_top (top_of self.old.frames) op left (popped self.old)) }
         ensures fault { IfErr result (λ fault. fault ≡ ParseFault.NoMemory) }
     {
+        if !takes_right(Level::Relation, self.frames.top()) {
+            return self.operator(Level::Relation, op, left);
+        }
         match self.frames.pop() {
             Some(Frame::Operator(Level::Relation, _, _)) => return Ok(Step::Refused),
             Some(other) => self.frames.push(other)?,

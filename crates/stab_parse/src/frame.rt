@@ -1,5 +1,6 @@
 //! What is owed while a program is read: a frame for each thing that stands round the place.
 ghost use Rattle.std.specs.Prelude.{◌≡◌, ◌++◌, ◌∷◌, [], OnOk, IfErr};
+ghost use Rattle.std.specs.Option.{option_copied};
 ghost use Rattle.stab_parse.specs.Frames.{open_by, open_in, top_of, below_top};
 
 use crate::fault::ParseFault;
@@ -162,6 +163,13 @@ impl Stack {
         let _at_most = self.frames.len();
         self.open += more;
         Ok(())
+    }
+
+    /// The innermost frame.
+    pub(crate) fn top(&self) -> Option<&Frame>
+        ensures { option_copied result ≡ top_of self.now }
+    {
+        self.frames.last()
     }
 
     pub(crate) fn pop(&mut self) -> Option<Frame>

@@ -1,6 +1,8 @@
 //! What a parser keeps beside the phase that it is in, and how forms that were read go into it.
 ghost use Rattle.std.specs.Prelude.{◌≡◌, IfOk, IfErr};
 ghost use Rattle.stab_parse.specs.Frames.{top_of};
+ghost use Rattle.std.specs.Option.{option_copied};
+ghost use Rattle.stab_parse.specs.Takes.{takes_if, takes_operand, takes_right};
 ghost use Rattle.stab_parse.specs.Moves.{alone, both, complete, deeper, else_frame, else_top, formed, if_step, join_frame, join_top, joined, more, popped, seen_at, settle, settle_frame, settle_if, settle_step, settle_top, settled};
 
 use crate::fault::ParseFault;
@@ -51,6 +53,36 @@ pub(crate) fn one_more(parts: usize) -> usize
     ensures { result ≡ more parts }
 {
     parts.saturating_add(1)
+}
+
+/// Whether the frame is a prefix operator or a product, which an operand joins as soon as it is complete.
+fn takes_operand(top: Option<&Frame>) -> bool
+    ensures { result ≡ takes_operand (option_copied top.entry) }
+{
+    matches!(
+        top,
+        Some(Frame::Not(_) | Frame::Negate(_) | Frame::Operator(Level::Product, _, _))
+    )
+}
+
+/// Whether the frame is an operator of this level, below products.
+pub(crate) fn takes_right(level: Level, top: Option<&Frame>) -> bool
+    ensures { result ≡ takes_right level (option_copied top.entry) }
+{
+    match (level, top) {
+        (Level::Sum, Some(Frame::Operator(Level::Sum, _, _))) => true,
+        (Level::Relation, Some(Frame::Operator(Level::Relation, _, _))) => true,
+        (Level::And, Some(Frame::Operator(Level::And, _, _))) => true,
+        (Level::Or, Some(Frame::Operator(Level::Or, _, _))) => true,
+        _ => false,
+    }
+}
+
+/// Whether the frame is an `if` behind an `else`.
+fn takes_if(top: Option<&Frame>) -> bool
+    ensures { result ≡ takes_if (option_copied top.entry) }
+{
+    matches!(top, Some(Frame::ElseIf(_, _)))
 }
 
 impl Reader {
@@ -109,6 +141,9 @@ impl Reader {
             ≡ settle_top (top_of self.old.frames) seen (popped self.old)) }
         ensures fault { IfErr result (λ fault. fault ≡ ParseFault.NoMemory) }
     {
+        if !takes_operand(self.frames.top()) {
+            return Ok(None);
+        }
         match self.frames.pop() {
             Some(top) => self.settle_frame(top, seen),
             None => Ok(None),
@@ -166,6 +201,9 @@ impl Reader {
             ≡ join_top level (top_of self.old.frames) seen (popped self.old)) }
         ensures fault { IfErr result (λ fault. fault ≡ ParseFault.NoMemory) }
     {
+        if !takes_right(level, self.frames.top()) {
+            return Ok(seen);
+        }
         match self.frames.pop() {
             Some(top) => self.join_frame(level, top, seen),
             None => Ok(seen),
@@ -192,6 +230,9 @@ impl Reader {
             ≡ else_top (top_of self.old.frames) at depth (popped self.old)) }
         ensures fault { IfErr result (λ fault. fault ≡ ParseFault.NoMemory) }
     {
+        if !takes_if(self.frames.top()) {
+            return Ok(None);
+        }
         match self.frames.pop() {
             Some(top) => self.else_frame(top, at, depth),
             None => Ok(None),
