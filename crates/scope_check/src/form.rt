@@ -47,11 +47,9 @@ impl<'a> Plan<'a> {
         ensures fault { IfErr result (IsPartsFault self.now.bytes.now self.now.functions.now arity self.now.forms.now at progress.old) }
     {
         let head = &self.forms[at].head;
-        let parts = self.parts.of(at);
         let mut slots = Vec::new(self.alloc);
-        for i in 0..parts.len() {
-            let item = item_at(head, i);
-            self.part(progress, arity, &mut slots, item, parts[i].0 as usize)?;
+        for (i, part) in self.parts.of(at).iter().enumerate() {
+            self.part(progress, arity, &mut slots, item_at(head, i), part.0 as usize)?;
         }
         Ok(slots)
     }

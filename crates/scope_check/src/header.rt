@@ -6,7 +6,7 @@ ghost use Rattle.scope_check.specs.Progress.{IsFirstFault};
 ghost use Rattle.scope_check.specs.Scope.{function_fault, names_of, param_fault};
 
 use crate::fault::ScopeFault;
-use crate::names::{is_same, twice, written};
+use crate::names::{twice, written};
 use indexmap::IndexSet;
 use stab_parse::{Function, Param, Span};
 use std::alloc::Global;
@@ -62,8 +62,9 @@ fn first_fault(bytes: &[u8], params: &[Param]) -> Option<ScopeFault>
 fn is_among(bytes: &[u8], name: Span, params: &[Param]) -> bool
     ensures { result ≡ list_any (λ other. same_names bytes.now name other.name) params.now }
 {
+    let sought = written(bytes, name);
     for other in params {
-        if is_same(bytes, name, other.name) {
+        if sought == written(bytes, other.name) {
             return true;
         }
     }

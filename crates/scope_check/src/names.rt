@@ -1,6 +1,6 @@
 //! Names, and where they are written.
 ghost use Rattle.std.specs.Prelude.{◌≡◌};
-ghost use Rattle.scope_check.specs.Names.{is_same as same_names, named};
+ghost use Rattle.scope_check.specs.Names.{named};
 ghost use Rattle.scope_check.specs.Scope.{twice as twice_fault, unknown as unknown_fault};
 
 use crate::fault::ScopeFault;
@@ -13,13 +13,6 @@ pub(crate) fn written<'a>(bytes: &'a [u8], span: Span) -> &'a [u8]
     let end = (span.end as usize).min(bytes.len());
     let start = (span.start as usize).min(end);
     &bytes[start..end]
-}
-
-/// Whether the same bytes are written at two places.
-pub(crate) fn is_same(bytes: &[u8], a: Span, b: Span) -> bool
-    ensures { result ≡ same_names bytes.now a b }
-{
-    written(bytes, a) == written(bytes, b)
 }
 
 /// The fault of a name that was there before.

@@ -6,7 +6,7 @@ ghost use Rattle.scope_check.specs.Names.{slot_of};
 ghost use Rattle.scope_check.specs.Seen.{params_seen};
 
 use crate::fault::ScopeFault;
-use crate::names::{is_same, unknown};
+use crate::names::{unknown, written};
 use crate::progress::Progress;
 use crate::seen::Variable;
 use indexmap::IndexSet;
@@ -45,9 +45,9 @@ impl Progress {
     {
         self.lets = 0;
         self.seen.clear();
-        for i in 0..params.len() {
+        for (i, param) in params.iter().enumerate() {
             self.seen.push(Variable {
-                name: params[i].name,
+                name: param.name,
                 slot: i as u32,
             })?;
         }
@@ -58,8 +58,9 @@ impl Progress {
     pub(crate) fn slot(&self, bytes: &[u8], name: Span) -> Result<u32, ScopeFault>
         ensures { result ≡ slot_found name (slot_of bytes.now (seen_of self.now) name) }
     {
+        let sought = written(bytes, name);
         for i in (0..self.seen.len()).rev() {
-            if is_same(bytes, self.seen[i].name, name) {
+            if written(bytes, self.seen[i].name) == sought {
                 return Ok(self.seen[i].slot);
             }
         }

@@ -73,8 +73,8 @@ pub(crate) fn part_lists(alloc: Global, forms: &[FormNode]) -> Result<PartLists,
 {
     let mut lists = PartLists::new(alloc);
     let mut whole: Vec<NodeId> = Vec::new(alloc);
-    for i in 0..forms.len() {
-        let first = whole.len().saturating_sub(forms[i].parts);
+    for (i, form) in forms.iter().enumerate() {
+        let first = whole.len().saturating_sub(form.parts);
         lists.push(&whole[first..])?;
         whole.truncate(first);
         whole.push(NodeId(i as u32))?;

@@ -41,14 +41,14 @@ form-returns-clause-ok t c =
     form-made plan.bytes.now plan.functions.now c.args.arity plan.forms.now plan.fewer c.args.at c.args.progress.now c.head.new.progress node found c.in_ok-head.head head
     last c.in_ok-slots.slots.items c.of.result.now c.push.new.self c.in_ok-slots.ensures.ok listed (c.in_ok-push.ensures ∙ ap (λ h. last.nodes ++ node_of h c.of.result.now ∷ []) c.with_slots.ensures)
 
-pub form_parts-of-parts-requires : goal.form_parts-of-parts-requires
-form_parts-of-parts-requires t c = parts-there c.args.self.now.forms.now c.args.self.now.parts c.args.at c.args.self.now.laid c.requires.there
+pub form_parts-of-part-items-requires : goal.form_parts-of-part-items-requires
+form_parts-of-part-items-requires t c = parts-there c.args.self.now.forms.now c.args.self.now.parts c.args.at c.args.self.now.laid c.requires.there
 
 pub form_parts-part-requires : goal.form_parts-part-requires
 form_parts-part-requires t c =
     let plan = c.args.self.now in
-    let listed : slice_get (part_lists 0 [] plan.forms.now) c.args.at ≡ Some c.of-parts.result.now = ap (λ l. slice_get l c.args.at) (sym plan.laid) ∙ c.of-parts.ensures in
-    let below : (get_or c.of-parts.result.now c.loop-i.i (id 0)).0 < c.args.at = parts-below plan.forms.now c.args.at c.of-parts.result.now listed c.loop-i.i (id 0) c.loop-i-test.true in
+    let listed : slice_get (part_lists 0 [] plan.forms.now) c.args.at ≡ Some c.of-part-items.result.now = ap (λ l. slice_get l c.args.at) (sym plan.laid) ∙ c.of-part-items.ensures in
+    let below : (get_or c.of-part-items.result.now c.loop-i.i (id 0)).0 < c.args.at = parts-below plan.forms.now c.args.at c.of-part-items.result.now listed c.loop-i.i (id 0) c.loop-i-test.true in
     let there = c.requires.there in
     (omega (arith, below, c.decreases), (c.requires.texts, (omega (arith, below, there), c.requires.few)))
 
@@ -65,12 +65,12 @@ form_parts-loop-i-preserved t c =
     let plan = c.args.self.now in
     let node = get_or plan.forms.now c.args.at c.index-self-at.result in
     let found = slice_get-get_or plan.forms.now c.args.at c.index-self-at.result c.requires.there in
-    let parts = c.of-parts.result.now in
-    let listed : slice_get (part_lists 0 [] plan.forms.now) c.args.at ≡ Some parts = ap (λ l. slice_get l c.args.at) (sym plan.laid) ∙ c.of-parts.ensures in
+    let parts = c.of-part-items.result.now in
+    let listed : slice_get (part_lists 0 [] plan.forms.now) c.args.at ≡ Some parts = ap (λ l. slice_get l c.args.at) (sym plan.laid) ∙ c.of-part-items.ensures in
     let own = slice_get-get_or parts c.loop-i.i (id 0) c.loop-i-test.true in
     record {
       far = so-far-next plan.bytes.now plan.functions.now c.args.arity plan.forms.now plan.fewer c.args.at c.args.progress.now c.loop-i.progress c.loop-i.slots.items node parts c.loop-i.i
-          (get_or parts c.loop-i.i (id 0)) c.item_at-item.result found listed own c.item_at-item.ensures c.loop-i.invariant.far c.part.new.progress c.part.new.slots.items c.in_ok-part.ensures.ok;
+          (get_or parts c.loop-i.i (id 0)) c.item_at.result found listed own c.item_at.ensures c.loop-i.invariant.far c.part.new.progress c.part.new.slots.items c.in_ok-part.ensures.ok;
       seen = seen-on c.args.progress.now.seen.items c.loop-i.progress.seen.items c.part.new.progress.seen.items c.loop-i.invariant.seen c.in_ok-part.ensures.seen;
     }
 
@@ -80,17 +80,17 @@ form_parts-returns-in_err-part-clause-fault t c =
     let plan = c.args.self.now in
     let node = get_or plan.forms.now c.args.at c.index-self-at.result in
     let found = slice_get-get_or plan.forms.now c.args.at c.index-self-at.result c.requires.there in
-    let parts = c.of-parts.result.now in
-    let listed : slice_get (part_lists 0 [] plan.forms.now) c.args.at ≡ Some parts = ap (λ l. slice_get l c.args.at) (sym plan.laid) ∙ c.of-parts.ensures in
+    let parts = c.of-part-items.result.now in
+    let listed : slice_get (part_lists 0 [] plan.forms.now) c.args.at ≡ Some parts = ap (λ l. slice_get l c.args.at) (sym plan.laid) ∙ c.of-part-items.ensures in
     let own = slice_get-get_or parts c.loop-i.i (id 0) c.loop-i-test.true in
     rw (p.1, p.2) (so-far-fault plan.bytes.now plan.functions.now c.args.arity plan.forms.now plan.fewer c.args.at c.args.progress.now c.loop-i.progress c.loop-i.slots.items node parts c.loop-i.i
-    (get_or parts c.loop-i.i (id 0)) c.item_at-item.result found listed own c.item_at-item.ensures c.loop-i.invariant.far c.in_err-part.field-0.0 c.in_err-part.ensures.fault)
+    (get_or parts c.loop-i.i (id 0)) c.item_at.result found listed own c.item_at.ensures c.loop-i.invariant.far c.in_err-part.field-0.0 c.in_err-part.ensures.fault)
 
 pub form_parts-returns-clause-ok : goal.form_parts-returns-clause-ok
 form_parts-returns-clause-ok t c =
     let plan = c.args.self.now in
-    let parts = c.of-parts.result.now in
-    let listed : slice_get (part_lists 0 [] plan.forms.now) c.args.at ≡ Some parts = ap (λ l. slice_get l c.args.at) (sym plan.laid) ∙ c.of-parts.ensures in
+    let parts = c.of-part-items.result.now in
+    let listed : slice_get (part_lists 0 [] plan.forms.now) c.args.at ≡ Some parts = ap (λ l. slice_get l c.args.at) (sym plan.laid) ∙ c.of-part-items.ensures in
     so-far-all plan.bytes.now plan.functions.now c.args.arity plan.forms.now plan.fewer c.args.at c.args.progress.now c.loop-i.progress c.loop-i.slots.items parts c.loop-i.i listed
     (omega (arith, c.loop-i-test.false, c.loop-i.auto.i-end)) c.loop-i.invariant.far
 
