@@ -20,3 +20,4 @@ pub mod Without
 pub mod Spawned
 pub mod SpawnLost
 pub mod Entries
+pub mod Alone

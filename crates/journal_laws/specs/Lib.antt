@@ -1,3 +1,4 @@
+pub mod Alone
 pub mod Entered
 pub mod Known
 pub mod Lines

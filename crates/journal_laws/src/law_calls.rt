@@ -1,8 +1,15 @@
 //! Calls of the laws, whose conditions are tested on the run at hand.
-ghost use Rattle.std.specs.Prelude.{◌≡◌, ◌&&◌, true, nat_eq, map};
+ghost use Rattle.std.specs.Prelude.{◌≡◌, ◌&&◌, ℕ, true, nat_eq, map, IfSome};
+ghost use Rattle.std.specs.FinMap as finmap;
 ghost use Rattle.stab_journal.specs.Floor.{is_enter, is_entered};
 ghost use Rattle.stab_journal.specs.Journal.{RiseFrom};
 ghost use Rattle.stab_journal.specs.Reached.{reached};
+ghost use Rattle.stab_journal.specs.Surviving.{run_of};
+ghost use Rattle.plain_language.specs.Plain.{IsRun};
+ghost use Rattle.journal_laws.specs.Alone.{StandsAlone, events_of};
+ghost use Rattle.journal_laws.specs.Entered.{is_entered_by};
+ghost use Rattle.journal_laws.specs.Known.{sections_alone, IsExprIn, IsKnown};
+ghost use Rattle.journal_laws.specs.Surviving.{is_among, Survives};
 
 use crate::laws::{
     chain, closed_ids, cuts_hold, first_lost, lines_are_reached, marks_entered, pins_hold,
@@ -83,4 +90,23 @@ pub(crate) fn call_laws_of_programs(
     closed_ids(program, &[]);
     survive_from(&start, run, gone);
     Ok(())
+}
+
+/// What the laws of programs say of a run that was played, where what is reached from m goes.
+pub(crate) fn conclude(program: &Program, run: &[Numbered], m: Seq, gone: &[Seq], end: &PlainState)
+    requires rise { RiseFrom 1 run.now }
+    requires entered { is_entered m.0 run.now ≡ true }
+    requires gone { map (λ s. s.0) gone.now ≡ reached run.now m.0 }
+    requires stands { StandsAlone program.now run.now end.now.state }
+    ensures left { run.now ≡ run_of (events_of run.now) }
+    ensures is_run { IsRun program.now run.now end.now.state }
+    ensures known { IsKnown IsExprIn end.now.state }
+    ensures sections { (t : ℕ) → IfSome (finmap.get end.now.state.threads t) (λ e. IsExprIn (sections_alone (is_entered_by t run.now)) e) }
+    ensures survives { Survives program.now (is_among gone.now) run.now end.now.state }
+{
+    undone_twice(program);
+    closed_ids(program, run);
+    marks_entered(program, run);
+    upward_closed(run, m);
+    survive(program, run, gone);
 }

@@ -6,7 +6,7 @@ mod law_calls;
 mod laws;
 mod pass;
 #[cfg(test)]
-mod programs;
+mod played;
 #[cfg(test)]
 mod tests;
 

@@ -1,13 +1,44 @@
 //! What is reached in small runs and in a long one, worked out by hand, and the laws called on each of them.
-use crate::law_calls::{call_laws_of_programs, call_laws_of_runs, enters, rises};
-use crate::programs::one_section;
+use crate::law_calls::{call_laws_of_programs, call_laws_of_runs, conclude, enters, rises};
+use crate::played::played;
 use crate::reached;
-use stab_base::{ChanId, NoMemory, RefId, Seq, ThreadId};
+use plain_language::{ActKind, Look, PlainState};
+use stab_base::{ChanId, NoMemory, RefId, Seq, ThreadId, Value};
+use stab_code::Program;
 use stab_journal::{Label, Numbered};
+use stab_text::read_program;
 use std::alloc::Global;
 use std::process::Abort;
 use std::sync::Arc;
 use std::test::Fail;
+
+const ONE_SECTION: &str =
+    "fn part(): unit { if probe() < 0 { stabilize() } else { () } } fn main(): unit { stable part() }";
+
+// Three threads pass on what depends on the section of `main`.
+const PROGRAM: &str = "
+fn a(c: chan[int], k: chan[int]): unit { send(c, 5); recv(k); if probe() < 0 { stabilize() } else { () } }
+fn b(c: chan[int], r: ref[int]): unit { set(r, recv(c)) }
+fn c(r: ref[int], k: chan[int]): unit { let v = get(r); if v == 0 { c(r, k) } else { send(k, v) } }
+fn d(): unit { print(4) }
+fn main(): unit {
+    let m = chan[int](); let k = chan[int](); let r = ref(0);
+    spawn b(m, r); spawn c(r, k); spawn d();
+    stable a(m, k);
+    print(get(r))
+}
+";
+
+fn program_of(alloc: Global, text: &str) -> Result<Arc<Program>, Fail> {
+    let bytes = text.as_bytes();
+    if bytes.len() > 1_048_576 {
+        return Err(Fail::from("a short text"));
+    }
+    let Ok(program) = read_program(alloc, bytes) else {
+        return Err(Fail::from("the text of a program"));
+    };
+    Ok(Arc::new(alloc, program)?)
+}
 
 fn number(word: Option<&str>) -> u32 {
     word.and_then(|word| word.parse().ok()).unwrap_or(0)
@@ -19,7 +50,8 @@ fn step_of(line: &str) -> Option<Numbered> {
     let seq = Seq(u64::from(number(words.next())));
     let name = words.next()?;
     let t = ThreadId(number(words.next()));
-    let n = number(words.next());
+    let word = words.next();
+    let n = number(word);
     let label = match name {
         "local" => Label::Local(t, n),
         "spawn" => Label::Spawn(t, ThreadId(n)),
@@ -30,7 +62,7 @@ fn step_of(line: &str) -> Option<Numbered> {
         "set" => Label::Set(t, RefId(n)),
         "enter" => Label::Enter(t),
         "print" => Label::Print(t),
-        "probe" => Label::Probe(t, 0),
+        "probe" => Label::Probe(t, word?.parse().ok()?),
         "refuse" => Label::Refuse(t),
         "pin" => Label::Pin(t),
         _ => return None,
@@ -62,7 +94,7 @@ fn expect_reached<R: AllocGlobal + Abort>(
     }
     call_laws_of_runs(&run, Seq(m));
     let found = reached(rt.alloc(), &run, Seq(m))?;
-    let program = Arc::new(rt.alloc(), one_section(rt.alloc())?)?;
+    let program = program_of(rt.alloc(), ONE_SECTION)?;
     call_laws_of_programs(rt.alloc(), &program, &run, Seq(m), &found)?;
     assert_eq!(rt; found.len(), numbers.len());
     for (q, number) in found.iter().zip(numbers) {
@@ -71,15 +103,57 @@ fn expect_reached<R: AllocGlobal + Abort>(
     Ok(())
 }
 
+// The steps of `PROGRAM` up to the stabilize of the section that step 17 entered.
+const CASCADE: [&str; 4] = [
+    "1 newchan 1 1; 2 local 1 1; 3 newchan 1 2; 4 local 1 1; 5 newref 1 1; 6 local 1 1; 7 spawn 1 2; 8 local 1 1",
+    "9 spawn 1 3; 10 get 3 1; 11 local 1 1; 12 spawn 1 4; 13 local 3 4; 14 get 3 1; 15 print 4; 16 local 1 1",
+    "17 enter 1; 18 local 3 4; 19 get 3 1; 20 comm 1 2 1; 21 local 3 4; 22 get 3 1; 23 set 2 1; 24 local 1 1",
+    "25 local 3 4; 26 get 3 1; 27 local 3 3; 28 comm 3 1 2; 29 local 1 1; 30 probe 1 -1; 31 local 1 2",
+];
+
 #[test]
 fn a_cascade_over_three_threads(rt: HostRuntime) -> Result<(), Fail> {
+    expect_reached(&rt, &CASCADE, 17, &[17, 20, 23, 24, 26, 27, 28, 29, 30, 31])
+}
+
+#[test]
+fn the_laws_of_the_cascade(rt: HostRuntime) -> Result<(), Fail> {
+    let alloc = rt.alloc();
+    let program = program_of(alloc, PROGRAM)?;
+    let run = run_of(alloc, &CASCADE)?;
+    if !rises(&run) || !enters(&run, Seq(17)) {
+        return Err(Fail::from("a run with a section at 17"));
+    }
+    let end = played(alloc, &program, &run)?.ok_or("the steps are a run of the program")?;
+    let gone = reached(alloc, &run, Seq(17))?;
+    conclude(&program, &run, Seq(17), &gone, &end);
+    let first = ThreadId(1);
+    assert_eq!(rt; end.look(first), Some(Look::Act(ActKind::Stabilize)));
+    assert_eq!(rt; end.mark(first), Some(Seq(17)));
+    Ok(())
+}
+
+// What is left of the cascade without what is reached from 17 is played, and then the program to its end.
+#[test]
+fn what_the_cascade_leaves(rt: HostRuntime) -> Result<(), Fail> {
+    let alloc = rt.alloc();
+    let program = program_of(alloc, PROGRAM)?;
     let lines = [
-        "1 newchan 1 1; 2 local 1 1; 3 newchan 1 2; 4 local 1 1; 5 newref 1 1; 6 local 1 1; 7 spawn 1 2; 8 local 1 1",
-        "9 spawn 1 3; 10 get 3 1; 11 local 1 1; 12 spawn 1 4; 13 local 3 4; 14 get 3 1; 15 print 4; 16 local 1 1",
-        "17 enter 1; 18 local 3 4; 19 get 3 1; 20 comm 1 2 1; 21 local 3 4; 22 get 3 1; 23 set 2 1; 24 local 1 1",
-        "25 local 3 4; 26 get 3 1; 27 local 3 3; 28 comm 3 1 2; 29 local 1 1; 30 probe 1 -1; 31 local 1 2",
+        CASCADE[0],
+        CASCADE[1],
+        "18 local 3 4; 19 get 3 1; 21 local 3 4; 22 get 3 1; 25 local 3 4",
+        "33 enter 1; 34 get 3 1; 35 comm 1 2 1; 36 local 3 4; 37 get 3 1; 38 set 2 1; 39 local 1 1; 40 local 3 4",
+        "41 get 3 1; 42 local 3 3; 43 comm 3 1 2; 44 local 1 1; 45 probe 1 0; 46 local 1 4; 47 get 1 1; 48 print 1",
     ];
-    expect_reached(&rt, &lines, 17, &[17, 20, 23, 24, 26, 27, 28, 29, 30, 31])
+    let mut state = PlainState::start(alloc, &program)?;
+    for step in &run_of(alloc, &lines)? {
+        assert_eq!(rt; state.play(alloc, step.seq, &step.label), Ok(()));
+    }
+    assert!(rt;
+        matches!(state.printed(), [a, b] if a.same(&Value::int(4)) && b.same(&Value::int(5)))
+    );
+    assert_eq!(rt; state.look(ThreadId(1)), Some(Look::Done));
+    Ok(())
 }
 
 #[test]
