@@ -1,7 +1,3 @@
-pub mod Showing
-pub mod PureSteps
-pub mod Weighing
-pub mod Committing
 pub mod Pieces
 pub mod Ending
 pub mod Complete

@@ -1,5 +1,5 @@
 -- What is said of words where memory was refused.
-use Rattle.std.proofs.Common.{◌≡◌, inl, Bool, true, false, Result, Ok, Err, is_none, sym, subst}
+use Rattle.std.proofs.Common.{◌≡◌, inl, ℕ, List, Bool, true, false, Result, Ok, Err, is_none, sym, subst}
 use Rattle.stab_words.specs.Asked.{asked}
 use Rattle.stab_words.specs.declared.request.Request.{Request}
 use Rattle.stab_words.specs.declared.request.Request.TheVariants.{Run, Trace, Verify, Drill, Check, Mill, Types, Save, Resume, Watch}
@@ -8,40 +8,52 @@ use Rattle.stab_words.specs.declared.request.WordFault.{WordFault}
 use Rattle.std.proofs.lemmas.Bool.{false≢true}
 use Rattle.stab_top.specs.declared.report.Status.{Status}
 use Rattle.stab_top.specs.declared.report.Status.TheVariants.{NoMemory}
-use Rattle.stab_top.specs.Reason.{no_blame}
+use Rattle.stab_top.specs.Reason.{blames_file, no_blame}
 use Rattle.stab_top.specs.Words.{is_built}
-use Rattle.stab_top.specs.Call.{BuiltSays, Call, RequestSays, RunSays, Says, Untouched, WordsSay}
+use Rattle.stab_top.specs.Device.{Rests}
+use Rattle.stab_top.specs.Loading.{LoadRefused, blamed}
+use Rattle.stab_top.specs.Reading.{Blames, ReadRefused}
+use Rattle.stab_top.specs.declared.report.Role.TheVariants.{Program}
+use Rattle.stab_top.specs.Call.{BuiltSays, Call, CheckSays, FaultSays, NotBuiltSays, RequestSays, RunSays, Says, Untouched, WordsSay, status_of}
 
-run_says : (b : Bool) (args : RunArgs) (c : Call) → Untouched c no_blame → RequestSays b NoMemory c (Run args)
-run_says true args c is = inl (is.no_fault, is.refuses)
-run_says false args c is = is
+-- no file was loaded, for want of memory
+unread : (c : Call) (file : List ℕ) → status_of c ≡ NoMemory → Untouched c no_blame → ReadRefused c.outcome.report c.files file c.files_after
+unread c file none is = inl (subst (λ s. LoadRefused s Program c.files file c.files_after) (sym none) is.no_fault, subst (λ s. Blames c.outcome.report (blames_file (blamed s Program))) (sym none) is.refuses.0)
 
-request_says : (request : Request) (c : Call) → Untouched c no_blame → RequestSays (is_built request) NoMemory c request
-request_says (Run args) c is = run_says (is_none args.probes) args c is
-request_says (Trace args) c is = is
-request_says (Verify args) c is = is
-request_says (Drill args) c is = is
-request_says (Check name) c is = is
-request_says (Mill args) c is = is
-request_says (Types name) c is = is
-request_says (Save args) c is = is
-request_says (Resume args) c is = is
-request_says (Watch args) c is = is
+not_built : (c : Call) → status_of c ≡ NoMemory → Untouched c no_blame → NotBuiltSays (status_of c) c
+not_built c none is = subst (λ s. NotBuiltSays s c) (sym none) is
+
+run_says : (b : Bool) (args : RunArgs) (c : Call) → status_of c ≡ NoMemory → Untouched c no_blame → RequestSays b c (Run args)
+run_says true args c none is = inl (unread c args.file none is, is.refuses.1)
+run_says false args c none is = not_built c none is
+
+request_says : (request : Request) (c : Call) → status_of c ≡ NoMemory → Untouched c no_blame → RequestSays (is_built request) c request
+request_says (Run args) c none is = run_says (is_none args.probes) args c none is
+request_says (Check file) c none is = inl (unread c file none is, is.refuses.1)
+request_says (Trace args) c none is = not_built c none is
+request_says (Verify args) c none is = not_built c none is
+request_says (Drill args) c none is = not_built c none is
+request_says (Mill args) c none is = not_built c none is
+request_says (Types name) c none is = not_built c none is
+request_says (Save args) c none is = not_built c none is
+request_says (Resume args) c none is = not_built c none is
+request_says (Watch args) c none is = not_built c none is
+
+words_say : (meant : Result Request WordFault) (c : Call) → status_of c ≡ NoMemory → Untouched c no_blame → WordsSay meant c
+words_say (Ok request) c none is = request_says request c none is
+words_say (Err fault) c none is = subst (λ s. FaultSays s c fault) (sym none) is
 
 -- the memory for the words was refused, whatever they mean
-no_memory_says : (meant : Result Request WordFault) (c : Call) → Untouched c no_blame → WordsSay meant NoMemory c
-no_memory_says (Ok request) c is = request_says request c is
-no_memory_says (Err fault) c is = is
+pub no_memory_call : (words : List (List ℕ)) (c : Call) → status_of c ≡ NoMemory → Untouched c no_blame → Says words c
+no_memory_call words c none is = words_say (asked words) c none is
 
-built_says : (b : Bool) (status : Status) (c : Call) (request : Request) → b ≡ true → BuiltSays status c request → RequestSays b status c request
-built_says true status c request built says = says
-built_says false status c request built says = absurd (false≢true built)
+built_says : (b : Bool) (c : Call) (request : Request) → b ≡ true → BuiltSays c request → RequestSays b c request
+built_says true c request built says = says
+built_says false c request built says = absurd (false≢true built)
 
 -- what is built was done
-pub run_built : (request : Request) (args : RunArgs) (status : Status) (c : Call) → request ≡ Run args → is_built request ≡ true → RunSays status c args → RequestSays (is_built request) status c request
-run_built request args status c is built says =
-    built_says (is_built request) status c request built (subst (BuiltSays status c) (sym is) says)
+pub run_built : (request : Request) (args : RunArgs) (c : Call) → request ≡ Run args → is_built request ≡ true → RunSays c args → RequestSays (is_built request) c request
+run_built request args c is built says = built_says (is_built request) c request built (subst (BuiltSays c) (sym is) says)
 
--- the memory for the words was refused
-pub no_memory_call : (status : Status) (c : Call) → status ≡ NoMemory → Untouched c no_blame → Says status c
-no_memory_call status c is untouched = subst (λ s. Says s c) (sym is) (no_memory_says (asked c.words) c untouched)
+pub check_built : (request : Request) (file : List ℕ) (c : Call) → request ≡ Check file → CheckSays c file → RequestSays (is_built request) c request
+check_built request file c is says = subst (λ r. RequestSays (is_built r) c r) (sym is) says

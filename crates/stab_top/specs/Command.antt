@@ -1,23 +1,12 @@
 -- What a call of the program says by its exit status.
-use Rattle.std.specs.Prelude.{◌≡◌, ℕ, List, Option, ◌⊎◌}
-use Rattle.stab_files.specs.Count.{Rose}
+use Rattle.std.specs.Prelude.{◌≡◌, ℕ, List, ◌⊎◌}
 use Rattle.stab_files.specs.Entry.{Entry}
-use Rattle.stab_files.specs.Told.{Appends, AppendsPrefix}
+use Rattle.stab_top.specs.declared.report.Report.{Report}
 use Rattle.stab_top.specs.declared.report.Status.{Status}
 use Rattle.stab_top.specs.declared.report.Status.TheVariants.{NoMemory}
-use Rattle.stab_top.specs.Book.{Book}
 use Rattle.stab_top.specs.Call.{Says}
-use Rattle.stab_top.specs.Loading.{Device}
-use Rattle.stab_top.specs.Reason.{Blame, no_blame, reason_text, status_number}
-
--- a piece was written whole, or a prefix of it, and then a fault was counted
-abbrev pub Writes : Device (List ℕ) → Device (List ℕ) → List ℕ → Type 0
-Writes sink after piece =
-    (Appends sink.told after.told piece × (after.faults ≡ sink.faults)) ⊎ (AppendsPrefix sink.told after.told piece × Rose sink.faults after.faults)
-
--- nothing was written
-abbrev pub Rests : Device (List ℕ) → Device (List ℕ) → Type 0
-Rests sink after = (after.told ≡ sink.told) × (after.faults ≡ sink.faults)
+use Rattle.stab_top.specs.Device.{Device, Rests, Writes}
+use Rattle.stab_top.specs.Reason.{Blame, blame_of, no_blame, reason_text, status_number}
 
 -- the exit status is the status's number, and the reason stands on standard error, but for want of memory
 abbrev pub EndsWith : Status → Blame → ℕ → Device (List ℕ) → Device (List ℕ) → Type 0
@@ -33,9 +22,9 @@ pub record Execution : Type 0 where
   pub errors_after : Device (List ℕ)
   pub number : ℕ
 
--- there is a status that says it of these words, and the program ended with it; or the memory for the words was refused
+-- there is a report that says it of these words, and the program ended with its status; or the memory for the words was refused
 abbrev pub Executes : List (List ℕ) → Execution → Type 0
 Executes words e =
-    ((status : Status) × (book : Option Book) × (blame : Blame) × EndsWith status blame e.number e.errors e.errors_after
-    × Says status (record { words = words; files = e.files; files_after = e.files_after; outcome = record { sink = e.sink; sink_after = e.sink_after; book = book; blame = blame } }))
+    ((report : Report) × EndsWith report.status (blame_of report) e.number e.errors e.errors_after
+    × Says words (record { files = e.files; files_after = e.files_after; outcome = record { sink = e.sink; sink_after = e.sink_after; report = report } }))
     ⊎ (EndsWith NoMemory no_blame e.number e.errors e.errors_after × Rests e.sink e.sink_after × (e.files_after ≡ e.files.faults))

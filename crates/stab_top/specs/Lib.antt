@@ -1,7 +1,9 @@
+pub mod Device
 pub mod Reason
 pub mod Words
-pub mod Book
-pub mod Commit
 pub mod Loading
+pub mod Reading
+pub mod Ending
 pub mod Call
 pub mod Command
+pub mod Complete

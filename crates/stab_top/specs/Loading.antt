@@ -6,11 +6,7 @@ use Rattle.stab_top.specs.declared.report.Status.{Status}
 use Rattle.stab_top.specs.declared.report.Status.TheVariants.{NoFile, TooBig, FileFault, NoMemory}
 use Rattle.stab_top.specs.declared.report.Role.{Role}
 use Rattle.stab_top.specs.declared.report.Role.TheVariants.{Program, Probes, Trace, Script}
-
--- what files or a sink tell of their contents, and how many faults they had
-pub record Device (Contents : Type 0) : Type 0 where
-  pub told : Option Contents
-  pub faults : ℕ
+use Rattle.stab_top.specs.Device.{Device}
 
 -- how many bytes a file may have
 abbrev pub max_bytes : Role → ℕ

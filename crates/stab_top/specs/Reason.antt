@@ -1,7 +1,10 @@
 -- The numbers and names of statuses, and the line that tells a reason.
 use Rattle.std.specs.Prelude.{ℕ, List, [], ◌∷◌, ◌++◌, Option, Some, None, codes, decimal}
+use Rattle.stab_text.specs.declared.fault.TextFault.{TextFault}
+use Rattle.stab_text.specs.FaultText as text
 use Rattle.stab_words.specs.declared.request.WordFault.{WordFault}
-use Rattle.stab_words.specs.FaultText.{fault_name, fault_word}
+use Rattle.stab_words.specs.FaultText as words
+use Rattle.stab_top.specs.declared.report.Report.{Report}
 use Rattle.stab_top.specs.declared.report.Status.{Status}
 use Rattle.stab_top.specs.declared.report.Status.TheVariants.{Done, Held, BadWords, BadText, NoFile, TooBig, FileFault, SinkFault, Spent, NoMemory, BadProbes, BadTrace, BadScript, No, NotBuilt}
 use Rattle.stab_top.specs.declared.report.Role.{Role}
@@ -50,19 +53,26 @@ role_name Probes = codes "probes"
 role_name Trace = codes "trace"
 role_name Script = codes "script"
 
--- what a report blames beside its status: the fault of the words, the file
+-- what a report blames beside its status: the fault of the words, the file, the fault of the program's text
 pub record Blame : Type 0 where
   pub words : Option WordFault
   pub file : Option Role
+  pub text : Option TextFault
 
 abbrev pub no_blame : Blame
-no_blame = record { words = None; file = None }
+no_blame = record { words = None; file = None; text = None }
 
 abbrev pub blames_words : WordFault → Blame
-blames_words fault = record { words = Some fault; file = None }
+blames_words fault = record { words = Some fault; file = None; text = None }
 
 abbrev pub blames_file : Option Role → Blame
-blames_file file = record { words = None; file = file }
+blames_file file = record { words = None; file = file; text = None }
+
+abbrev pub blames_text : TextFault → Blame
+blames_text fault = record { words = None; file = None; text = Some fault }
+
+abbrev pub blame_of : Report → Blame
+blame_of report = record { words = report.words_fault; file = report.file; text = report.text_fault }
 
 -- a word of the line, behind a space
 abbrev pub role_word : Option Role → List ℕ
@@ -76,11 +86,17 @@ number_word (Some n) = 32 ∷ decimal n
 -- the fault's name, and the number of the word that it is about
 abbrev pub fault_words : Option WordFault → List ℕ
 fault_words None = []
-fault_words (Some fault) = 32 ∷ (fault_name fault ++ number_word (fault_word fault))
+fault_words (Some fault) = 32 ∷ (words.fault_name fault ++ number_word (words.fault_word fault))
+
+-- the fault's name, its place, and the length of the name that it is about
+abbrev pub text_words : Option TextFault → List ℕ
+text_words None = []
+text_words (Some fault) = 32 ∷ (text.fault_name fault ++ (number_word (text.fault_place fault) ++ number_word (text.fault_length fault)))
 
 -- the status, and what is blamed
 abbrev pub reason_line : Status → Blame → List ℕ
-reason_line status blame = codes "stab: " ++ (status_name status ++ (role_word blame.file ++ (fault_words blame.words ++ 10 ∷ [])))
+reason_line status blame =
+    codes "stab: " ++ (status_name status ++ (role_word blame.file ++ (fault_words blame.words ++ (text_words blame.text ++ 10 ∷ []))))
 
 -- nothing for Done, and else a line
 abbrev pub reason_text : Status → Blame → List ℕ

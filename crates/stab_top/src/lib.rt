@@ -1,23 +1,28 @@
 //! The one call that the program makes: from its words, its files and its sink to what it reports.
 #![tactic(auto)]
 
-mod book;
+mod checking;
+mod laws;
 mod loading;
 mod program;
+mod reading;
 mod reason_line;
 mod report;
-mod run;
 mod running;
 #[cfg(test)]
 mod tests;
+#[cfg(test)]
+mod text_tests;
 mod top;
+#[cfg(test)]
+mod trial;
 #[cfg(test)]
 mod word_tests;
 mod words;
 mod writing;
 
-pub use book::{Book, Commit};
+pub use laws::{bad_texts_are_refused, good_programs_check, good_programs_run};
 pub use program::command;
 pub use reason_line::reason;
 pub use report::{Gate, Report, Role, Status};
-pub use top::{good_programs_run, stab};
+pub use top::stab;

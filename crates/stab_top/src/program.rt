@@ -1,10 +1,12 @@
 //! The program, from its arguments to its exit status.
-ghost use Rattle.std.specs.Prelude.{◌≡◌, ◌≢◌, ◌⊎◌, None, drop, map as each, string_bytes, IfOk, IfErr};
+ghost use Rattle.std.specs.Prelude.{◌≡◌, ◌≢◌, ◌⊎◌, drop, map as each, string_bytes, IfOk, IfErr};
 ghost use Rattle.std.specs.IoError.{error_kind};
 ghost use Rattle.std.specs.Vec.Iter.{into_iter_items};
 ghost use Rattle.stab_top.specs.Call.{Says};
-ghost use Rattle.stab_top.specs.Command.{EndsWith, Executes, Rests, Writes};
-ghost use Rattle.stab_top.specs.Reason.{no_blame, reason_text, status_number};
+ghost use Rattle.stab_top.specs.Command.{EndsWith, Executes};
+ghost use Rattle.stab_top.specs.Device.{Rests, Writes};
+ghost use Rattle.stab_top.specs.Reading.{Blames};
+ghost use Rattle.stab_top.specs.Reason.{blame_of, no_blame, reason_text, status_number};
 ghost use Rattle.stab_top.specs.declared.report.Status.TheVariants.{BadWords, NoMemory as OutOfMemory};
 
 use crate::reason_line::reason;
@@ -67,22 +69,20 @@ fn called<R: Threads + Wait + Sync, F: Files, K: Sink>(
     files: &mut F,
     sink: &mut K,
 ) -> Report
-    ensures says { Says result.status (record {
-      words = each string_bytes (drop 1 (into_iter_items args));
+    ensures says { Says (each string_bytes (drop 1 (into_iter_items args))) (record {
       files = record { told = F.held files.old; faults = F.faults files.old };
       files_after = F.faults files.new;
       outcome = record {
         sink = record { told = K.told sink.old; faults = K.faults sink.old };
         sink_after = record { told = K.told sink.new; faults = K.faults sink.new };
-        book = result.book;
-        blame = record { words = result.words_fault; file = result.file };
+        report = result;
       };
-    }) ⊎ ((result.status ≡ OutOfMemory) × (record { words = result.words_fault; file = result.file } ≡ no_blame) × (K.told sink.new ≡ K.told sink.old) × (K.faults sink.new ≡ K.faults sink.old) × (F.faults files.new ≡ F.faults files.old)) }
+    }) ⊎ ((result.status ≡ OutOfMemory) × (blame_of result ≡ no_blame) × (K.told sink.new ≡ K.told sink.old) × (K.faults sink.new ≡ K.faults sink.old) × (F.faults files.new ≡ F.faults files.old)) }
     ensures kept { F.held files.new ≡ F.held files.old }
 {
     match words(alloc, args) {
         Ok(words) => stab(rt, alloc, &words, files, sink, &OpenGate),
-        Err(NoMemory) => Report::refusal(Status::NoMemory),
+        Err(NoMemory) => Report::bare(Status::NoMemory),
     }
 }
 
@@ -108,18 +108,17 @@ fn all(alloc: Global, mut args: Args) -> Result<Vec<String>, NoMemory>
 fn refused_words(error: &io::Error) -> Report
     ensures no_memory { error_kind error.now ≡ ErrorKind.OutOfMemory → result.status ≡ OutOfMemory }
     ensures no_text { error_kind error.now ≢ ErrorKind.OutOfMemory → result.status ≡ BadWords }
-    ensures book { result.book ≡ None }
-    ensures blame { record { words = result.words_fault; file = result.file } ≡ no_blame }
+    ensures blames { Blames result no_blame }
 {
     if error.kind() == ErrorKind::OutOfMemory {
-        Report::refusal(Status::NoMemory)
+        Report::bare(Status::NoMemory)
     } else {
-        Report::refusal(Status::BadWords)
+        Report::bare(Status::BadWords)
     }
 }
 
 fn reason_line(alloc: Global, report: &Report) -> Result<Vec<u8>, NoMemory>
-    ensures { IfOk result (λ line. line.items ≡ reason_text report.now.status (record { words = report.now.words_fault; file = report.now.file })) }
+    ensures { IfOk result (λ line. line.items ≡ reason_text report.now.status (blame_of report.now)) }
 {
     let mut line = Vec::new(alloc);
     reason(alloc, report, &mut line)?;
@@ -128,7 +127,7 @@ fn reason_line(alloc: Global, report: &Report) -> Result<Vec<u8>, NoMemory>
 
 /// Writes the reason, where there is memory for it, and gives the number of the status.
 fn finish<E: Sink>(alloc: Global, report: &Report, errors: &mut E) -> u8
-    ensures { EndsWith report.now.status (record { words = report.now.words_fault; file = report.now.file }) result (record { told = E.told errors.old; faults = E.faults errors.old })
+    ensures { EndsWith report.now.status (blame_of report.now) result (record { told = E.told errors.old; faults = E.faults errors.old })
         (record { told = E.told errors.new; faults = E.faults errors.new }) }
 {
     end(report, reason_line(alloc, report), errors)
@@ -137,10 +136,10 @@ fn finish<E: Sink>(alloc: Global, report: &Report, errors: &mut E) -> u8
 /// Writes the reason, where there was memory for it, and gives the number of the status. A reason that can't be written
 /// changes no status.
 fn end<E: Sink>(report: &Report, line: Result<Vec<u8>, NoMemory>, errors: &mut E) -> u8
-    requires { IfOk line (λ line. line.items ≡ reason_text report.now.status (record { words = report.now.words_fault; file = report.now.file })) }
+    requires { IfOk line (λ line. line.items ≡ reason_text report.now.status (blame_of report.now)) }
     ensures number { result ≡ status_number report.now.status }
     ensures written { IfOk line (λ _. Writes (record { told = E.told errors.old; faults = E.faults errors.old })
-        (record { told = E.told errors.new; faults = E.faults errors.new }) (reason_text report.now.status (record { words = report.now.words_fault; file = report.now.file }))) }
+        (record { told = E.told errors.new; faults = E.faults errors.new }) (reason_text report.now.status (blame_of report.now))) }
     ensures silent { IfErr line (λ _. Rests (record { told = E.told errors.old; faults = E.faults errors.old })
         (record { told = E.told errors.new; faults = E.faults errors.new })) }
 {

@@ -1,10 +1,12 @@
 //! What a call reports.
-ghost use Rattle.std.specs.Prelude.{◌≡◌, Some, None};
+ghost use Rattle.std.specs.Prelude.{◌≡◌, Some};
 ghost use Rattle.stab_top.specs.Loading.{max_bytes};
-ghost use Rattle.stab_top.specs.Reason.{blames_file, blames_words, no_blame, role_name, status_name, status_number};
-ghost use Rattle.stab_top.specs.declared.report.Status.TheVariants.{BadWords as BadWordsStatus};
+ghost use Rattle.stab_top.specs.Reading.{Blames};
+ghost use Rattle.stab_top.specs.Reason.{blame_of, blames_file, blames_text, blames_words, no_blame, role_name, status_name, status_number};
+ghost use Rattle.stab_top.specs.declared.report.Status.TheVariants.{BadText as BadTextStatus, BadWords as BadWordsStatus};
 
-use crate::book::Book;
+use plain_run::Book;
+use stab_text::TextFault;
 use stab_words::WordFault;
 
 /// How a call ended. Its number is the program's exit status.
@@ -16,7 +18,7 @@ pub enum Status {
     Held,
     /// The words name no command in its form.
     BadWords,
-    /// The program isn't in the grammar.
+    /// The file is no program.
     BadText,
     /// A file that the words name isn't there.
     NoFile,
@@ -115,6 +117,8 @@ pub struct Report {
     pub book: Option<Book>,
     /// Why the words were refused.
     pub words_fault: Option<WordFault>,
+    /// Why the program's file is no program.
+    pub text_fault: Option<TextFault>,
     /// The file that is missing, too big or couldn't be read.
     pub file: Option<Role>,
 }
@@ -124,50 +128,61 @@ impl Report {
     pub(crate) fn ending(status: Status, book: Book) -> Report
         ensures status { result.status ≡ status }
         ensures book { result.book ≡ Some book }
-        ensures blame { record { words = result.words_fault; file = result.file } ≡ no_blame }
+        ensures blame { blame_of result ≡ no_blame }
     {
         Report {
             status,
             book: Some(book),
             words_fault: None,
+            text_fault: None,
             file: None,
         }
     }
 
-    /// The report of a call that did nothing, where nothing is to blame.
-    pub(crate) fn refusal(status: Status) -> Report
+    /// The report of a call that leaves no book, where nothing is to blame.
+    pub(crate) fn bare(status: Status) -> Report
         ensures status { result.status ≡ status }
-        ensures book { result.book ≡ None }
-        ensures blame { record { words = result.words_fault; file = result.file } ≡ no_blame }
-    {
-        Report::bad_file(status, None)
-    }
-
-    /// The report of a file that was refused.
-    pub(crate) fn bad_file(status: Status, file: Option<Role>) -> Report
-        ensures status { result.status ≡ status }
-        ensures book { result.book ≡ None }
-        ensures blame { record { words = result.words_fault; file = result.file } ≡ blames_file file }
+        ensures blames { Blames result no_blame }
     {
         Report {
             status,
             book: None,
             words_fault: None,
+            text_fault: None,
+            file: None,
+        }
+    }
+
+    /// The report of a file that was refused.
+    pub(crate) fn bad_file(status: Status, file: Option<Role>) -> Report
+        ensures status { result.status ≡ status }
+        ensures blames { Blames result (blames_file file) }
+    {
+        Report {
             file,
+            ..Report::bare(status)
         }
     }
 
     /// The report of words that have a fault.
     pub(crate) fn bad_words(fault: WordFault) -> Report
         ensures status { result.status ≡ BadWordsStatus }
-        ensures book { result.book ≡ None }
-        ensures blame { record { words = result.words_fault; file = result.file } ≡ blames_words fault }
+        ensures blames { Blames result (blames_words fault) }
     {
         Report {
-            status: Status::BadWords,
-            book: None,
             words_fault: Some(fault),
-            file: None,
+            ..Report::bare(Status::BadWords)
+        }
+    }
+
+    /// The report of a file that is no program.
+    pub(crate) fn bad_text(fault: TextFault) -> Report
+        ensures status { result.status ≡ BadTextStatus }
+        ensures blames { Blames result (blames_text fault) }
+    {
+        Report {
+            text_fault: Some(fault),
+            ..Report::bare(Status::BadText)
         }
     }
 }

@@ -1,29 +1,22 @@
 //! The one call that the program makes.
-ghost use Rattle.std.specs.Prelude.{◌≡◌, ◌≤◌, ◌⊎◌, ℕ, List, length, map as each, string_bytes, Some, Ok, true};
-ghost use Rattle.stab_files.specs.Entry.{contents_of, Entry};
-ghost use Rattle.stab_words.specs.Asked.{asked};
+ghost use Rattle.std.specs.Prelude.{◌≡◌, map as each, string_bytes};
 ghost use Rattle.stab_words.specs.Within.{IsRunWithin, IsWithin};
-ghost use Rattle.stab_words.specs.declared.request.Request.TheVariants.{Run};
-ghost use Rattle.stab_words.specs.declared.request.RunArgs.{RunArgs as Args};
-ghost use Rattle.sum_reader.specs.Program.{Body, IsProgram};
-ghost use Rattle.stab_top.specs.Call.{Call, CountedFault, Ran, RequestSays, RunSays, Says};
-ghost use Rattle.stab_top.specs.Loading.{max_bytes};
+ghost use Rattle.stab_top.specs.Call.{CheckSays, RequestSays, RunSays, Says};
 ghost use Rattle.stab_top.specs.Words.{is_built};
-ghost use Rattle.stab_top.specs.declared.report.Status.{Status};
-ghost use Rattle.stab_top.specs.declared.report.Role.TheVariants.{Program as ProgramFile};
 
-use crate::loading::{blame, load};
-use crate::report::{Gate, Report, Role, Status};
-use crate::running::run_text;
+use crate::checking::check_program;
+use crate::reading::read_file;
+use crate::report::{Gate, Report, Status};
+use crate::running::run_program;
 use crate::words::is_built;
 use stab_files::{Files, Sink};
-use stab_words::{Request, RunArgs, WordFault, read_words};
+use stab_words::{Name, Request, RunArgs, WordFault, read_words};
 use std::alloc::Global;
 use std::sync::Wait;
 use std::thread::Threads;
 
-/// Does what the words ask for, and reports how it ended. `run FILE` runs the program of the file and writes what it shows.
-/// One worker runs on the calling thread, and calls no gate.
+/// Does what the words ask for, and reports how it ended. `run FILE` runs the program of the file and writes what it shows;
+/// `check FILE` writes how many functions and texts it has. One worker runs on the calling thread, and calls no gate.
 pub fn stab<R: Threads + Wait + Sync, F: Files, K: Sink, G: Gate + Sync>(
     rt: &R,
     alloc: Global,
@@ -32,15 +25,13 @@ pub fn stab<R: Threads + Wait + Sync, F: Files, K: Sink, G: Gate + Sync>(
     sink: &mut K,
     gate: &G,
 ) -> Report
-    ensures says { Says result.status (record {
-      words = each string_bytes words.now;
+    ensures says { Says (each string_bytes words.now) (record {
       files = record { told = F.held files.old; faults = F.faults files.old };
       files_after = F.faults files.new;
       outcome = record {
         sink = record { told = K.told sink.old; faults = K.faults sink.old };
         sink_after = record { told = K.told sink.new; faults = K.faults sink.new };
-        book = result.book;
-        blame = record { words = result.words_fault; file = result.file };
+        report = result;
       };
     }) }
     ensures kept { F.held files.new ≡ F.held files.old }
@@ -50,22 +41,20 @@ pub fn stab<R: Threads + Wait + Sync, F: Files, K: Sink, G: Gate + Sync>(
 
 // The answer, for which nothing waits.
 fn answer<F: Files, K: Sink>(alloc: Global, words: &[String], files: &mut F, sink: &mut K) -> Report
-    ensures says { Says result.status (record {
-      words = each string_bytes words.now;
+    ensures says { Says (each string_bytes words.now) (record {
       files = record { told = F.held files.old; faults = F.faults files.old };
       files_after = F.faults files.new;
       outcome = record {
         sink = record { told = K.told sink.old; faults = K.faults sink.old };
         sink_after = record { told = K.told sink.new; faults = K.faults sink.new };
-        book = result.book;
-        blame = record { words = result.words_fault; file = result.file };
+        report = result;
       };
     }) }
     ensures kept { F.held files.new ≡ F.held files.old }
 {
     match read_words(alloc, words) {
         Ok(request) => answer_request(alloc, &request, files, sink),
-        Err(WordFault::NoMemory) => Report::refusal(Status::NoMemory),
+        Err(WordFault::NoMemory) => Report::bare(Status::NoMemory),
         Err(fault) => Report::bad_words(fault),
     }
 }
@@ -78,24 +67,23 @@ fn answer_request<F: Files, K: Sink>(
     sink: &mut K,
 ) -> Report
     requires { IsWithin request.now }
-    ensures says { (words : List (List ℕ)) → RequestSays (is_built request.now) result.status (record {
-      words = words;
+    ensures says { RequestSays (is_built request.now) (record {
       files = record { told = F.held files.old; faults = F.faults files.old };
       files_after = F.faults files.new;
       outcome = record {
         sink = record { told = K.told sink.old; faults = K.faults sink.old };
         sink_after = record { told = K.told sink.new; faults = K.faults sink.new };
-        book = result.book;
-        blame = record { words = result.words_fault; file = result.file };
+        report = result;
       };
     }) request.now }
     ensures kept { F.held files.new ≡ F.held files.old }
 {
     if !is_built(request) {
-        return Report::refusal(Status::NotBuilt);
+        return Report::bare(Status::NotBuilt);
     }
     match request {
         Request::Run(args) => run_file(alloc, args, files, sink),
+        Request::Check(file) => check_file(alloc, file, files, sink),
         _ => unreachable!(),
     }
 }
@@ -103,30 +91,38 @@ fn answer_request<F: Files, K: Sink>(
 // Runs the program of a file, and writes what it shows.
 fn run_file<F: Files, K: Sink>(alloc: Global, args: &RunArgs, files: &mut F, sink: &mut K) -> Report
     requires { IsRunWithin args.now.workers args.now.fuel args.now.quantum }
-    ensures says { (words : List (List ℕ)) → RunSays result.status (record {
-      words = words;
+    ensures says { RunSays (record {
       files = record { told = F.held files.old; faults = F.faults files.old };
       files_after = F.faults files.new;
       outcome = record {
         sink = record { told = K.told sink.old; faults = K.faults sink.old };
         sink_after = record { told = K.told sink.new; faults = K.faults sink.new };
-        book = result.book;
-        blame = record { words = result.words_fault; file = result.file };
+        report = result;
       };
     }) args.now }
     ensures kept { F.held files.new ≡ F.held files.old }
 {
-    match load(alloc, files, Role::Program, args.file.as_str()) {
-        Ok(bytes) => run_text(alloc, args, &bytes, sink),
-        Err(status) => Report::bad_file(status, blame(status, Role::Program)),
+    match read_file(alloc, files, args.file.as_str()) {
+        Ok(program) => run_program(alloc, args, program, sink),
+        Err(report) => report,
     }
 }
 
-/// What the statuses say leaves no way round a good program: where the words ask for a run that is built, and the files tell
-/// that a text of the fragment is held within the limit under its name, the run came to its end, or memory was refused, or a
-/// fault was counted.
-pub fn good_programs_run()
-    ensures { (status : Status) (c : Call) (files : List Entry) (args : Args) (bytes : List ℕ) (program : Body) → Says status c →
-        asked c.words ≡ Ok (Run args) → is_built (Run args) ≡ true → c.files.told ≡ Some files → contents_of files args.file ≡ Some bytes →
-        length bytes ≤ max_bytes ProgramFile → IsProgram bytes program → Ran status ⊎ CountedFault c }
-{}
+// Reads the program of a file, and writes how many functions and texts it has.
+fn check_file<F: Files, K: Sink>(alloc: Global, file: &Name, files: &mut F, sink: &mut K) -> Report
+    ensures says { CheckSays (record {
+      files = record { told = F.held files.old; faults = F.faults files.old };
+      files_after = F.faults files.new;
+      outcome = record {
+        sink = record { told = K.told sink.old; faults = K.faults sink.old };
+        sink_after = record { told = K.told sink.new; faults = K.faults sink.new };
+        report = result;
+      };
+    }) file.now }
+    ensures kept { F.held files.new ≡ F.held files.old }
+{
+    match read_file(alloc, files, file.as_str()) {
+        Ok(program) => check_program(alloc, &program, sink),
+        Err(report) => report,
+    }
+}

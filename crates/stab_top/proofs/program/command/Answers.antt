@@ -18,4 +18,4 @@ returns-in-Ok-clause-executes g c =
       errors_after = record { told = g.E.Sink.told c.finish.new.errors; faults = g.E.Sink.faults c.finish.new.errors };
       number = c.finish.result;
     })
-    report.status report.book (record { words = report.words_fault; file = report.file }) c.finish.ensures c.called-report.ensures.says)
+    report c.finish.ensures c.called-report.ensures.says)

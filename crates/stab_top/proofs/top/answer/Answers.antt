@@ -6,18 +6,11 @@ pub returns-in-Err-NoMemory-clause-says : goal.returns-in-Err-NoMemory-clause-sa
 returns-in-Err-NoMemory-clause-says g c =
     let told = g.K.Sink.told c.args.sink.now in
     let faults = g.K.Sink.faults c.args.sink.now in
-    let report = c.refusal.result in
-    no_memory_call report.status
+    no_memory_call (each string_bytes c.args.words.now)
     (record {
-      words = each string_bytes c.args.words.now;
       files = record { told = g.F.Files.held c.args.files.now; faults = g.F.Files.faults c.args.files.now };
       files_after = g.F.Files.faults c.args.files.now;
-      outcome = record {
-        sink = record { told = told; faults = faults };
-        sink_after = record { told = told; faults = faults };
-        book = report.book;
-        blame = record { words = report.words_fault; file = report.file };
-      };
+      outcome = record { sink = record { told = told; faults = faults }; sink_after = record { told = told; faults = faults }; report = c.bare.result };
     })
-    c.refusal.ensures.status
-    (record { refuses = record { no_book = c.refusal.ensures.book; blame = c.refusal.ensures.blame; told = refl; no_fault = refl }; no_fault = refl })
+    c.bare.ensures.status
+    (record { refuses = (c.bare.ensures.blames, (refl, refl)); no_fault = refl })

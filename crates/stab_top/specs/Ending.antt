@@ -1,0 +1,81 @@
+-- What a call says of the end of what it does with a program.
+use Rattle.std.specs.Prelude.{◌≡◌, ℕ, List, [], ◌∷◌, ◌++◌, Some, codes, decimal, length}
+use Rattle.plain_language.specs.Plain.{PlainState, language_of}
+use Rattle.plain_language.specs.Quiet.{IsQuiet}
+use Rattle.plain_language.specs.Shown.{shown}
+use Rattle.plain_run.specs.Book.{AllDone, Book, ByOneWorker, IsOver, IsShown, IsSpent, SomeFaulted}
+use Rattle.plain_run.specs.Sequential.{IsSequential}
+use Rattle.stab_code.specs.JobParts.{job_of}
+use Rattle.stab_code.specs.Program.{ProgramParts}
+use Rattle.stab_words.specs.declared.request.RunArgs.{RunArgs}
+use Rattle.stab_top.specs.declared.report.Report.{Report}
+use Rattle.stab_top.specs.declared.report.Status.{Status}
+use Rattle.stab_top.specs.declared.report.Status.TheVariants.{Done, Held, SinkFault, Spent, NoMemory, NotBuilt}
+use Rattle.stab_top.specs.Device.{Device, Gains, GainsPrefix, Rests}
+use Rattle.stab_top.specs.Reading.{Blames}
+use Rattle.stab_top.specs.Reason.{Blame, blame_of, no_blame}
+
+-- what came of a call: the sink before and after it, and what is reported
+pub record Outcome : Type 0 where
+  pub sink : Device (List ℕ)
+  pub sink_after : Device (List ℕ)
+  pub report : Report
+
+-- no book, this to blame, and the sink as it was
+abbrev pub Refuses : Outcome → Blame → Type 0
+Refuses o cause = Blames o.report cause × Rests o.sink o.sink_after
+
+-- ---- a run
+
+-- The job is that of the program with the fuel and the quantum of the words, and an empty script; the program's only act is
+-- `print`. The history stands for a run of the program from the start state that ends in this state. Worker 1 made it all.
+pub record IsRunOf (args : RunArgs) (program : ProgramParts) (book : Book) (state : PlainState) : Type 0 where
+  pub job : book.job ≡ job_of program [] args.fuel args.quantum
+  pub sequential : IsSequential program
+  pub shown : IsShown program book.history state
+  pub by_one : ByOneWorker book.history.events
+
+-- what the run shows that ends in the state
+abbrev pub shown_by : Book → PlainState → List ℕ
+shown_by book state = shown book.job.program state
+
+-- no thread can step
+abbrev pub Rested : Book → PlainState → Type 0
+Rested book state = IsQuiet (language_of book.job.program) state
+
+-- what the status says of the end of a run and of the sink
+abbrev pub EndSays : Status → Book → PlainState → Outcome → Type 0
+EndSays Done book state o = Rested book state × AllDone book.job.program state × Gains o.sink o.sink_after (shown_by book state)
+EndSays Held book state o = Rested book state × SomeFaulted book.job.program state × Gains o.sink o.sink_after (shown_by book state)
+EndSays Spent book state o = IsSpent book state × Gains o.sink o.sink_after (shown_by book state)
+EndSays SinkFault book state o = IsOver book state × GainsPrefix o.sink o.sink_after (shown_by book state)
+EndSays _ book state o = ⊥
+
+-- the report has the book of such a run, and nothing to blame, and the status says how it ended
+pub record Ends (status : Status) (args : RunArgs) (program : ProgramParts) (o : Outcome) : Type 0 where
+  pub book : Book
+  pub state : PlainState
+  pub reported : o.report.book ≡ Some book
+  pub blame : blame_of o.report ≡ no_blame
+  pub run : IsRunOf args program book state
+  pub end : EndSays status book state o
+
+-- What each status says of a program that was to be run. Want of memory is free.
+abbrev pub RunEnds : Status → RunArgs → ProgramParts → Outcome → Type 0
+RunEnds NotBuilt args program o = ¬ (IsSequential program) × Refuses o no_blame
+RunEnds NoMemory args program o = Refuses o no_blame
+RunEnds status args program o = Ends status args program o
+
+-- ---- a check
+
+-- the line that tells of a program that was read
+abbrev pub checked_line : ProgramParts → List ℕ
+checked_line program =
+    codes "ok functions " ++ (decimal (length program.functions) ++ (codes " texts " ++ (decimal (length program.texts) ++ 10 ∷ [])))
+
+-- What each status says of a program that was to be checked. Want of memory is free, and no other status comes.
+abbrev pub CheckEnds : Status → ProgramParts → Outcome → Type 0
+CheckEnds Done program o = Blames o.report no_blame × Gains o.sink o.sink_after (checked_line program)
+CheckEnds SinkFault program o = Blames o.report no_blame × GainsPrefix o.sink o.sink_after (checked_line program)
+CheckEnds NoMemory program o = Refuses o no_blame
+CheckEnds _ program o = ⊥

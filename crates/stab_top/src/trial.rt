@@ -1,0 +1,126 @@
+//! Calls over files and a sink in memory, which tests make.
+
+use crate::reason_line::reason;
+use crate::report::{Gate, Report};
+use crate::top::stab;
+use stab_base::Seq;
+use stab_files::{MemFiles, MemSink};
+use stab_journal::What;
+use std::alloc::Global;
+use std::sync::Wait;
+use std::sync::atomic::{AtomicU32, Ordering};
+use std::test::Fail;
+use std::thread::Threads;
+
+/// A gate that counts its calls.
+#[derive(Drop)]
+struct Counting {
+    calls: AtomicU32,
+}
+
+impl Gate for Counting {
+    fn before_commit(&self, _worker: u32) {
+        let _before = self.calls.fetch_add(1, Ordering::SeqCst);
+    }
+}
+
+/// What a call reports and writes.
+#[derive(Drop)]
+pub struct Trial {
+    pub report: Report,
+    pub written: Vec<u8>,
+    pub gate_calls: u32,
+}
+
+impl Trial {
+    /// A call with the words of a line, over files that hold the text under the name `p`, with the numbers of the loads and
+    /// the puts that are to fail.
+    pub fn new<R: Threads + Wait + Sync>(
+        rt: &R,
+        alloc: Global,
+        line: &str,
+        text: &[u8],
+        fails: [&[u64]; 2],
+    ) -> Result<Trial, Fail> {
+        let file = (String::from_str(alloc, "p")?, text.to_vec(alloc)?);
+        let mut files = MemFiles::new(vec![in alloc; file]?, fails[0].to_vec(alloc)?);
+        let mut sink = MemSink::new(alloc, 1_048_576, fails[1].to_vec(alloc)?)?;
+        let gate = Counting {
+            calls: AtomicU32::new(0),
+        };
+        let words = words(alloc, line)?;
+        let report = stab(rt, alloc, &words, &mut files, &mut sink, &gate);
+        Ok(Trial {
+            report,
+            written: sink.bytes().to_vec(alloc)?,
+            gate_calls: gate.calls.load(Ordering::SeqCst),
+        })
+    }
+
+    /// The exit status, and behind a space what was written and the reason, with `/` for each line feed.
+    pub fn answer(&self, alloc: Global) -> Result<String, Fail> {
+        let mut text = self.written.as_slice().to_vec(alloc)?;
+        reason(alloc, &self.report, &mut text).map_err(|_| Fail::from("no memory"))?;
+        let number = self.report.status.number();
+        let text = String::from_utf8(text).map_err(|_| Fail::from("no text"))?;
+        let line = text.replace(alloc, "\n", "/")?;
+        Ok(format!(in alloc; "{number} {line}")?)
+    }
+
+    /// The steps of the run, undone ones too.
+    pub fn events(&self, alloc: Global) -> Result<Vec<What>, Fail> {
+        let mut events = Vec::new(alloc);
+        if let Some(book) = &self.report.book {
+            for number in 1..=book.history().len() {
+                events.push(book.history().get(Seq(number)).ok_or("no event")?.what)?;
+            }
+        }
+        Ok(events)
+    }
+}
+
+// The words of a line, none where it is empty.
+fn words(alloc: Global, line: &str) -> Result<Vec<String>, Fail> {
+    let mut words = Vec::new(alloc);
+    if line.is_empty() {
+        return Ok(words);
+    }
+    for word in line.split(' ') {
+        words.push(String::from_str(alloc, word)?)?;
+    }
+    Ok(words)
+}
+
+/// The text so many times, between two others.
+pub fn repeated(
+    alloc: Global,
+    front: &[u8],
+    piece: &[u8],
+    count: u32,
+    end: &[u8],
+) -> Result<Vec<u8>, Fail> {
+    let mut text = front.to_vec(alloc)?;
+    for _ in 0..count {
+        text.extend_from_slice(piece)?;
+    }
+    text.extend_from_slice(end)?;
+    Ok(text)
+}
+
+/// Each row of the table is a program, then ` -> ` and what `run` of it answers.
+pub fn runs<R: Threads + Wait + Sync>(rt: &R, alloc: Global, table: &str) -> Result<(), Fail> {
+    for row in table.lines() {
+        let (program, expected) = row.split_once(" -> ").ok_or("no arrow")?;
+        let trial = Trial::new(rt, alloc, "run p", program.as_bytes(), [&[], &[]])?;
+        is_answer(alloc, row, &trial.answer(alloc)?, expected)?;
+    }
+    Ok(())
+}
+
+/// The answer of a row is the expected one.
+pub fn is_answer(alloc: Global, row: &str, answer: &String, expected: &str) -> Result<(), Fail> {
+    if answer.as_str() == expected {
+        return Ok(());
+    }
+    Err(Fail::from(format!(in alloc; "{row}, and not {answer}")?))
+}
