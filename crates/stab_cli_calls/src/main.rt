@@ -13,8 +13,10 @@ fn main(rt: HostRuntime) -> io::Result<()> {
         "run sum.stab",
         "run overflow.stab",
         "run sum.stab --speed 3",
+        "run names.stab",
         "run nowhere.stab",
         "run prints.stab --fuel 1",
+        "check prints.stab",
         "types sum.stab",
     ] {
         let mut files = DiskFiles::new(&rt);
