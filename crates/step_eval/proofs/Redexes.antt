@@ -1,0 +1,127 @@
+-- The redex of a control whose redex is found is what it looks at, within its frames.
+use Rattle.std.proofs.Common.{◌≡◌, ℕ, zero, suc, ◌+◌, ◌<◌, ◌≤◌, Bool, true, false, List, [], ◌∷◌, ◌++◌, map, length, drop, slice_get, Option, Some, None, option_map, refl, ap, sym, ◌∙◌, arith, append-nil, append_assoc, cond, subst}
+use Rattle.stab_base.specs.Datum.{Datum}
+use Rattle.stab_base.specs.declared.numbers.Seq.{Seq}
+use Rattle.stab_code.specs.declared.head.Head as code
+use Rattle.stab_code.specs.declared.head.Head.TheVariants.{Block, If, Two}
+use Rattle.stab_code.specs.declared.head.Op.TheVariants.{Or, And}
+use Rattle.stab_code.specs.Heads.{strict_parts}
+use Rattle.stab_code.specs.Program.{ProgramParts, trees_at}
+use Rattle.plain_language.specs.declared.head.Head.{Head}
+use Rattle.plain_language.specs.Expression.{Parts, none, put_parts}
+use Rattle.plain_language.specs.Frames.{AreFrames}
+use Rattle.plain_language.specs.Program.{exprs_of}
+use Rattle.plain_language.specs.Redex.{Frame, Redex, after_values, first_counts_alone, frames_of, innermost, mark, redex, redex_in, section_or}
+use Rattle.plain_language.proofs.Unique.{redex-within}
+use Rattle.step_eval.specs.declared.machine.Focus.{Focus}
+use Rattle.step_eval.specs.declared.machine.Focus.TheVariants as focus
+use Rattle.step_eval.specs.declared.machine.Machine.{Machine}
+use Rattle.step_eval.specs.declared.site.Site.{Site}
+use Rattle.step_eval.specs.declared.site.Site.TheVariants.{Form, Section}
+use Rattle.step_eval.specs.ControlView.{ControlView, Fits, RedexIsFound, focus_expr, focus_view, view_of, expr_of as expr_in}
+use Rattle.step_eval.specs.Fits.{FramesFit, IsMarkAt, outside}
+use Rattle.step_eval.specs.FrameView.{FrameView}
+use Rattle.step_eval.specs.Meaning.{form_at, frame_at, head_at, head_of, left_of, node_at, rest_of, strict_at, waiting_at, within_forms}
+use Rattle.step_eval.specs.Ready.{IsSettled}
+use Rattle.step_eval.specs.View.{here_of, round_of}
+
+empty : {A : Type 0} (xs : List A) → length xs < 1 → xs ≡ []
+empty [] h = refl
+empty (x ∷ xs) h = absurd (omega arith)
+
+dropped : {A : Type 0} (xs : List A) (k : ℕ) → length xs ≤ k → drop k xs ≡ []
+dropped [] zero h = refl
+dropped [] (suc k) h = refl
+dropped (x ∷ xs) zero h = absurd (omega arith)
+dropped (x ∷ xs) (suc k) h = dropped xs k (omega arith)
+
+-- where the first part counts alone, one counts; else all do
+alone_head : (h : code.Head) (from parts : ℕ) → first_counts_alone (head_of (left_of from h)) ≡ true → strict_parts h parts ≡ 1
+alone_head (Block slots) from parts e = refl
+alone_head If from parts e = refl
+alone_head (Two Or) from parts e = refl
+alone_head (Two And) from parts e = refl
+alone_head _ from parts e = cc
+
+all_head : (h : code.Head) (from parts : ℕ) → first_counts_alone (head_of (left_of from h)) ≡ false → strict_parts h parts ≡ parts
+all_head (Block slots) from parts e = cc
+all_head If from parts e = cc
+all_head (Two Or) from parts e = cc
+all_head (Two And) from parts e = cc
+all_head _ from parts e = refl
+
+module _ (p : ProgramParts) where
+  alone : (s : Site) → first_counts_alone (head_at p s) ≡ true → strict_at p s ≡ 1
+  alone (Form n from) e = alone_head (node_at p n).head from (length (node_at p n).parts) e
+  alone (Section m outer) e = refl
+
+  rest-none : (s : Site) (k : ℕ) → first_counts_alone (head_at p s) ≡ false → k ≡ strict_at p s → waiting_at p s k ≡ none
+  rest-none (Section m outer) k e is = refl
+  rest-none (Form n from) k e is =
+      let all : strict_parts (node_at p n).head (length (node_at p n).parts) ≡ length (node_at p n).parts = all_head (node_at p n).head from (length (node_at p n).parts) e in
+      ap (λ ns. exprs_of (trees_at p ns)) (dropped (node_at p n).parts (from + k) (omega arith))
+
+  -- frames that fit are frames of a redex
+  pub frames : (mk : Option Seq) (fs : List FrameView) → FramesFit p mk fs → AreFrames (map (frame_at p) fs)
+  frames mk [] fit = tt
+  frames mk (f ∷ fs) fit =
+      (λ e. empty f.done (let one : strict_at p f.site ≡ 1 = alone f.site e in let few : length f.done < strict_at p f.site = fit.0.waits in omega arith), frames (outside mk f.site) fs fit.2)
+
+  passed : (b : Bool) (x y : Option Redex) → b ≡ false → cond b x y ≡ y
+  passed true x y e = cc
+  passed false x y e = refl
+
+  past : (h : Head) (vs left : List Datum) (ps : Parts) (round : List Frame) → first_counts_alone h ≡ false → redex_in (after_values vs ps) h left round ≡ redex_in ps h (left ++ vs) round
+  past h [] left ps round e = ap (λ l. redex_in ps h l round) (sym (append-nil left))
+  past h (v ∷ vs) left ps round e = passed (first_counts_alone h) _ _ e ∙ past h vs (left ++ v ∷ []) ps round e ∙ ap (λ l. redex_in ps h l round) (append_assoc left (v ∷ []) vs)
+
+  found : (h : Head) (vs : List Datum) (ps : Parts) (round : List Frame) (b : Bool) → first_counts_alone h ≡ b → (b ≡ true → length vs ≡ 1) → (b ≡ false → ps ≡ none) → redex_in (after_values vs ps) h [] round ≡ Some (record { round = round; head = h; values = vs; waiting = ps })
+  found h [] ps round true e one bare = let n : length {A = Datum} [] ≡ 1 = one refl in absurd (omega (arith, n))
+  found h (v ∷ []) ps round true e one bare = rw e refl
+  found h (v ∷ w ∷ vs) ps round true e one bare = let n : length (v ∷ w ∷ vs) ≡ 1 = one refl in absurd (omega (arith, n))
+  found h vs ps round false e one bare =
+      past h vs [] ps round e ∙ ap (λ qs. redex_in qs h vs round) (bare refl) ∙ ap (λ qs. Some (record { round = round; head = h; values = vs; waiting = qs })) (sym (bare refl))
+
+  -- the redex of a settled form is that form
+  pub redex-settled : (mk : Option Seq) (fs : List FrameView) (h : FrameView) → FramesFit p mk fs → IsSettled p h →
+      redex (within_forms p fs (form_at p h)) ≡ Some (record { round = map (frame_at p) fs; head = head_at p h.site; values = h.done; waiting = rest_of p h })
+  redex-settled mk fs h fit settled =
+      redex-within (map (frame_at p) fs) (form_at p h) [] (frames mk fs fit) tt
+      ∙ ap (λ round. redex_in (after_values h.done (rest_of p h)) (head_at p h.site) [] round) (append-nil (map (frame_at p) fs))
+      ∙ found (head_at p h.site) h.done (rest_of p h) (map (frame_at p) fs) (first_counts_alone (head_at p h.site)) refl
+      (λ e. settled.all ∙ alone h.site e)
+      (λ e. ap (put_parts (slice_get h.env)) (rest-none h.site (length h.done) e settled.all))
+
+  no_section : (h : code.Head) (from : ℕ) (outer : Option ℕ) → section_or (head_of (left_of from h)) outer ≡ outer
+  no_section (Block slots) from outer = refl
+  no_section _ from outer = refl
+
+  by_site : (s : Site) (mk : Option Seq) (o : Option ℕ) → IsMarkAt mk s → o ≡ option_map (λ m. m.0) (outside mk s) → section_or (head_at p s) o ≡ option_map (λ m. m.0) mk
+  by_site (Form n from) mk o at is = no_section (node_at p n).head from o ∙ is
+  by_site (Section m outer) mk o at is = ap (option_map (λ q. q.0)) (sym at)
+
+  -- the mark is the number of the innermost section among the frames
+  pub innermost_is : (mk : Option Seq) (fs : List FrameView) → FramesFit p mk fs → innermost (map (frame_at p) fs) ≡ option_map (λ m. m.0) mk
+  innermost_is mk [] fit = ap (option_map (λ m. m.0)) (sym fit)
+  innermost_is mk (f ∷ fs) fit = by_site f.site mk (innermost (map (frame_at p) fs)) fit.1 (innermost_is (outside mk f.site) fs fit.2)
+
+  mark_within : (mk : Option Seq) (fs : List FrameView) (h : FrameView) → FramesFit p mk fs → IsSettled p h → option_map (λ m. m.0) mk ≡ mark (within_forms p fs (form_at p h))
+  mark_within mk fs h fit settled = sym (ap (λ o. innermost (frames_of o)) (redex-settled mk fs h fit settled) ∙ innermost_is mk fs fit)
+
+  none_left : (mk : Option Seq) (round : List FrameView) → FramesFit p mk round → round ≡ [] → mk ≡ None
+  none_left mk [] fit is = fit
+  none_left mk (f ∷ fs) fit is = cc
+
+  mark_by : (f : Focus) (h : FrameView) (round : List FrameView) (mk : Option Seq) → Fits p (record { focus = focus_view f h; round = round; mark = mk }) → RedexIsFound p (record { focus = focus_view f h; round = round; mark = mk }) → option_map (λ m. m.0) mk ≡ mark (within_forms p round (focus_expr p (focus_view f h)))
+  mark_by (focus.Begun n) h round mk fits is = elim is [ ]
+  mark_by focus.Form h round mk fits is = mark_within mk round h fits.frames fits.focus
+  mark_by (focus.Act a) h round mk fits is = mark_within mk round h fits.frames fits.focus.0
+  mark_by (focus.Value v) h round mk fits is = ap (option_map (λ m. m.0)) (none_left mk round fits.frames is) ∙ sym (ap (λ fs. mark (within_forms p fs (focus_expr p (focus_view (focus.Value v) h)))) is)
+  mark_by (focus.Fault k) h round mk fits is = ap (option_map (λ m. m.0)) (none_left mk round fits.frames fits.focus) ∙ sym (ap (λ fs. mark (within_forms p fs (focus_expr p (focus_view (focus.Fault k) h)))) fits.focus)
+
+  -- the mark of a control is that of its expression
+  pub mark_is : (v : ControlView) (m : Machine) → v ≡ view_of m → Fits p v → RedexIsFound p v → option_map (λ q. q.0) m.mark ≡ mark (expr_in p v)
+  mark_is v m is fits found =
+      let P : ControlView → Type 0 = λ (x : ControlView). Fits p x in
+      let Q : ControlView → Type 0 = λ (x : ControlView). RedexIsFound p x in
+      mark_by m.focus (here_of m) (round_of m) m.mark (subst P is fits) (subst Q is found) ∙ sym (ap (λ (x : ControlView). mark (expr_in p x)) is)

@@ -1,0 +1,36 @@
+-- Acts with their operands.
+use Rattle.std.specs.Prelude.{ℕ, List, [], ◌∷◌}
+use Rattle.stab_base.specs.Datum.{Datum, unit}
+use Rattle.step_eval.specs.declared.act.Act.{Act}
+use Rattle.step_eval.specs.declared.act.Act.TheVariants.{Spawn, NewChan, NewRef, Get, Set, Send, Recv, Pick, Enter, Stabilize, Cut, Pin, Print, Probe, Attempt}
+use Rattle.plain_language.specs.Expression.{Expr}
+use Rattle.plain_language.specs.Outcome.{called}
+use Rattle.plain_language.specs.Table as table
+use Rattle.plain_language.specs.Table.{spawns, makes_chan, makes_ref, gets, sets, sends, receives, picks, enters, stabilizes, cuts, pins, prints, probes, attempts}
+
+-- the first operand and the second
+abbrev pub first_of : List Datum → Datum
+first_of [] = unit
+first_of (v ∷ vs) = v
+
+abbrev pub second_of : List Datum → Datum
+second_of [] = unit
+second_of (v ∷ vs) = first_of vs
+
+-- the act with these operands, where functions have these bodies
+abbrev pub act_of : (ℕ → Expr) → List Datum → Act → table.Act Expr
+act_of body vs (Spawn f) = spawns (called body f.0 vs)
+act_of body vs NewChan = makes_chan
+act_of body vs NewRef = makes_ref (first_of vs)
+act_of body vs (Get r) = gets r.0
+act_of body vs (Set r) = sets r.0 (second_of vs)
+act_of body vs (Send c) = sends c.0 (second_of vs)
+act_of body vs (Recv c) = receives c.0
+act_of body vs (Pick c d) = picks c.0 d.0
+act_of body vs (Enter f) = enters (called body f.0 vs)
+act_of body vs Stabilize = stabilizes
+act_of body vs Cut = cuts
+act_of body vs Pin = pins
+act_of body vs Print = prints (first_of vs)
+act_of body vs Probe = probes
+act_of body vs Attempt = attempts

@@ -1,0 +1,11 @@
+pub mod Acts
+pub mod ControlView
+pub mod Entries
+pub mod Fits
+pub mod FrameView
+pub mod Meaning
+pub mod Ready
+pub mod Rests
+pub mod Scoped
+pub mod Turns
+pub mod View

@@ -1,0 +1,135 @@
+//! Controls.
+ghost use Rattle.std.specs.Prelude.{◌≡◌, ◌↔◌, ◌≤◌, ◌+◌, length, option_map, IfOk, IfErr, IsTrue};
+ghost use Rattle.stab_code.specs.Program.{ProgramParts};
+ghost use Rattle.stab_code.specs.Valid.{IsValid};
+ghost use Rattle.plain_language.specs.Expression.{failed};
+ghost use Rattle.plain_language.specs.Outcome.{called};
+ghost use Rattle.plain_language.specs.Program.{body};
+ghost use Rattle.plain_language.specs.Redex.{mark};
+ghost use Rattle.step_eval.specs.ControlView.{expr_of, Fits, RedexIsFound};
+ghost use Rattle.step_eval.specs.Entries.{entered};
+ghost use Rattle.step_eval.specs.Rests.{rest_of};
+ghost use Rattle.step_eval.specs.Turns.{Takes};
+
+use crate::env::Env;
+use crate::machine::{Focus, Machine};
+use crate::node::entry;
+use crate::rest::Rest;
+use stab_base::{Fault, FnId, NoMemory, Seq, Value};
+use stab_code::{NodeId, Program};
+use std::alloc::Global;
+use std::marker::Model;
+use std::sync::Arc;
+use std::sync::ledger::Ledger;
+use step_counter::Steps;
+
+/// A thread's text on its way. Contracts see what is looked at, the frames round it, and its mark.
+#[derive(Drop)]
+pub struct Control {
+    pub(crate) machine: Machine,
+}
+
+impl Model for Control {
+    ghost use Rattle.std.specs.Coded.{codes};
+    ghost use Rattle.stab_base.specs.DatumCode.{coded_datum};
+    ghost use Rattle.stab_base.specs.contracts.fault.Fault as fault;
+    ghost use Rattle.step_eval.specs.ControlView.{ControlView, view_of};
+    ghost use Rattle.step_eval.specs.contracts.act.Act as act;
+    ghost use Rattle.step_eval.specs.contracts.site.Site as place;
+
+    ghost Value = { ControlView };
+
+    ghost coded = { Prim.hlevel (codes, coded_datum, fault.the_row.coded, act.the_row.coded, place.the_row.coded) };
+
+    ghost view = { λ c. view_of c.machine };
+}
+
+/// The memory that a call needs isn't there. The arguments come back.
+#[derive(Drop)]
+pub struct CallRefused {
+    pub args: Vec<Value>,
+}
+
+impl Control {
+    /// A call of a function of the program, which takes these arguments.
+    pub fn call(program: &Program, f: FnId, args: Vec<Value>) -> Result<Control, CallRefused>
+        requires { Takes program.now f (length args.items) }
+        ensures expr { IfOk result (λ c. expr_of program.now c ≡ called (body program.now) f.0 args.items) }
+        ensures fits { IfOk result (λ c. Fits program.now c) }
+        ensures back { IfErr result (λ refused. refused.args.items ≡ args.items) }
+    {
+        let alloc = *args.allocator();
+        match entry(alloc, program, f, &args) {
+            Ok((n, value)) => Control::entered(alloc, n, value, args),
+            Err(_refused) => Err(CallRefused { args }),
+        }
+    }
+
+    fn entered(
+        alloc: Global,
+        n: NodeId,
+        value: Option<Value>,
+        args: Vec<Value>,
+    ) -> Result<Control, CallRefused>
+        ensures view { IfOk result (λ c. c ≡ entered n value args.items) }
+        ensures back { IfErr result (λ refused. refused.args.items ≡ args.items) }
+    {
+        match Arc::new(alloc, Env::new(args)) {
+            Ok(env) => Ok(Control {
+                machine: Machine::entered(alloc, n, value, env),
+            }),
+            Err(refused) => Err(CallRefused {
+                args: refused.value.into_values(),
+            }),
+        }
+    }
+
+    /// An equal control, in at most one step: it shares all frames but the innermost.
+    pub fn keep<L: Ledger>(&self, steps: &mut Steps<L>) -> Result<Control, NoMemory>
+        ensures same { IfOk result (λ c. c ≡ self.now) }
+        ensures steps { steps.new ≤ steps.old + 1 }
+    {
+        let top = match &self.machine.top {
+            None => None,
+            Some(frame) => Some(frame.copy(steps)?),
+        };
+        Ok(Control {
+            machine: self.machine.keep(top)?,
+        })
+    }
+
+    /// The control becomes a fault.
+    pub fn fail(&mut self, fault: Fault)
+        ensures expr { (p : ProgramParts) → expr_of p self.new ≡ failed fault }
+        ensures fits { (p : ProgramParts) → Fits p self.new }
+    {
+        self.machine.fail(fault);
+    }
+
+    /// The number of the innermost section round the redex, if there is one.
+    pub fn mark(&self) -> Option<Seq>
+        ensures { (p : ProgramParts) → Fits p self.now → RedexIsFound p self.now → option_map (λ m. m.0) result ≡ mark (expr_of p self.now) }
+    {
+        self.machine.mark
+    }
+
+    /// Whether two controls are equal.
+    pub fn same(&self, other: &Control) -> bool
+        ensures { IsTrue result ↔ (self.now ≡ other.now) }
+    {
+        self.machine.same(&other.machine)
+    }
+
+    /// Whether the control is on its way, is a value, or is a fault.
+    pub fn rest(&self) -> Rest
+        ensures { (p : ProgramParts) → IsValid p → Fits p self.now → result ≡ rest_of (expr_of p self.now) }
+    {
+        match &self.machine.focus {
+            Focus::Fault(k) => Rest::Failed(*k),
+            Focus::Value(_v) => self.machine.rest_of_value(),
+            Focus::Begun(_n) => Rest::Going,
+            Focus::Form => Rest::Going,
+            Focus::Act(_a) => Rest::Going,
+        }
+    }
+}

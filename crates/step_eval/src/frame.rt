@@ -1,0 +1,55 @@
+//! Frames: forms that wait for the value of one of their parts.
+ghost use Rattle.std.specs.Prelude.{◌≡◌, ◌+◌, IfOk};
+ghost use Rattle.std.specs.Arc.{arc_value};
+
+use crate::env::{Env, copied};
+use crate::site::Site;
+use stab_base::{NoMemory, Value};
+use std::alloc::Global;
+use std::marker::Model;
+use std::sync::Arc;
+use std::sync::ledger::Ledger;
+use step_counter::Steps;
+
+/// A form round the focus. Contracts see where it is, the values of its parts so far, and the values of its variables.
+#[derive(Drop)]
+pub struct Frame {
+    pub(crate) site: Site,
+    pub(crate) done: Vec<Value>,
+    pub(crate) env: Arc<Env>,
+}
+
+impl Model for Frame {
+    ghost use Rattle.std.specs.Arc.{arc_value};
+    ghost use Rattle.std.specs.Coded.{codes};
+    ghost use Rattle.stab_base.specs.DatumCode.{coded_datum};
+    ghost use Rattle.step_eval.specs.FrameView.{FrameView};
+    ghost use Rattle.step_eval.specs.contracts.site.Site as place;
+
+    ghost Value = { FrameView };
+
+    ghost coded = { Prim.hlevel (codes, coded_datum, place.the_row.coded) };
+
+    ghost view = { λ f. record { site = f.site; done = f.done.items; env = arc_value f.env } };
+}
+
+impl Frame {
+    pub(crate) fn equal(&self, alloc: Global) -> Result<Frame, NoMemory>
+        ensures { IfOk result (λ f. f ≡ self.now) }
+    {
+        Ok(Frame {
+            site: self.site,
+            done: copied(alloc, self.done.as_slice())?,
+            env: Arc::try_clone(&self.env)?,
+        })
+    }
+
+    /// An equal frame, in one step: its values are copied, and its environment is shared.
+    pub fn copy<L: Ledger>(&self, steps: &mut Steps<L>) -> Result<Frame, NoMemory>
+        ensures same { IfOk result (λ f. f ≡ self.now) }
+        ensures step { steps.new ≡ steps.old + 1 }
+    {
+        steps.tick();
+        self.equal(*self.done.allocator())
+    }
+}

@@ -1,0 +1,179 @@
+//! The machine: a form at hand, and the frames round it.
+ghost use Rattle.std.specs.Prelude.{◌≡◌, ◌≢◌, ◌<◌, [], None, Some, length, map, slice_get, IfOk};
+ghost use Rattle.std.specs.Bool.{OnFalse, OnTrue};
+ghost use Rattle.std.specs.Arc.{arc_value};
+ghost use Rattle.step_eval.specs.ControlView.{view_of};
+ghost use Rattle.step_eval.specs.Entries.{entered};
+ghost use Rattle.step_eval.specs.View.{here_of, round_of};
+ghost use Rattle.step_eval.specs.declared.machine.Focus.TheVariants as Focus;
+ghost use Rattle.step_eval.specs.declared.rest.Rest.TheVariants.{Done, Going};
+
+use crate::act::Act;
+use crate::env::{Env, copied};
+use crate::frame::Frame;
+use crate::rest::Rest;
+use crate::site::Site;
+use stab_base::{Fault, NoMemory, Seq, Value};
+use stab_code::NodeId;
+use std::alloc::Global;
+use std::sync::Arc;
+
+/// What is looked at.
+#[derive(Drop)]
+pub(crate) enum Focus {
+    /// A node that is to be evaluated.
+    Begun(NodeId),
+    /// The form at hand, whose parts that count are values.
+    Form,
+    /// The form at hand, where it is an act.
+    Act(Act),
+    Value(Value),
+    Fault(Fault),
+}
+
+/// A thread's text on its way.
+#[derive(Drop)]
+pub(crate) struct Machine {
+    pub(crate) alloc: Global,
+    pub(crate) focus: Focus,
+    pub(crate) site: Site,
+    pub(crate) done: Vec<Value>,
+    pub(crate) env: Arc<Env>,
+    pub(crate) top: Option<Frame>,
+    pub(crate) frames: Vec<Arc<Frame>>,
+    pub(crate) spare: Vec<Value>,
+    pub(crate) mark: Option<Seq>,
+}
+
+impl Machine {
+    /// A machine that looks at this, with these values of variables and no frames.
+    fn alone(alloc: Global, focus: Focus, n: NodeId, env: Arc<Env>) -> Machine
+        ensures focus { result.focus ≡ focus }
+        ensures env { arc_value result.env ≡ arc_value env }
+        ensures round { round_of result ≡ [] }
+        ensures mark { result.mark ≡ None }
+    {
+        Machine {
+            alloc,
+            focus,
+            site: Site::Form(n, 0),
+            done: Vec::new(alloc),
+            env,
+            top: None,
+            frames: Vec::new(alloc),
+            spare: Vec::new(alloc),
+            mark: None,
+        }
+    }
+
+    /// A machine that is to evaluate a node with these values of variables, or has its value, and nothing else.
+    pub(crate) fn entered(alloc: Global, n: NodeId, value: Option<Value>, env: Arc<Env>) -> Machine
+        ensures { view_of result ≡ entered n value (arc_value env) }
+    {
+        match value {
+            None => Machine::alone(alloc, Focus::Begun(n), n, env),
+            Some(v) => Machine::alone(alloc, Focus::Value(v), n, env),
+        }
+    }
+
+    /// How many frames there are.
+    pub(crate) fn count(&self) -> usize
+        ensures { result ≡ length (round_of self.now) }
+    {
+        match &self.top {
+            None => self.frames.len(),
+            Some(_frame) => self.frames.len() + 1,
+        }
+    }
+
+    /// A frame by its place, the innermost first.
+    pub(crate) fn frame(&self, i: usize) -> &Frame
+        requires { i < length (round_of self.now) }
+        ensures { slice_get (round_of self.now) i ≡ Some result.now }
+    {
+        let shared = self.frames.len();
+        match &self.top {
+            None => &self.frames[shared - 1 - i],
+            Some(frame) => {
+                if i == 0 {
+                    frame
+                } else {
+                    &self.frames[shared - i]
+                }
+            }
+        }
+    }
+
+    /// Whether no frame stands round the focus.
+    pub(crate) fn is_alone(&self) -> bool
+        ensures alone { OnTrue result (round_of self.now ≡ []) }
+        ensures some { OnFalse result (round_of self.now ≢ []) }
+    {
+        match &self.top {
+            Some(_frame) => false,
+            None => self.frames.is_empty(),
+        }
+    }
+
+    /// Whether a machine that looks at a value has ended.
+    pub(crate) fn rest_of_value(&self) -> Rest
+        ensures alone { round_of self.now ≡ [] → result ≡ Done }
+        ensures some { round_of self.now ≢ [] → result ≡ Going }
+    {
+        if self.is_alone() {
+            Rest::Done
+        } else {
+            Rest::Going
+        }
+    }
+
+    /// The whole is a fault.
+    pub(crate) fn fail(&mut self, k: Fault)
+        ensures round { round_of self.new ≡ [] }
+        ensures focus { self.new.focus ≡ Focus.Fault k }
+        ensures mark { self.new.mark ≡ None }
+    {
+        self.focus = Focus::Fault(k);
+        self.top = None;
+        self.frames.clear();
+        self.mark = None;
+    }
+
+    /// The same machine once more, which has this copy of its innermost frame and shares the others.
+    pub(crate) fn keep(&self, top: Option<Frame>) -> Result<Machine, NoMemory>
+        requires { top ≡ self.now.top }
+        ensures focus { IfOk result (λ m. m.focus ≡ self.now.focus) }
+        ensures here { IfOk result (λ m. here_of m ≡ here_of self.now) }
+        ensures round { IfOk result (λ m. round_of m ≡ round_of self.now) }
+        ensures mark { IfOk result (λ m. m.mark ≡ self.now.mark) }
+    {
+        let focus = match &self.focus {
+            Focus::Begun(n) => Focus::Begun(*n),
+            Focus::Form => Focus::Form,
+            Focus::Act(a) => Focus::Act(*a),
+            Focus::Value(v) => Focus::Value(v.copy(self.alloc)?),
+            Focus::Fault(k) => Focus::Fault(*k),
+        };
+        Ok(Machine {
+            alloc: self.alloc,
+            focus,
+            site: self.site,
+            done: copied(self.alloc, self.done.as_slice())?,
+            env: Arc::try_clone(&self.env)?,
+            top,
+            frames: shared(self.alloc, self.frames.as_slice())?,
+            spare: Vec::new(self.alloc),
+            mark: self.mark,
+        })
+    }
+}
+
+fn shared(alloc: Global, frames: &[Arc<Frame>]) -> Result<Vec<Arc<Frame>>, NoMemory>
+    ensures { IfOk result (λ all. map arc_value all.items ≡ map arc_value frames.now) }
+{
+    let mut all = Vec::with_capacity(alloc, frames.len())?;
+    for frame in frames {
+        all.push(Arc::try_clone(frame)?)?;
+    }
+    Ok(all)
+}

@@ -1,0 +1,92 @@
+//! Whether two controls are equal.
+ghost use Rattle.std.specs.Prelude.{◌≡◌, ◌↔◌, IsTrue};
+ghost use Rattle.step_eval.specs.ControlView.{focus_view, view_of};
+ghost use Rattle.step_eval.specs.View.{here_of, round_of};
+
+use crate::env::Env;
+use crate::frame::Frame;
+use crate::machine::{Focus, Machine};
+use stab_base::Value;
+
+/// Whether two lists of values are equal.
+fn all_same(left: &[Value], right: &[Value]) -> bool
+    ensures { IsTrue result ↔ (left.now ≡ right.now) }
+{
+    if left.len() != right.len() {
+        return false;
+    }
+    for i in 0..left.len() {
+        if !left[i].same(&right[i]) {
+            return false;
+        }
+    }
+    true
+}
+
+impl Env {
+    fn same(&self, other: &Env) -> bool
+        ensures { IsTrue result ↔ (self.now ≡ other.now) }
+    {
+        all_same(self.values(), other.values())
+    }
+}
+
+impl Frame {
+    /// Whether two frames are equal.
+    pub(crate) fn same(&self, other: &Frame) -> bool
+        ensures { IsTrue result ↔ (self.now ≡ other.now) }
+    {
+        self.site == other.site
+            && all_same(self.done.as_slice(), other.done.as_slice())
+            && self.env.same(&other.env)
+    }
+}
+
+impl Machine {
+    fn same_here(&self, other: &Machine) -> bool
+        ensures { IsTrue result ↔ (here_of self.now ≡ here_of other.now) }
+    {
+        self.site == other.site
+            && all_same(self.done.as_slice(), other.done.as_slice())
+            && self.env.same(&other.env)
+    }
+
+    /// Whether two machines look at the same.
+    fn same_focus(&self, other: &Machine) -> bool
+        ensures { IsTrue result ↔ (focus_view self.now.focus (here_of self.now) ≡ focus_view other.now.focus (here_of other.now)) }
+    {
+        match &self.focus {
+            Focus::Begun(n) => {
+                matches!(&other.focus, Focus::Begun(m) if n == m) && self.env.same(&other.env)
+            }
+            Focus::Form => matches!(&other.focus, Focus::Form) && self.same_here(other),
+            Focus::Act(a) => {
+                matches!(&other.focus, Focus::Act(b) if a == b) && self.same_here(other)
+            }
+            Focus::Value(v) => matches!(&other.focus, Focus::Value(w) if v.same(w)),
+            Focus::Fault(k) => matches!(&other.focus, Focus::Fault(l) if k == l),
+        }
+    }
+
+    /// Whether two machines have equal frames.
+    fn same_round(&self, other: &Machine) -> bool
+        ensures { IsTrue result ↔ (round_of self.now ≡ round_of other.now) }
+    {
+        if self.count() != other.count() {
+            return false;
+        }
+        for i in 0..self.count() {
+            if !self.frame(i).same(other.frame(i)) {
+                return false;
+            }
+        }
+        true
+    }
+
+    /// Whether two machines look at the same, within equal frames.
+    pub(crate) fn same(&self, other: &Machine) -> bool
+        ensures { IsTrue result ↔ (view_of self.now ≡ view_of other.now) }
+    {
+        self.mark == other.mark && self.same_focus(other) && self.same_round(other)
+    }
+}
