@@ -14,7 +14,7 @@ use Rattle.stab_lex.specs.Pieces.{is_blank, starts_name}
 abbrev ascii_start : ℕ → Bool
 ascii_start c = is_ascii_alphabetic c || c == 95
 
-starts_name-ascii : (c : ℕ) → c < 128 → starts_name c ≡ ascii_start c
+pub starts_name-ascii : (c : ℕ) → c < 128 → starts_name c ≡ ascii_start c
 starts_name-ascii c low = ap (λ b. b || c == 95) (is_xid_start-ascii c low)
 
 -- none of two tests of ASCII characters meet

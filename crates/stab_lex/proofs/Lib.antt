@@ -2,6 +2,7 @@ pub mod Classes
 pub mod Lengths
 pub mod Marks
 pub mod Numbers
+pub mod OfLength
 pub mod Progress
 pub mod Scan
 pub mod Spans

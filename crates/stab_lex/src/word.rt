@@ -1,6 +1,6 @@
 ghost use Rattle.std.specs.Prelude.{◌≡◌, ℕ, Some, IsTrue};
 ghost use Rattle.std.specs.List.{slice_get};
-ghost use Rattle.stab_lex.specs.Pieces.{starts_name, IsOther};
+ghost use Rattle.stab_lex.specs.Pieces.{continues_name, starts_name, IsOther};
 ghost use Rattle.stab_lex.specs.Readings.{Passes};
 
 use crate::cursor::Cursor;
@@ -11,7 +11,20 @@ use crate::reserved::name_kind;
 pub(crate) fn starts_name(c: char) -> bool
     ensures { result ≡ starts_name c }
 {
-    unicode_ident::is_xid_start(c) || c == '_'
+    if c.is_ascii() {
+        return c.is_ascii_alphabetic() || c == '_';
+    }
+    unicode_ident::is_xid_start(c)
+}
+
+// Whether a name may go on with the character.
+fn continues_name(c: char) -> bool
+    ensures { result ≡ continues_name c }
+{
+    if c.is_ascii() {
+        return c.is_ascii_alphanumeric() || c == '_';
+    }
+    unicode_ident::is_xid_continue(c)
 }
 
 /// Reads the name whose first character is the next one.
@@ -24,7 +37,7 @@ pub(crate) fn word(cursor: &mut Cursor, first: char) -> Kind
     let start = cursor.at();
     cursor.bump();
     while let Some(c) = cursor.peek() {
-        if !unicode_ident::is_xid_continue(c) {
+        if !continues_name(c) {
             break;
         }
         cursor.bump();

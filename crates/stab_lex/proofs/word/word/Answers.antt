@@ -5,12 +5,12 @@ use Rattle.stab_lex.specs.Pieces.{continues_name, Stops}
 use Rattle.stab_lex.proofs.Ways.{bumped, Run-more, Leads-append, stops_at, stops_at_end}
 use Rattle.stab_lex.proofs.Words.{word_passes, span_fits}
 use Rattle.stab_lex.proofs.word.word.Goals as goal
-use Rattle.stab_lex.proofs.word.word.Goals.{in-Some+then-not-is_xid_continue, in_default}
+use Rattle.stab_lex.proofs.word.word.Goals.{in-Some+then-not-continues_name, in_default}
 
 pub loop-c-preserved : goal.loop-c-preserved
 loop-c-preserved c =
     let step = bumped c.in-Some.c c.bump-in-Some.result c.in-Some.ensures c.bump-in-Some.ensures in
-    let goes_on : IsTrue (continues_name c.in-Some.c) = sym c.is_xid_continue.ensures.value ∙ c.if-not-is_xid_continue.false in
+    let goes_on : IsTrue (continues_name c.in-Some.c) = sym c.continues_name.ensures ∙ c.if-not-continues_name.false in
     Run-more c.loop-c.invariant step goes_on
 
 pub slice_bounds-name_kind-end : goal.slice_bounds-name_kind-end
@@ -23,5 +23,5 @@ slice_bounds-name_kind-end c =
 pub returns : goal.returns
 returns c =
     let step = bumped c.args.first c.bump.result (sym c.requires.next) c.bump.ensures in
-    let stops : Stops continues_name c.loop-c.cursor.rest = elim c.match-peek.branch [ in-Some+then-not-is_xid_continue w ↦ stops_at _ _ _ w.in-Some.ensures (sym w.is_xid_continue.ensures.value ∙ w.if-not-is_xid_continue.true) | in_default w ↦ stops_at_end _ _ w.in_default.ensures ] in
+    let stops : Stops continues_name c.loop-c.cursor.rest = elim c.match-peek.branch [ in-Some+then-not-continues_name w ↦ stops_at _ _ _ w.in-Some.ensures (sym w.continues_name.ensures ∙ w.if-not-continues_name.true) | in_default w ↦ stops_at_end _ _ w.in_default.ensures ] in
     word_passes c.name_kind.result step c.loop-c.invariant stops c.requires.starts (c.name_kind.ensures ∙ (λ i. name_kind (take (c.at.ensures i - c.at-start.ensures i) (c.bytes-front.ensures i))))
