@@ -1,7 +1,7 @@
 -- What stands between the quotes of a text is what it stands for.
-use Rattle.std.proofs.Common.{◌≡◌, ℕ, append_assoc, Bool, true, false, ◌||◌, ◌==◌, cond, List, [], ◌∷◌, ◌++◌, drop, refl, sym, ap, ◌∙◌}
-use Rattle.std.specs.Prelude.{chars, encode_utf8_all, if◌then◌else◌}
-use Rattle.stab_lex.specs.Pieces.{IsTextOf, escaped, escaped_char, is_escaped}
+use Rattle.std.proofs.Common.{◌≡◌, ℕ, append_assoc, Bool, true, false, ◌||◌, ◌==◌, List, [], ◌∷◌, ◌++◌, drop, refl, ap, ◌∙◌}
+use Rattle.std.specs.Prelude.{encode_utf8_all, if◌then◌else◌}
+use Rattle.stab_lex.specs.Pieces.{IsTextOf, escaped, escaped_char}
 use Rattle.stab_parse.specs.declared.symbol.Span.{Span}
 use Rattle.scope_check.specs.Names.{named, text_at, up_to_quote}
 

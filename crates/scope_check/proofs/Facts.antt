@@ -1,22 +1,22 @@
 -- What the tree of each form has that the definition gives.
-use Rattle.std.proofs.Common.{◌≡◌, ℕ, zero, suc, ◌+◌, ◌-◌, ◌<◌, ◌≤◌, Bool, true, false, List, [], ◌∷◌, ◌++◌, length, Option, Some, None, IfSome, refl, sym, ap, subst, ◌∙◌, arith, append_assoc, append-nil, length-append, eqb, leb, cond, not, ◌||◌, ◌⊎◌, inl, inr}
-use Rattle.std.specs.Prelude.{Result, Ok, Err, IfOk, slice_get, option_map, reverse, min, max, ⊤, if◌then◌else◌, bytes_eq, nat_le}
+use Rattle.std.proofs.Common.{◌≡◌, ℕ, zero, suc, ◌+◌, ◌-◌, ◌<◌, ◌≤◌, Bool, true, false, List, [], ◌∷◌, ◌++◌, length, Option, Some, None, IfSome, refl, sym, ap, subst, ◌∙◌, arith, length-append, cond, not, ◌||◌, ◌⊎◌, inl, inr}
+use Rattle.std.specs.Prelude.{Result, Ok, Err, IfOk, slice_get, option_map, reverse, min, max, if◌then◌else◌, bytes_eq, nat_le}
 use Rattle.std.specs.List.{All, range_with_len, list_any, position_or_len}
 use Rattle.std.proofs.lemmas.Bool.{true≢false}
 use Rattle.std.proofs.lemmas.Bool.Decides.{eqb_tells, leb_tells}
 use Rattle.std.proofs.lemmas.List.{length-reverse, reverse-append}
 use Rattle.std.proofs.lemmas.Option.{slice_get_within}
-use Rattle.std.proofs.lemmas.List.Elements.{All-append, All-cons, All-head, All-nil, All-tail}
+use Rattle.std.proofs.lemmas.List.Elements.{All-append, All-cons, All-nil}
 use Rattle.stab_base.specs.declared.numbers.TextId.{TextId}
 use Rattle.stab_code.specs.declared.head.Head.{Head as Code}
 use Rattle.stab_code.specs.declared.head.Head.TheVariants as code
-use Rattle.stab_code.specs.Heads.{callee_of as code_callee, slots_of, text_of, variable_of}
+use Rattle.stab_code.specs.Heads.{slots_of, text_of, variable_of}
 use Rattle.stab_code.specs.Layout.{size_of as tree_size, size_of_all}
 use Rattle.stab_code.specs.Program.{FunctionParts, arity_of}
 use Rattle.stab_code.specs.Syntax.{deepest, depth_from, depth_of, lets_from, lets_of, left_open, one_or_none, open_from, open_in, with_own}
-use Rattle.stab_code.specs.Trees.{Tree, Trees, tree, none, more, fold_all}
+use Rattle.stab_code.specs.Trees.{Tree, Trees, tree, none, more}
 use Rattle.stab_code.specs.Valid.{HasItem, parts_of}
-use Rattle.stab_code.proofs.AllForms.{AllForms, AllFormsIn, count_of}
+use Rattle.stab_code.proofs.AllForms.{AllForms, AllFormsIn}
 use Rattle.stab_parse.specs.declared.symbol.ActWord.{ActWord}
 use Rattle.stab_parse.specs.declared.symbol.ActWord.TheVariants as word
 use Rattle.stab_parse.specs.declared.symbol.CallWord.TheVariants.{Spawn, Stable}
@@ -33,7 +33,7 @@ use Rattle.scope_check.specs.Forms.{number_of, items_of, act_of}
 use Rattle.scope_check.specs.Limits.{max_lets, max_texts}
 use Rattle.scope_check.specs.Names.{named, text_at, slot_of, is_same}
 use Rattle.scope_check.specs.Placed.{size_of, size_of_parts}
-use Rattle.scope_check.specs.Scope.{after, in_order, in_order_before, Met, Behind, behind, part_met, form_scoped, parts_scoped, head_met, with_slots, let_numbered, slot_found, callee_found, callee_of, function_named, has_arity, text_numbered}
+use Rattle.scope_check.specs.Scope.{after, in_order, Met, Behind, behind, part_met, form_scoped, parts_scoped, head_met, with_slots, let_numbered, slot_found, callee_found, function_named, has_arity, text_numbered}
 use Rattle.scope_check.specs.Sound.{Fits, IsSound, AreSound, operands}
 use Rattle.scope_check.proofs.Joined.{count-in_order, join, in_order-join, size-join}
 use Rattle.scope_check.proofs.OwnSlots.{values, values-next, length-values, deepest-last, with_own-item, with_own-last, IsAmong, among-left, among-last, Left, All-mapped, open-last, open-item, range-join}

@@ -1,29 +1,28 @@
 -- Function after function.
-use Rattle.std.proofs.Common.{◌≡◌, inl, inr, ℕ, zero, suc, ◌+◌, ◌-◌, ◌<◌, ◌≤◌, List, [], ◌∷◌, ◌++◌, length, map, slice_get, Some, refl, sym, ap, subst, ◌∙◌, arith, append_assoc, append-nil, length-append}
-use Rattle.std.specs.Prelude.{Result, Ok, Err, Option}
+use Rattle.std.proofs.Common.{◌≡◌, inl, inr, ℕ, ◌+◌, ◌-◌, ◌<◌, List, [], ◌∷◌, ◌++◌, length, map, slice_get, Some, refl, sym, ap, subst, ◌∙◌, arith, append_assoc, append-nil, length-append}
+use Rattle.std.specs.Prelude.{Ok, Err}
 use Rattle.std.proofs.lemmas.Bool.Decides.{eqb_tells}
 use Rattle.stab_code.specs.Layout.{nodes_of as tree_nodes, nodes_of_all, own_node, size_of as tree_size, size_of_all}
 use Rattle.stab_code.specs.Nodes.{id}
 use Rattle.stab_code.specs.Program.{FunctionParts, function_of}
-use Rattle.stab_code.specs.Trees.{Tree, Trees, tree, none, more}
+use Rattle.stab_code.specs.Trees.{Tree, Trees, none, more}
 use Rattle.stab_code.specs.Written.{Written}
 use Rattle.stab_code.proofs.LaidOut.{length-nodes_of_all, own_node-last}
 use Rattle.stab_code.proofs.Lists.{slice_get-right}
 use Rattle.stab_parse.specs.declared.tree.FormNode.{FormNode}
 use Rattle.stab_parse.specs.declared.tree.Function.{Function}
-use Rattle.stab_parse.specs.Forms.{Form, form, Parts, body_of}
+use Rattle.stab_parse.specs.Forms.{Form, body_of}
 use Rattle.stab_parse.specs.FormList.{function_of as written_function, functions_of, nodes_of, nodes_of_program}
 use Rattle.stab_parse.specs.Grammar.{Program, no_functions, next_function, Function as Rule, function}
 use Rattle.scope_check.specs.declared.fault.ScopeFault.{ScopeFault}
 use Rattle.scope_check.specs.declared.progress.Progress.{Progress}
-use Rattle.scope_check.specs.Made.{AreFunctionsMade, IsBody, IsFormFault, IsFormMade, IsFunctionFault, IsFunctionMade, body_now}
+use Rattle.scope_check.specs.Made.{AreFunctionsMade, IsBody, IsFormMade, IsFunctionFault, IsFunctionMade, body_now}
 use Rattle.scope_check.specs.Placed.{size_of}
 use Rattle.scope_check.specs.Places.{IsAt}
-use Rattle.scope_check.specs.Progress.{Adds, IsFaultOf, met_of, seen_of, texts_of}
+use Rattle.scope_check.specs.Progress.{IsFaultOf, met_of, seen_of, texts_of}
 use Rattle.scope_check.specs.Scope.{Defined, Met, after, form_scoped, function_defined, function_scoped, functions_scoped, in_order}
 use Rattle.scope_check.specs.Seen.{params_seen}
 use Rattle.scope_check.proofs.Joined.{in_order-join, nodes-join, size-join}
-use Rattle.scope_check.proofs.Made.{fault-first, fault-same, fault-second}
 use Rattle.scope_check.proofs.Places.{some-size}
 use Rattle.scope_check.proofs.Sizes.{length-nodes_of}
 
@@ -50,14 +49,18 @@ module _ (bytes : List ℕ) (fs : List Function) (forms : List FormNode) (f : Fu
       let own = made b (begun-place b is) in
       let own_is = is.own_is in
       let number : (d : Defined) → size_of_all (in_order d.trees) ≡ length old.nodes → own_node (size_of_all (in_order d.trees)) own.0 ≡ id body =
-          λ d e. ap id (same-number (own_node (size_of_all (in_order d.trees)) own.0).0 body (length old.nodes + size_of b)
-          (own_node-last (size_of_all (in_order d.trees)) own.0 ∙ ap (λ n. n + tree_size own.0) e ∙ ap (λ s. length old.nodes + s) own.2.1)
-          (ap (λ n. n + 1) body_is ∙ own_is)) in
-      ((own.0, met_of new), begun-now b ∙ own.1, (own.2.0 ∙ ap (λ l. l ++ tree_nodes (length l) own.0) nodes, own.2.1), refl,
-      λ d e. ap (λ l. d.functions ++ function_of l f.gives (length f.params + new.lets) (own_node (size_of_all (in_order d.trees)) own.0) ∷ []) (sym takes_is)
-      ∙ ap (λ g. d.functions ++ function_of takes g (length f.params + new.lets) (own_node (size_of_all (in_order d.trees)) own.0) ∷ []) (sym gives_is)
-      ∙ ap (λ s. d.functions ++ function_of takes gives s (own_node (size_of_all (in_order d.trees)) own.0) ∷ []) (sym slots_is)
-      ∙ ap (λ o. d.functions ++ function_of takes gives slots o ∷ []) (number d e))
+      λ d e. ap id (same-number (own_node (size_of_all (in_order d.trees)) own.0).0 body (length old.nodes + size_of b)
+      (own_node-last (size_of_all (in_order d.trees)) own.0 ∙ ap (λ n. n + tree_size own.0) e ∙ ap (λ s. length old.nodes + s) own.2.1)
+      (ap (λ n. n + 1) body_is ∙ own_is)) in (
+        (own.0, met_of new),
+        begun-now b ∙ own.1,
+        (own.2.0 ∙ ap (λ l. l ++ tree_nodes (length l) own.0) nodes, own.2.1),
+        refl,
+        λ d e. ap (λ l. d.functions ++ function_of l f.gives (length f.params + new.lets) (own_node (size_of_all (in_order d.trees)) own.0) ∷ []) (sym takes_is)
+            ∙ ap (λ g. d.functions ++ function_of takes g (length f.params + new.lets) (own_node (size_of_all (in_order d.trees)) own.0) ∷ []) (sym gives_is)
+            ∙ ap (λ s. d.functions ++ function_of takes gives s (own_node (size_of_all (in_order d.trees)) own.0) ∷ []) (sym slots_is)
+            ∙ ap (λ o. d.functions ++ function_of takes gives slots o ∷ []) (number d e),
+      )
 
 -- ---- functions before others
 

@@ -1,10 +1,10 @@
 -- What is known of a syntax that was read, before its bodies are gone through.
-use Rattle.std.proofs.Common.{◌≡◌, ℕ, zero, suc, ◌+◌, ◌<◌, ◌≤◌, ◌^◌, Bool, true, false, List, [], ◌∷◌, ◌++◌, length, Option, Some, None, refl, sym, ap, subst, ◌∙◌, arith, length-append, inl, inr}
-use Rattle.std.specs.Prelude.{Result, Ok, Err, IfOk, nat_le, if◌then◌else◌}
+use Rattle.std.proofs.Common.{◌≡◌, ℕ, ◌+◌, ◌<◌, ◌≤◌, ◌^◌, Bool, true, false, List, [], ◌∷◌, ◌++◌, length, Option, Some, None, refl, sym, subst, ◌∙◌, arith, length-append, inl, inr}
+use Rattle.std.specs.Prelude.{Ok, IfOk, nat_le, if◌then◌else◌}
 use Rattle.std.specs.List.{All, list_any}
 use Rattle.std.proofs.lemmas.Bool.{true≢false}
 use Rattle.std.proofs.lemmas.Bool.Decides.{leb_tells}
-use Rattle.std.proofs.lemmas.List.Elements.{All-append, All-cons, All-head, All-nil, All-tail}
+use Rattle.std.proofs.lemmas.List.Elements.{All-append, All-cons, All-nil}
 use Rattle.stab_code.specs.Program.{ProgramParts}
 use Rattle.stab_code.specs.Valid.{IsValid}
 use Rattle.stab_lex.proofs.Spans.{reads_in_order, reads_slices}
@@ -22,7 +22,7 @@ use Rattle.scope_check.specs.declared.fault.ScopeFault.{ScopeFault}
 use Rattle.scope_check.specs.Forms.{number_of}
 use Rattle.scope_check.specs.Limits.{max_functions, max_params}
 use Rattle.scope_check.specs.Names.{is_same}
-use Rattle.scope_check.specs.Progress.{AreWithin, HasText, HaveTexts, IsWithin}
+use Rattle.scope_check.specs.Progress.{AreWithin, HasText, HaveTexts}
 use Rattle.scope_check.specs.Reading.{IsReadFrom}
 use Rattle.scope_check.specs.Scope.{first_fault, function_fault, param_fault, program_scoped, twice}
 use Rattle.scope_check.specs.Sound.{AreSound, Fits, IsSound, IsSoundProgram}

@@ -1,5 +1,5 @@
 -- One form more, from its head and its parts.
-use Rattle.std.proofs.Common.{◌≡◌, inl, inr, ℕ, zero, suc, ◌+◌, ◌<◌, ◌≤◌, ◌^◌, List, [], ◌∷◌, ◌++◌, length, slice_get, Some, refl, sym, ap, subst, ◌∙◌, arith, append_assoc, append-nil, length-append, length-take}
+use Rattle.std.proofs.Common.{◌≡◌, inl, inr, ℕ, ◌+◌, ◌<◌, ◌≤◌, ◌^◌, List, [], ◌∷◌, ◌++◌, length, slice_get, Some, refl, sym, ap, subst, ◌∙◌, arith, append_assoc, append-nil, length-append, length-take}
 use Rattle.std.specs.Prelude.{Result, Ok, Err, OnOk, Option, None, reverse, take}
 use Rattle.std.proofs.lemmas.Bool.Decides.{eqb_tells}
 use Rattle.std.proofs.lemmas.List.{reverse-append, take-take}
@@ -21,10 +21,10 @@ use Rattle.scope_check.specs.declared.fault.ScopeFault.{ScopeFault}
 use Rattle.scope_check.specs.declared.progress.Progress.{Progress}
 use Rattle.scope_check.specs.declared.seen.Variable.{Variable}
 use Rattle.scope_check.specs.Forms.{items_of, number_of}
-use Rattle.scope_check.specs.Made.{AddsParts, ArePartsMade, IsFormFault, IsFormMade, IsPartMade, IsPartFault, IsPartsFault, parts_now, part_now, scoped_now}
+use Rattle.scope_check.specs.Made.{AddsParts, ArePartsMade, IsFormMade, IsPartMade, IsPartFault, IsPartsFault, parts_now, part_now, scoped_now}
 use Rattle.scope_check.specs.Placed.{size_of, size_of_parts}
 use Rattle.scope_check.specs.Places.{IsAt, own_number, own_numbers, part_lists}
-use Rattle.scope_check.specs.Progress.{Adds, IsFaultOf, met_of, seen_of, texts_of}
+use Rattle.scope_check.specs.Progress.{Adds, IsFaultOf, met_of, seen_of}
 use Rattle.scope_check.specs.Scope.{Behind, Met, after, behind, form_scoped, head_met, in_order, let_numbered, part_met, parts_scoped, with_slots}
 use Rattle.scope_check.proofs.Joined.{in_order-join, nodes-join, own-join, size-join}
 use Rattle.scope_check.proofs.Places.{at-within, count-is, followed, length-own_numbers, node-at, own-at, part-at, parts-at}
@@ -113,33 +113,42 @@ module _ (bytes : List ℕ) (fs : List Function) (arity : ℕ) (forms : List For
           let same : length next.nodes ≡ n = ap length head.nodes in
           let adds = inner.2 in
           let numbers : own_nodes n (in_order trees) ≡ parts =
-              let own_is : own_nodes n (in_order trees) ≡ own_numbers n ps = subst (λ m. own_nodes m (in_order trees) ≡ own_numbers m ps) same adds.own in
-              let at_is = parts-at forms n at place g ps small is in
-              cc (own_is, at_is, listed) in
-          (tree code (in_order trees),
-          ap (λ r. after r (λ o. after (parts_scoped bytes fs arity (items_of g) (behind [] (seen_of old) [] o.1) ps) (λ b. Ok (tree (with_slots b.slots o.0) (in_order b.trees), b.met)))) (head-now place g ps is)
-          ∙ ap (λ r. after r (λ b. Ok (tree (with_slots b.slots own) (in_order b.trees), b.met))) (parts-same g ps ∙ inner.1),
-          (nodes ∙ ap (λ l. l ++ node_of code parts ∷ []) (adds.nodes ∙ ap (λ m. next.nodes ++ nodes_of_all m (in_order trees)) same ∙ ap (λ l. l ++ nodes_of_all n (in_order trees)) head.nodes)
-          ∙ append_assoc old.nodes (nodes_of_all n (in_order trees)) (node_of code parts ∷ []) ∙ ap (λ l. old.nodes ++ (nodes_of_all n (in_order trees) ++ node_of code l ∷ [])) (sym numbers),
-          ap (λ s. s + 1) adds.size))
+          let own_is : own_nodes n (in_order trees) ≡ own_numbers n ps = subst (λ m. own_nodes m (in_order trees) ≡ own_numbers m ps) same adds.own in
+          let at_is = parts-at forms n at place g ps small is in
+          cc (own_is, at_is, listed) in (
+            tree code (in_order trees),
+            ap (λ r. after r (λ o. after (parts_scoped bytes fs arity (items_of g) (behind [] (seen_of old) [] o.1) ps) (λ b. Ok (tree (with_slots b.slots o.0) (in_order b.trees), b.met)))) (head-now place g ps is)
+                ∙ ap (λ r. after r (λ b. Ok (tree (with_slots b.slots own) (in_order b.trees), b.met))) (parts-same g ps ∙ inner.1),
+            (
+              nodes ∙ ap (λ l. l ++ node_of code parts ∷ []) (adds.nodes ∙ ap (λ m. next.nodes ++ nodes_of_all m (in_order trees)) same ∙ ap (λ l. l ++ nodes_of_all n (in_order trees)) head.nodes)
+                  ∙ append_assoc old.nodes (nodes_of_all n (in_order trees)) (node_of code parts ∷ []) ∙ ap (λ l. old.nodes ++ (nodes_of_all n (in_order trees) ++ node_of code l ∷ [])) (sym numbers),
+              ap (λ s. s + 1) adds.size,
+            ),
+          )
 
   -- ---- one part more
 
   module _ (at : ℕ) (slots : List (Option ℕ)) where
     pub part-none : (item : Option (Option Span)) (old new : Progress) → item ≡ None → IsFormMade bytes fs arity forms at old new → new.seen.items ≡ old.seen.items → IsPartMade bytes fs arity forms at item old slots new slots
     part-none item old new item_is made seen f trees is =
-        let own = made f is in
-        (own.0, ap (λ o. part_now bytes fs arity forms at o old slots trees f) item_is
-        ∙ ap (λ r. after r (λ t. Ok (behind (t.0 ∷ trees) (seen_of old) (reverse slots) t.1))) own.1
-        ∙ ap (λ s. Ok (behind (own.0 ∷ trees) (reverse s) (reverse slots) (met_of new))) (sym seen), own.2)
+        let own = made f is in (
+          own.0,
+          ap (λ o. part_now bytes fs arity forms at o old slots trees f) item_is
+              ∙ ap (λ r. after r (λ t. Ok (behind (t.0 ∷ trees) (seen_of old) (reverse slots) t.1))) own.1
+              ∙ ap (λ s. Ok (behind (own.0 ∷ trees) (reverse s) (reverse slots) (met_of new))) (sym seen),
+          own.2,
+        )
 
     pub part-form : (item : Option (Option Span)) (old new : Progress) (slots_now : List (Option ℕ)) → item ≡ Some None → IsFormMade bytes fs arity forms at old new → new.seen.items ≡ old.seen.items → slots_now ≡ slots ++ None ∷ [] → IsPartMade bytes fs arity forms at item old slots new slots_now
     part-form item old new slots_now item_is made seen e f trees is =
-        let own = made f is in
-        (own.0, ap (λ o. part_now bytes fs arity forms at o old slots trees f) item_is
-        ∙ ap (λ r. after r (λ t. Ok (behind (t.0 ∷ trees) (seen_of old) (None ∷ reverse slots) t.1))) own.1
-        ∙ ap (λ s. Ok (behind (own.0 ∷ trees) (reverse s) (None ∷ reverse slots) (met_of new))) (sym seen)
-        ∙ ap (λ s. Ok (behind (own.0 ∷ trees) (seen_of new) s (met_of new))) (sym (ap reverse e ∙ reverse-append slots (None ∷ []))), own.2)
+        let own = made f is in (
+          own.0,
+          ap (λ o. part_now bytes fs arity forms at o old slots trees f) item_is
+              ∙ ap (λ r. after r (λ t. Ok (behind (t.0 ∷ trees) (seen_of old) (None ∷ reverse slots) t.1))) own.1
+              ∙ ap (λ s. Ok (behind (own.0 ∷ trees) (reverse s) (None ∷ reverse slots) (met_of new))) (sym seen)
+              ∙ ap (λ s. Ok (behind (own.0 ∷ trees) (seen_of new) s (met_of new))) (sym (ap reverse e ∙ reverse-append slots (None ∷ []))),
+          own.2,
+        )
 
     module _ (name : Span) (x : Variable) (old next : Progress) (numbered : let_numbered arity name (met_of old) ≡ Ok (x, met_of next)) (nodes : next.nodes ≡ old.nodes) (seen : next.seen.items ≡ old.seen.items) where
       let-place : (f : Form) → IsAt forms (length old.nodes) at f → IsAt forms (length next.nodes) at f
@@ -153,20 +162,24 @@ module _ (bytes : List ℕ) (fs : List Function) (arity : ℕ) (forms : List For
           let own = made f (let-place f is) in
           let scoped : form_scoped bytes fs arity (seen_of old) (met_of next) f ≡ Ok (own.0, met_of last) = ap (λ s. form_scoped bytes fs arity (reverse s) (met_of next) f) (sym seen) ∙ own.1 in
           let behind_is : reverse seen_now ≡ x ∷ seen_of old = ap reverse (pushed ∙ ap (λ s. s ++ x ∷ []) (kept ∙ seen)) ∙ reverse-append old.seen.items (x ∷ []) in
-          let step = λ (y : Variable × Met). after (form_scoped bytes fs arity (seen_of old) y.1 f) (λ t. Ok (behind (t.0 ∷ trees) (y.0 ∷ seen_of old) (Some y.0.slot ∷ reverse slots) t.1)) in
-          (own.0, ap (λ o. part_now bytes fs arity forms at o old slots trees f) item_is
-          ∙ ap (λ r. after r step) numbered
-          ∙ ap (λ r. after r (λ t. Ok (behind (t.0 ∷ trees) (x ∷ seen_of old) (Some x.slot ∷ reverse slots) t.1))) scoped
-          ∙ ap (λ s. Ok (behind (own.0 ∷ trees) s (Some x.slot ∷ reverse slots) (met_of last))) (sym behind_is)
-          ∙ ap (λ s. Ok (behind (own.0 ∷ trees) (reverse seen_now) s (met_of last))) (sym (ap reverse e ∙ reverse-append slots (Some x.slot ∷ []))),
-          (own.2.0 ∙ ap (λ l. l ++ tree_nodes (length l) own.0) nodes, own.2.1))
+          let step = λ (y : Variable × Met). after (form_scoped bytes fs arity (seen_of old) y.1 f) (λ t. Ok (behind (t.0 ∷ trees) (y.0 ∷ seen_of old) (Some y.0.slot ∷ reverse slots) t.1)) in (
+            own.0,
+            ap (λ o. part_now bytes fs arity forms at o old slots trees f) item_is
+                ∙ ap (λ r. after r step) numbered
+                ∙ ap (λ r. after r (λ t. Ok (behind (t.0 ∷ trees) (x ∷ seen_of old) (Some x.slot ∷ reverse slots) t.1))) scoped
+                ∙ ap (λ s. Ok (behind (own.0 ∷ trees) s (Some x.slot ∷ reverse slots) (met_of last))) (sym behind_is)
+                ∙ ap (λ s. Ok (behind (own.0 ∷ trees) (reverse seen_now) s (met_of last))) (sym (ap reverse e ∙ reverse-append slots (Some x.slot ∷ []))),
+            (own.2.0 ∙ ap (λ l. l ++ tree_nodes (length l) own.0) nodes, own.2.1),
+          )
 
   -- ---- part after part
 
   pub so-far-none : (at : ℕ) (old now : Progress) (slots : List (Option ℕ)) → now ≡ old → slots ≡ [] → SoFar bytes fs arity forms at old now slots 0
-  so-far-none at old now slots e empty place h no_parts rest is n =
-      ([], ap (λ p. Ok (behind [] (seen_of p) [] (met_of p))) (sym e) ∙ ap (λ s. Ok (behind [] (seen_of now) (reverse s) (met_of now))) (sym empty),
-      record { nodes = ap (λ p. p.nodes) e ∙ sym (append-nil old.nodes); own = refl; size = refl })
+  so-far-none at old now slots e empty place h no_parts rest is n = (
+    [],
+    ap (λ p. Ok (behind [] (seen_of p) [] (met_of p))) (sym e) ∙ ap (λ s. Ok (behind [] (seen_of now) (reverse s) (met_of now))) (sym empty),
+    record { nodes = ap (λ p. p.nodes) e ∙ sym (append-nil old.nodes); own = refl; size = refl },
+  )
   so-far-none at old now slots e empty place h (next_part done f) rest is n = absurd (omega arith)
 
   abbrev more_one : Tree → Trees

@@ -1,13 +1,12 @@
 -- The number of a text among those that are kept.
-use Rattle.std.proofs.Common.{◌≡◌, inl, inr, ℕ, ◌+◌, ◌<◌, ◌≤◌, Bool, true, false, List, [], ◌∷◌, ◌++◌, length, map, Option, Some, None, refl, sym, ap, ◌∙◌, arith}
-use Rattle.std.specs.Prelude.{Result, Ok, Err, bytes_eq, if◌then◌else◌, nat_le, position}
+use Rattle.std.proofs.Common.{◌≡◌, inl, inr, ℕ, ◌<◌, ◌≤◌, Bool, true, false, List, [], ◌∷◌, ◌++◌, length, map, Some, refl, sym, ap, ◌∙◌, arith}
+use Rattle.std.specs.Prelude.{Ok, Err, bytes_eq, if◌then◌else◌, nat_le, position}
 use Rattle.std.specs.Global.{Vec}
 use Rattle.std.specs.List.{list_any, position_or_len}
 use Rattle.std.proofs.lemmas.Bool.{true≢false}
 use Rattle.std.proofs.lemmas.Bool.Decides.{leb_tells}
 use Rattle.std.proofs.lemmas.List.{length-map, map-append}
 use Rattle.stab_parse.specs.declared.symbol.Span.{Span}
-use Rattle.scope_check.specs.declared.fault.ScopeFault.{ScopeFault}
 use Rattle.scope_check.specs.declared.fault.ScopeFault.TheVariants.{TooMany}
 use Rattle.scope_check.specs.Limits.{max_texts}
 use Rattle.scope_check.specs.Scope.{text_numbered}

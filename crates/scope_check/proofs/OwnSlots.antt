@@ -1,5 +1,5 @@
 -- Lists of what parts have, with one part more, and the slots of lets among them.
-use Rattle.std.proofs.Common.{◌≡◌, ℕ, zero, suc, ◌+◌, ◌-◌, ◌<◌, ◌≤◌, ◌⊎◌, inl, inr, Bool, true, false, cond, not, ◌==◌, eqb, eqb-true, List, [], ◌∷◌, ◌++◌, length, Option, Some, None, refl, sym, ap, subst, ◌∙◌, arith, append_assoc, append-nil}
+use Rattle.std.proofs.Common.{◌≡◌, ℕ, zero, suc, ◌+◌, ◌≤◌, ◌⊎◌, inl, inr, Bool, true, false, cond, not, ◌==◌, eqb-true, List, [], ◌∷◌, ◌++◌, length, Option, Some, None, refl, sym, ap, subst, ◌∙◌, arith, append_assoc, append-nil}
 use Rattle.std.specs.List.{All, filter, range_with_len}
 use Rattle.std.specs.Prelude.{max}
 use Rattle.std.proofs.lemmas.Bool.{true≢false}
@@ -7,9 +7,9 @@ use Rattle.std.proofs.lemmas.Bool.Decides.{eqb_tells}
 use Rattle.std.proofs.lemmas.List.Elements.{All-append, All-cons, All-head, All-nil, All-tail}
 use Rattle.stab_code.specs.declared.head.Head.{Head}
 use Rattle.stab_code.specs.Syntax.{deepest, one_or_none, with_own, without, left_open}
-use Rattle.stab_code.specs.Trees.{Tree, Trees, tree, none, more, fold, fold_all}
+use Rattle.stab_code.specs.Trees.{Tree, Trees, none, more, fold, fold_all}
 use Rattle.stab_code.proofs.Lists.{All-left, All-right}
-use Rattle.scope_check.specs.Scope.{in_order, in_order_before}
+use Rattle.scope_check.specs.Scope.{in_order}
 use Rattle.scope_check.proofs.Joined.{join, in_order-join}
 
 -- ---- the values of parts

@@ -1,5 +1,5 @@
 -- The list of a program's forms: where the parts of each of them stand.
-use Rattle.std.proofs.Common.{◌≡◌, ℕ, zero, suc, ◌+◌, ◌-◌, ◌<◌, ◌≤◌, ◌^◌, List, [], ◌∷◌, ◌++◌, length, take, drop, slice_get, Some, refl, sym, ap, subst, ◌∙◌, arith, append_assoc, append-nil, length-append, length-take, length-drop}
+use Rattle.std.proofs.Common.{◌≡◌, ℕ, zero, suc, ◌+◌, ◌-◌, ◌<◌, ◌≤◌, ◌^◌, List, [], ◌∷◌, ◌++◌, length, take, drop, slice_get, Some, refl, sym, ap, subst, ◌∙◌, arith, append_assoc, append-nil, length-append}
 use Rattle.std.specs.Prelude.{min}
 use Rattle.std.specs.List.{All}
 use Rattle.std.proofs.lemmas.List.Elements.{All-append, All-cons, All-nil, All-take, All-drop}
@@ -7,7 +7,7 @@ use Rattle.std.proofs.lemmas.List.{take-append-le}
 use Rattle.std.proofs.Math.Seq.{drop-append_seam, take-length}
 use Rattle.stab_code.specs.declared.node_id.NodeId.{NodeId}
 use Rattle.stab_code.specs.Nodes.{id}
-use Rattle.stab_code.proofs.Lists.{slice_get-left, slice_get-right}
+use Rattle.stab_code.proofs.Lists.{slice_get-right}
 use Rattle.stab_parse.specs.declared.tree.FormNode.{FormNode}
 use Rattle.stab_parse.specs.declared.tree.Head.{Head}
 use Rattle.stab_parse.specs.Forms.{Form, form, Parts, no_parts, next_part}
@@ -144,7 +144,7 @@ parts-at forms first own place h ps small is =
     let count = split.2 in
     let rest = part_lists (0 + length is.before + size_of f) (split.1 ++ own_number (0 + length is.before) f ∷ []) is.after in
     let whole : part_lists 0 [] forms ≡ split.0 ++ (lists_of (0 + length is.before) f ++ rest) =
-        ap (part_lists 0 []) is.forms_are ∙ split.3 ∙ ap (λ l. split.0 ++ l) (lists-form (0 + length is.before) split.1 f is.after (omega arith)) in
+    ap (part_lists 0 []) is.forms_are ∙ split.3 ∙ ap (λ l. split.0 ++ l) (lists-form (0 + length is.before) split.1 f is.after (omega arith)) in
     let inner : length (lists_of_parts (0 + length is.before) ps) ≡ size_of_parts ps = length-lists_of_parts (0 + length is.before) ps in
     ap (λ l. slice_get l own) whole
     ∙ slice_get-right split.0 (lists_of (0 + length is.before) f ++ rest) own (size_of_parts ps) (omega arith)
@@ -223,7 +223,7 @@ below-all n whole (f ∷ forms) (suc i) own all found =
     let left = take (length whole - f.parts) whole in
     let more : All (λ part. part.0 < n + 1) left = λ k d h. let b = All-take (λ part. part.0 < n) (length whole - f.parts) whole all k d h in omega arith in
     let next : All (λ part. part.0 < n + 1) (left ++ id n ∷ []) =
-        All-append (λ part. part.0 < n + 1) left (id n ∷ []) more (All-cons (λ part. part.0 < n + 1) (id n) [] (omega arith) (All-nil (λ part. part.0 < n + 1))) in
+    All-append (λ part. part.0 < n + 1) left (id n ∷ []) more (All-cons (λ part. part.0 < n + 1) (id n) [] (omega arith) (All-nil (λ part. part.0 < n + 1))) in
     let rest = below-all (n + 1) (left ++ id n ∷ []) forms i own next found in
     λ k d h. let b = rest k d h in omega arith
 

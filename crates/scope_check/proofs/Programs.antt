@@ -1,5 +1,5 @@
 -- The program that the definition gives is valid.
-use Rattle.std.proofs.Common.{◌≡◌, ℕ, zero, suc, ◌+◌, ◌-◌, ◌<◌, ◌≤◌, ◌^◌, Bool, true, false, List, [], ◌∷◌, ◌++◌, length, map, Option, Some, None, IfSome, refl, sym, ap, subst, ◌∙◌, arith, append-nil, length-append, inl, inr, eqb}
+use Rattle.std.proofs.Common.{◌≡◌, ℕ, suc, ◌+◌, ◌-◌, ◌<◌, ◌≤◌, ◌^◌, Bool, true, false, List, [], ◌∷◌, ◌++◌, length, map, Option, Some, None, refl, sym, ap, subst, ◌∙◌, arith, length-append, inl, inr, eqb}
 use Rattle.std.specs.Prelude.{Result, Ok, Err, IfOk, IsSomeAnd, slice_get, option_map, ⊤, if◌then◌else◌, codes, nat_le}
 use Rattle.std.specs.List.{All, range_with_len, list_any}
 use Rattle.std.proofs.lemmas.Bool.{true≢false}
@@ -7,16 +7,13 @@ use Rattle.std.proofs.lemmas.Bool.Decides.{eqb_tells, leb_tells}
 use Rattle.std.proofs.lemmas.List.{length-map, map-append}
 use Rattle.std.proofs.lemmas.List.Elements.{All-cons, All-nil}
 use Rattle.std.proofs.lemmas.Option.{slice_get-map}
-use Rattle.stab_code.specs.declared.head.Head.{Head as Code}
-use Rattle.stab_code.specs.declared.node_id.NodeId.{NodeId}
-use Rattle.stab_code.specs.Heads.{text_of}
 use Rattle.stab_code.specs.Layout.{own_node, own_nodes, nodes_of_all, size_of_all}
 use Rattle.stab_code.specs.Limits.{max_form_depth}
 use Rattle.stab_code.specs.Nodes.{NodeParts}
-use Rattle.stab_code.specs.Program.{FunctionParts, ProgramParts, arity_of, bodies_of, body_of as body_tree, function_of, program_of, tree_among, trees_among, trees_at, trees_of}
+use Rattle.stab_code.specs.Program.{FunctionParts, ProgramParts, arity_of, body_of as body_tree, function_of, program_of, tree_among, trees_among, trees_of}
 use Rattle.stab_code.specs.Syntax.{depth_of, lets_of, open_in}
-use Rattle.stab_code.specs.Trees.{Tree, Trees, tree, none, more}
-use Rattle.stab_code.specs.Valid.{HasItem, IsValid, parts_of}
+use Rattle.stab_code.specs.Trees.{Tree, Trees, none, more}
+use Rattle.stab_code.specs.Valid.{IsValid}
 use Rattle.stab_code.proofs.AllForms.{AllFormsIn, HoldsOf, nodes_of_all-forms}
 use Rattle.stab_code.proofs.InOrder.{laid_out-bodies, laid_out-order}
 use Rattle.stab_code.proofs.LaidOut.{length-nodes_of_all}
@@ -30,12 +27,11 @@ use Rattle.scope_check.specs.declared.fault.ScopeFault.TheVariants.{MainTakes}
 use Rattle.scope_check.specs.declared.seen.Variable.{Variable}
 use Rattle.scope_check.specs.Limits.{max_functions, max_texts}
 use Rattle.scope_check.specs.Names.{is_same}
-use Rattle.scope_check.specs.Placed.{size_of}
 use Rattle.scope_check.specs.Scope.{after, first_fault, unless, in_order, Met, form_scoped, has_arity, main_found, main_of, function_named, Defined, function_defined, function_scoped, functions_scoped, function_fault, param_fault, program_scoped, twice}
 use Rattle.scope_check.specs.Seen.{params_seen}
-use Rattle.scope_check.specs.Sound.{IsSound, IsSoundProgram}
-use Rattle.scope_check.proofs.Joined.{join, in_order-join, nodes-join, own-join, size-join}
-use Rattle.scope_check.proofs.Facts.{Agree, FormFits, IsSeen, FormFacts, Grew, form-facts, AllForms-next, arity-is}
+use Rattle.scope_check.specs.Sound.{IsSoundProgram}
+use Rattle.scope_check.proofs.Joined.{join, in_order-join, own-join, size-join}
+use Rattle.scope_check.proofs.Facts.{Agree, FormFits, IsSeen, FormFacts, form-facts, AllForms-next, arity-is}
 use Rattle.scope_check.proofs.Sizes.{length-nodes_of}
 use Rattle.scope_check.proofs.OwnSlots.{All-mapped, range-join}
 use Rattle.scope_check.proofs.After.{IfOk-after}

@@ -1,5 +1,5 @@
 -- What a syntax has that was read from a text, rule by rule of the grammar.
-use Rattle.std.proofs.Common.{◌≡◌, ℕ, suc, ◌+◌, ◌<◌, ◌≤◌, List, [], ◌∷◌, ◌++◌, length, map, Option, Some, None, IfSome, refl, sym, ap, subst, ◌∙◌, arith, length-append}
+use Rattle.std.proofs.Common.{◌≡◌, ℕ, suc, ◌+◌, ◌<◌, List, [], ◌∷◌, length, map, refl, sym, ap, arith, length-append}
 use Rattle.std.specs.Prelude.{⊤}
 use Rattle.std.specs.List.{AllByRecursion}
 use Rattle.stab_lex.specs.Pieces.{IsText}
@@ -7,13 +7,12 @@ use Rattle.stab_parse.specs.declared.symbol.Span.{Span}
 use Rattle.stab_parse.specs.declared.symbol.Symbol.{Symbol}
 use Rattle.stab_parse.specs.declared.symbol.Symbol.TheVariants as symbol
 use Rattle.stab_parse.specs.declared.tree.Head.TheVariants as head
-use Rattle.stab_parse.specs.Forms.{leaf, Form, form, Parts, no_parts, next_part, names_of, name_of, block_form, form_of_block, parts_of_items, form_of_item, form_of_expr, form_of_and, form_of_cmp, form_of_sum, form_of_term, form_of_unary, form_of_other, form_of_primary, parts_of_args, form_of_if, form_of_act, body_of}
-use Rattle.stab_parse.specs.FormList.{param_list_of, params_of, param_of, function_of}
-use Rattle.stab_parse.specs.Grammar.{WrittenType, basic_type, chan_type, ref_type, pair_type, Param, param, ParamList, one_param, next_param, Params, no_params, some_params, Callee, called, started, Block, block, block_with_last, Items, no_items, next_item, Item, let_item, form_item, Expr, one_and, or, And, one_cmp, and, Cmp, one_sum, compare, Sum, one_term, plus, minus, Term, one_unary, times, Unary, number, other, Other, literal, least, negate, not, primary, Primary, text, truth, variable, call, call_with, unit, group, pair, in_block, in_if, act, Args, one_arg, next_arg, If, if_then, if_else, if_else_if, Act, new_chan, act_one, act_two, act_alone, Function, function, Program, no_functions, next_function, Piece, sign_of_piece, plain, opener, spell_type, spell_param, spell_param_list, spell_params, spell_callee, spell_block, spell_items, spell_item, spell_expr, spell_and, spell_cmp, spell_sum, spell_term, spell_unary, spell_other, spell_primary, spell_args, spell_if, spell_act, spell_function, spell_program}
+use Rattle.stab_parse.specs.Forms.{leaf, Form, names_of, name_of, block_form, form_of_block, parts_of_items, form_of_item, form_of_expr, form_of_and, form_of_cmp, form_of_sum, form_of_term, form_of_unary, form_of_other, form_of_primary, parts_of_args, form_of_if, form_of_act, body_of}
+use Rattle.stab_parse.specs.Grammar.{WrittenType, basic_type, chan_type, ref_type, pair_type, Param, param, ParamList, one_param, next_param, Params, no_params, some_params, called, started, Block, block, block_with_last, Items, no_items, next_item, Item, let_item, form_item, Expr, one_and, or, And, one_cmp, and, Cmp, one_sum, compare, Sum, one_term, plus, minus, Term, one_unary, times, Unary, number, other, Other, literal, least, negate, not, primary, Primary, text, truth, variable, call, call_with, unit, group, pair, in_block, in_if, act, Args, one_arg, next_arg, If, if_then, if_else, if_else_if, Act, new_chan, act_one, act_two, act_alone, Function, function, Program, no_functions, next_function, Piece, sign_of_piece, plain, opener, spell_type, spell_param, spell_param_list, spell_params, spell_block, spell_items, spell_item, spell_expr, spell_and, spell_cmp, spell_sum, spell_term, spell_unary, spell_other, spell_primary, spell_args, spell_if, spell_act, spell_function, spell_program}
 use Rattle.stab_parse.specs.Symbols.{Sign}
 use Rattle.scope_check.specs.Forms.{number_of}
 use Rattle.scope_check.specs.Names.{named}
-use Rattle.scope_check.specs.Sound.{operands, Fits, IsSound, AreSound, IsSoundProgram}
+use Rattle.scope_check.specs.Sound.{operands, IsSound, AreSound, IsSoundProgram}
 
 -- a block has a part for each item
 number-items : (is : Items) → number_of (parts_of_items is) ≡ length (names_of is)

@@ -1,24 +1,23 @@
 -- A syntax that was read from a text, and how large it is.
 use Rattle.std.proofs.Common.{◌≡◌, ℕ, ◌+◌, ◌*◌, ◌<◌, ◌≤◌, ◌^◌, Bool, true, false, List, [], ◌∷◌, length, map, refl, sym, ap, subst, ◌∙◌, arith}
-use Rattle.std.specs.Prelude.{⊤, if◌then◌else◌, nat_lt, slice_range}
+use Rattle.std.specs.Prelude.{if◌then◌else◌, nat_lt}
 use Rattle.std.specs.List.{AllByRecursion}
 use Rattle.std.proofs.lemmas.List.{length-map}
 use Rattle.stab_lex.specs.declared.kind.Kind.{Kind}
 use Rattle.stab_lex.specs.declared.kind.Kind.TheVariants as kind
 use Rattle.stab_lex.specs.declared.token.Token.{Token}
 use Rattle.stab_lex.specs.Pieces.{IsText}
-use Rattle.stab_lex.specs.Readings.{InOrder, IsSlice, Reads}
+use Rattle.stab_lex.specs.Readings.{InOrder, IsSlice}
 use Rattle.stab_lex.proofs.TextTokens.{texts_are_quoted}
 use Rattle.stab_parse.specs.declared.symbol.Span.{Span}
 use Rattle.stab_parse.specs.declared.symbol.Symbol.TheVariants as symbol
-use Rattle.stab_parse.specs.Faults.{IsParsed}
 use Rattle.stab_parse.specs.FormList.{nodes_of_program}
 use Rattle.stab_parse.specs.Grammar.{Program, IsProgram, pieces_of, sign_of_piece}
-use Rattle.stab_parse.specs.Symbols.{Sign, sign_of, span_of, symbol_of}
+use Rattle.stab_parse.specs.Symbols.{sign_of, span_of, symbol_of}
 use Rattle.scope_check.specs.Names.{named}
 use Rattle.scope_check.specs.Sound.{IsSoundProgram}
 use Rattle.scope_check.proofs.Sizes.{few-program}
-use Rattle.scope_check.proofs.SoundSyntax.{AreSigns, IsSoundSign, IsSoundSymbol, sound-program}
+use Rattle.scope_check.proofs.SoundSyntax.{IsSoundSign, IsSoundSymbol, sound-program}
 
 sound-number : (bytes : List ℕ) (b : Bool) (value : ℕ) (span : Span) → IsSoundSymbol bytes (if b then symbol.Number value else symbol.Greatest) span
 sound-number bytes true value span = tt

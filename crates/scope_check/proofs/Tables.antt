@@ -1,7 +1,7 @@
 -- What is found in a list by what its items stand for.
-use Rattle.std.proofs.Common.{◌≡◌, ℕ, zero, suc, ◌+◌, ◌<◌, ◌≤◌, Bool, true, false, cond, not, ◌||◌, List, [], ◌∷◌, ◌++◌, length, map, Option, Some, None, refl, sym, ap, ◌∙◌, arith, ltb}
-use Rattle.std.specs.Prelude.{bytes_eq, position, is_some, nat_lt}
-use Rattle.std.specs.List.{list_any, position_or_len, prefix_len}
+use Rattle.std.proofs.Common.{◌≡◌, ℕ, ◌+◌, Bool, true, false, cond, not, ◌||◌, List, [], ◌∷◌, length, map, Some, None, refl, ap, ◌∙◌}
+use Rattle.std.specs.Prelude.{position, nat_lt}
+use Rattle.std.specs.List.{list_any, position_or_len}
 use Rattle.std.proofs.lemmas.List.{length-map}
 
 module _ {A B : Type 0} (v : A → B) (p : B → Bool) where

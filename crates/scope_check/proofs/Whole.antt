@@ -1,8 +1,7 @@
 -- A whole program.
-use Rattle.std.proofs.Common.{◌≡◌, inl, inr, ℕ, List, [], ◌∷◌, Some, None, refl, sym, ap, ◌∙◌}
-use Rattle.std.specs.Prelude.{Result, Ok, Err, Option}
+use Rattle.std.proofs.Common.{◌≡◌, ℕ, List, [], None, sym, ap, ◌∙◌}
+use Rattle.std.specs.Prelude.{Result, Ok}
 use Rattle.stab_code.specs.Layout.{nodes_of_all}
-use Rattle.stab_code.specs.Nodes.{NodeParts}
 use Rattle.stab_code.specs.Program.{FunctionParts, ProgramParts, program_of}
 use Rattle.stab_parse.specs.declared.tree.Function.{Function}
 use Rattle.stab_parse.specs.FormList.{functions_of}
@@ -10,7 +9,7 @@ use Rattle.stab_parse.specs.Grammar.{Program}
 use Rattle.scope_check.specs.declared.fault.ScopeFault.{ScopeFault}
 use Rattle.scope_check.specs.declared.progress.Progress.{Progress}
 use Rattle.scope_check.specs.Made.{AreFunctionsMade}
-use Rattle.scope_check.specs.Progress.{IsFaultOf, IsFirstFault, texts_of}
+use Rattle.scope_check.specs.Progress.{texts_of}
 use Rattle.scope_check.specs.Scope.{Defined, after, function_fault, functions_scoped, in_order, main_of, program_scoped, unless}
 
 module _ (bytes : List ℕ) (p : Program) where

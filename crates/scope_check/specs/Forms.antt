@@ -1,5 +1,5 @@
 -- Words on the syntax: the forms of a program's bodies, and what a form's head says.
-use Rattle.std.specs.Prelude.{ℕ, ◌+◌, List, [], ◌∷◌, ◌++◌, Option}
+use Rattle.std.specs.Prelude.{ℕ, ◌+◌, List, [], Option}
 use Rattle.stab_code.specs.declared.head.Head.{Head as Code}
 use Rattle.stab_code.specs.declared.head.Head.TheVariants as code
 use Rattle.stab_parse.specs.declared.symbol.ActWord.{ActWord}
@@ -7,8 +7,7 @@ use Rattle.stab_parse.specs.declared.symbol.ActWord.TheVariants as word
 use Rattle.stab_parse.specs.declared.symbol.Span.{Span}
 use Rattle.stab_parse.specs.declared.tree.Head.{Head}
 use Rattle.stab_parse.specs.declared.tree.Head.TheVariants as head
-use Rattle.stab_parse.specs.Forms.{Form, Parts, no_parts, next_part, body_of}
-use Rattle.stab_parse.specs.Grammar.{Program, no_functions, next_function}
+use Rattle.stab_parse.specs.Forms.{Parts, no_parts, next_part}
 
 -- how many parts there are
 abbrev pub number_of : Parts → ℕ

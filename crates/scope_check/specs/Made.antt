@@ -1,6 +1,6 @@
 -- What the steps through a program's bodies come to: each says of every form at the place what the definition gives for it.
-use Rattle.std.specs.Prelude.{◌≡◌, ◌⊎◌, ℕ, ◌+◌, ◌-◌, List, [], ◌∷◌, ◌++◌, length, reverse, Option, Result, Ok}
-use Rattle.stab_code.specs.Layout.{nodes_of_all, own_node, own_nodes, size_of_all}
+use Rattle.std.specs.Prelude.{◌≡◌, ℕ, ◌-◌, List, [], ◌∷◌, ◌++◌, length, reverse, Option, Result, Ok}
+use Rattle.stab_code.specs.Layout.{nodes_of_all, own_nodes, size_of_all}
 use Rattle.stab_code.specs.Program.{FunctionParts}
 use Rattle.stab_code.specs.Trees.{Tree}
 use Rattle.stab_parse.specs.declared.symbol.Span.{Span}
@@ -8,13 +8,12 @@ use Rattle.stab_parse.specs.declared.tree.FormNode.{FormNode}
 use Rattle.stab_parse.specs.declared.tree.Function.{Function}
 use Rattle.stab_parse.specs.declared.tree.Head.{Head}
 use Rattle.stab_parse.specs.Forms.{Form, form, Parts}
-use Rattle.stab_parse.specs.FormList.{functions_of, nodes_of_program}
+use Rattle.stab_parse.specs.FormList.{nodes_of_program}
 use Rattle.stab_parse.specs.Grammar.{Program}
 use Rattle.scope_check.specs.declared.fault.ScopeFault.{ScopeFault}
-use Rattle.scope_check.specs.declared.fault.ScopeFault.TheVariants.{NoMemory}
 use Rattle.scope_check.specs.declared.progress.Progress.{Progress}
 use Rattle.scope_check.specs.Forms.{items_of}
-use Rattle.scope_check.specs.Placed.{size_of, size_of_parts}
+use Rattle.scope_check.specs.Placed.{size_of_parts}
 use Rattle.scope_check.specs.Places.{IsAt, own_numbers}
 use Rattle.scope_check.specs.Progress.{Adds, IsFaultOf, met_of, seen_of, texts_of}
 use Rattle.scope_check.specs.Scope.{Behind, Defined, Met, behind, form_scoped, function_defined, functions_scoped, in_order, part_met, parts_scoped}
@@ -40,7 +39,8 @@ module _ (bytes : List ℕ) (fs : List Function) (arity : ℕ) (forms : List For
 
   -- one part more, behind some trees and with the slots of the items so far
   abbrev pub part_now : Option (Option Span) → Progress → List (Option ℕ) → List Tree → Form → Result Behind ScopeFault
-  part_now item old slots trees f = part_met arity item (behind trees (seen_of old) (reverse slots) (met_of old)) (λ met. form_scoped bytes fs arity (seen_of old) met f)
+  part_now item old slots trees f =
+      part_met arity item (behind trees (seen_of old) (reverse slots) (met_of old)) (λ met. form_scoped bytes fs arity (seen_of old) met f)
 
   abbrev pub IsPartMade : Option (Option Span) → Progress → List (Option ℕ) → Progress → List (Option ℕ) → Type 0
   IsPartMade item old slots new more =

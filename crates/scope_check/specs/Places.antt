@@ -1,5 +1,5 @@
 -- Where forms stand in the list of a program's forms, and their parts.
-use Rattle.std.specs.Prelude.{◌≡◌, ℕ, ◌+◌, ◌-◌, ◌<◌, ◌≤◌, List, [], ◌∷◌, ◌++◌, length, take, drop, map, slice_range}
+use Rattle.std.specs.Prelude.{◌≡◌, ℕ, ◌+◌, ◌-◌, ◌≤◌, List, [], ◌∷◌, ◌++◌, length, take, drop, map, slice_range}
 use Rattle.std.specs.List.{All}
 use Rattle.stab_code.specs.declared.node_id.NodeId.{NodeId}
 use Rattle.stab_code.specs.Nodes.{id}

@@ -38,10 +38,7 @@ impl<'a> Plan<'a> {
     }
 
     /// Makes the nodes of all bodies, and gives the functions.
-    pub(crate) fn functions(
-        &self,
-        progress: &mut Progress,
-    ) -> Result<Vec<CodeFunction>, ScopeFault>
+    pub(crate) fn functions(&self, progress: &mut Progress) -> Result<Vec<CodeFunction>, ScopeFault>
         requires texts { HaveTexts self.now.bytes.now self.now.forms.now }
         requires nodes { progress.old.nodes ≡ [] }
         requires none { texts_of progress.old ≡ [] }

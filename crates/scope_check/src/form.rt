@@ -14,7 +14,12 @@ use stab_parse::{Head, Span};
 impl<'a> Plan<'a> {
     /// Makes the nodes of a form and of those in it, in a function that takes so many arguments.
     #[cycle(forms)]
-    pub(crate) fn form(&self, progress: &mut Progress, arity: u32, at: usize) -> Result<(), ScopeFault>
+    pub(crate) fn form(
+        &self,
+        progress: &mut Progress,
+        arity: u32,
+        at: usize,
+    ) -> Result<(), ScopeFault>
         requires texts { HaveTexts self.now.bytes.now self.now.forms.now }
         requires there { at < length self.now.forms.now }
         requires few { arity ≤ 8 }
@@ -26,7 +31,9 @@ impl<'a> Plan<'a> {
         let seen = progress.seen.len();
         let slots = self.form_parts(progress, arity, at)?;
         progress.seen.truncate(seen);
-        progress.nodes.push(with_slots(slots, head), self.parts.of(at))?;
+        progress
+            .nodes
+            .push(with_slots(slots, head), self.parts.of(at))?;
         Ok(())
     }
 
@@ -49,7 +56,13 @@ impl<'a> Plan<'a> {
         let head = &self.forms[at].head;
         let mut slots = Vec::new(self.alloc);
         for (i, part) in self.parts.of(at).iter().enumerate() {
-            self.part(progress, arity, &mut slots, item_at(head, i), part.0 as usize)?;
+            self.part(
+                progress,
+                arity,
+                &mut slots,
+                item_at(head, i),
+                part.0 as usize,
+            )?;
         }
         Ok(slots)
     }

@@ -55,7 +55,9 @@ impl<'a> Plan<'a> {
             Head::Pair => Ok(Code::Pair),
             Head::Call(name) => Ok(Code::Call(self.callee(*name, form.parts)?)),
             Head::Start(CallWord::Spawn, name) => Ok(Code::Spawn(self.callee(*name, form.parts)?)),
-            Head::Start(CallWord::Stable, name) => Ok(Code::Stable(self.callee(*name, form.parts)?)),
+            Head::Start(CallWord::Stable, name) => Ok(Code::Stable(self.callee(
+                *name, form.parts,
+            )?)),
             Head::NewChan(ty) => Ok(Code::NewChan(type_of(self.alloc, ty)?)),
             Head::Act(word) => Ok(act(*word)),
         }

@@ -6,7 +6,7 @@ use stab_base::{FnId, TextId};
 use stab_code::{NodeId, Program};
 use stab_lex::lex;
 use stab_parse::parse;
-use std::alloc::Global;
+use std::alloc::{AllocError, Global};
 use std::process::Abort;
 use std::test::Fail;
 
@@ -36,27 +36,38 @@ fn expect_nodes(
     program: &Program,
     nodes: &[&str],
 ) -> Result<(), Fail> {
-    for i in 0..nodes.len() {
-        let node = program
-            .node(NodeId(i as u32))
-            .ok_or("the node is there")?;
-        let written = format!(in alloc; "{:?} {:?}", node.head(), node.parts())?;
-        assert_eq!(rt; written.as_str(), nodes[i], "node {i}");
+    let mut number: u32 = 0;
+    for written in nodes {
+        let node = program.node(NodeId(number)).ok_or("the node is there")?;
+        let found = format!(in alloc; "{:?} {:?}", node.head(), node.parts())?;
+        assert_eq!(rt; found.as_str(), *written, "node {number}");
+        number = number.wrapping_add(1);
     }
-    assert!(rt; program.node(NodeId(nodes.len() as u32)).is_none());
+    assert!(rt; program.node(NodeId(number)).is_none());
     Ok(())
 }
 
 // A function's slots and its body.
-fn expect_function(rt: &impl Abort, program: &Program, f: u32, slots: u32, body: u32) -> Result<(), Fail> {
+fn expect_function(
+    rt: &impl Abort,
+    program: &Program,
+    f: u32,
+    slots: u32,
+    body: u32,
+) -> Result<(), Fail> {
     let function = program.function(FnId(f)).ok_or("the function is there")?;
-    assert_eq!(rt; (function.slots(), function.body()), (slots, NodeId(body)), "function {f}");
+    assert_eq!(rt;
+        (function.slots(), function.body()),
+        (slots, NodeId(body)),
+        "function {f}"
+    );
     Ok(())
 }
 
 #[test]
 fn two_functions_and_a_missing_else(rt: HostRuntime) -> Result<(), Fail> {
-    let text = "fn main(): unit { if plus(1, 2) == 3 { cut() } }\nfn plus(a: int, b: int): int { a + b }";
+    let text =
+        "fn main(): unit { if plus(1, 2) == 3 { cut() } }\nfn plus(a: int, b: int): int { a + b }";
     let program = program_of(&rt, rt.alloc(), text);
     assert_eq!(rt; program.main(), FnId(0));
     assert_eq!(rt; program.functions(), 2);
@@ -86,7 +97,8 @@ fn two_functions_and_a_missing_else(rt: HostRuntime) -> Result<(), Fail> {
 
 #[test]
 fn nested_blocks_and_hidden_lets(rt: HostRuntime) -> Result<(), Fail> {
-    let text = "fn f(x: int): int { let x = { let y = x; y; x }; let x = x; x } fn main(): int { f(1) }";
+    let text =
+        "fn f(x: int): int { let x = { let y = x; y; x }; let x = x; x } fn main(): int { f(1) }";
     let program = program_of(&rt, rt.alloc(), text);
     expect_nodes(
         &rt,
@@ -139,9 +151,10 @@ fn texts_that_repeat(rt: HostRuntime) -> Result<(), Fail> {
 }
 
 #[test]
-fn each_head(rt: HostRuntime) -> Result<(), Fail> {
-    let text = "fn main(): unit { spawn g(ref(1), get(chan[(int, ref[text])]())); stable g(true, ()); set(fst(1), snd(2));
-        send(recv(1), pick(1, 2)); stabilize(); pin(); probe(); attempt(); !(-main()) } fn g(a: int, b: int): int { (a, -3) }";
+fn calls_and_values(rt: HostRuntime) -> Result<(), Fail> {
+    let text =
+        "fn main(): unit { spawn g(ref(1), get(chan[(int, ref[text])]())); stable g(true, ()); pin(); !(-main()) }
+        fn g(a: int, b: int): int { (a, -3) }";
     let program = program_of(&rt, rt.alloc(), text);
     expect_nodes(
         &rt,
@@ -156,31 +169,45 @@ fn each_head(rt: HostRuntime) -> Result<(), Fail> {
             "Truth(true) []",
             "Unit []",
             "Stable(FnId(1)) [NodeId(5), NodeId(6)]",
-            "Int(1) []",
-            "Fst [NodeId(8)]",
-            "Int(2) []",
-            "Snd [NodeId(10)]",
-            "Set [NodeId(9), NodeId(11)]",
-            "Int(1) []",
-            "Recv [NodeId(13)]",
-            "Int(1) []",
-            "Int(2) []",
-            "Pick [NodeId(15), NodeId(16)]",
-            "Send [NodeId(14), NodeId(17)]",
-            "Stabilize []",
             "Pin []",
-            "Probe []",
-            "Attempt []",
             "Call(FnId(0)) []",
-            "Neg [NodeId(23)]",
-            "Not [NodeId(24)]",
-            "Block(Slots { slots: [None, None, None, None, None, None, None, None] }) [NodeId(4), NodeId(7), NodeId(12), NodeId(18), NodeId(19), NodeId(20), NodeId(21), NodeId(22), NodeId(25)]",
+            "Neg [NodeId(9)]",
+            "Not [NodeId(10)]",
+            "Block(Slots { slots: [None, None, None] }) [NodeId(4), NodeId(7), NodeId(8), NodeId(11)]",
             "Var(0) []",
             "Int(-3) []",
-            "Pair [NodeId(27), NodeId(28)]",
+            "Pair [NodeId(13), NodeId(14)]",
         ],
-    )?;
-    Ok(())
+    )
+}
+
+#[test]
+fn acts(rt: HostRuntime) -> Result<(), Fail> {
+    let text =
+        "fn main(): unit { set(fst(1), snd(2)); send(recv(1), pick(1, 2)); stabilize(); probe(); attempt() }";
+    let program = program_of(&rt, rt.alloc(), text);
+    expect_nodes(
+        &rt,
+        rt.alloc(),
+        &program,
+        &[
+            "Int(1) []",
+            "Fst [NodeId(0)]",
+            "Int(2) []",
+            "Snd [NodeId(2)]",
+            "Set [NodeId(1), NodeId(3)]",
+            "Int(1) []",
+            "Recv [NodeId(5)]",
+            "Int(1) []",
+            "Int(2) []",
+            "Pick [NodeId(7), NodeId(8)]",
+            "Send [NodeId(6), NodeId(9)]",
+            "Stabilize []",
+            "Probe []",
+            "Attempt []",
+            "Block(Slots { slots: [None, None, None, None] }) [NodeId(4), NodeId(10), NodeId(11), NodeId(12), NodeId(13)]",
+        ],
+    )
 }
 
 #[test]
@@ -189,24 +216,96 @@ fn faults(rt: HostRuntime) -> Result<(), Fail> {
         ("", ScopeFault::NoMain),
         ("fn f(): unit { x }", ScopeFault::NoMain),
         ("fn main(x: int): unit { y }", ScopeFault::MainTakes),
-        ("fn main(): unit { x } fn main(): unit {}", ScopeFault::Twice(25, 4)),
-        ("fn f(ab: int, ab: int): unit {} fn f(): unit {}", ScopeFault::Twice(14, 2)),
+        (
+            "fn main(): unit { x } fn main(): unit {}",
+            ScopeFault::Twice(25, 4),
+        ),
+        (
+            "fn f(ab: int, ab: int): unit {} fn f(): unit {}",
+            ScopeFault::Twice(14, 2),
+        ),
         (
             "fn f(a: int, b: int, c: int, d: int, e: int, f: int, g: int, h: int, a: int): unit {}",
             ScopeFault::TooMany(69),
         ),
         ("fn main(): unit { x }", ScopeFault::Unknown(18, 1)),
-        ("fn main(): unit { let xy = xy; }", ScopeFault::Unknown(27, 2)),
-        ("fn main(): unit { { let x = 1; }; x }", ScopeFault::Unknown(34, 1)),
+        (
+            "fn main(): unit { let xy = xy; }",
+            ScopeFault::Unknown(27, 2),
+        ),
+        (
+            "fn main(): unit { { let x = 1; }; x }",
+            ScopeFault::Unknown(34, 1),
+        ),
         ("fn main(): unit { main(x) }", ScopeFault::Arity(18)),
         ("fn main(): unit { spawn main(1) }", ScopeFault::Arity(24)),
         ("fn main(): unit { none(x) }", ScopeFault::Unknown(18, 4)),
-        ("fn main(): unit { stable main(1); x }", ScopeFault::Arity(25)),
+        (
+            "fn main(): unit { stable main(1); x }",
+            ScopeFault::Arity(25),
+        ),
     ] {
         let Err(found) = scoped(&rt, rt.alloc(), text) else {
             panic!(rt; "the text is no program");
         };
         assert_eq!(rt; found, fault, "{text}");
     }
+    Ok(())
+}
+
+// A body of so many items that are the same.
+fn repeated(alloc: Global, item: &str, times: u32) -> Result<String, AllocError> {
+    let mut text = String::new(alloc);
+    text.push_str("fn main(): unit { ")?;
+    for _ in 0..times {
+        text.push_str(item)?;
+    }
+    text.push_str("}")?;
+    Ok(text)
+}
+
+// A body with the texts from 1000 up to a number.
+fn distinct_texts(alloc: Global, end: u32) -> Result<String, AllocError> {
+    let mut text = String::new(alloc);
+    text.push_str("fn main(): unit { ")?;
+    for i in 1000..end {
+        text.push_str(format!(in alloc; "\"{i}\"; ")?.as_str())?;
+    }
+    text.push_str("}")?;
+    Ok(text)
+}
+
+// Functions with numbers in their names, from 1000 up to one.
+fn distinct_functions(alloc: Global, end: u32) -> Result<String, AllocError> {
+    let mut text = String::new(alloc);
+    for i in 1000..end {
+        text.push_str(format!(in alloc; "fn f{i}(): unit {{}} ")?.as_str())?;
+    }
+    Ok(text)
+}
+
+#[test]
+fn as_many_as_there_may_be(rt: HostRuntime) -> Result<(), Fail> {
+    let alloc = rt.alloc();
+    let lets = program_of(&rt, alloc, repeated(alloc, "let a = 1; ", 200)?.as_str());
+    expect_function(&rt, &lets, 0, 200, 201)?;
+    let one_more = scoped(&rt, alloc, repeated(alloc, "let a = 1; ", 201)?.as_str());
+    assert!(rt; matches!(one_more, Err(ScopeFault::TooMany(2222))));
+    let texts = program_of(&rt, alloc, distinct_texts(alloc, 2000)?.as_str());
+    assert_eq!(rt; texts.texts().len(), 1000);
+    let one_more = scoped(&rt, alloc, distinct_texts(alloc, 2001)?.as_str());
+    assert!(rt; matches!(one_more, Err(ScopeFault::TooMany(8018))));
+    let functions = scoped(&rt, alloc, distinct_functions(alloc, 2000)?.as_str());
+    assert!(rt; matches!(functions, Err(ScopeFault::NoMain)));
+    let one_more = scoped(&rt, alloc, distinct_functions(alloc, 2001)?.as_str());
+    assert!(rt; matches!(one_more, Err(ScopeFault::TooMany(20003))));
+    Ok(())
+}
+
+#[test]
+fn a_long_block(rt: HostRuntime) -> Result<(), Fail> {
+    let alloc = rt.alloc();
+    let program = program_of(&rt, alloc, repeated(alloc, "1; ", 100_000)?.as_str());
+    assert_eq!(rt; program.body(FnId(0)), Some(NodeId(100_001)));
     Ok(())
 }

@@ -1,6 +1,4 @@
-use Rattle.std.proofs.Common.{◌≡◌, ◌<◌, inr, length, sym, ap, ◌∙◌, arith, None, Some}
-use Rattle.std.specs.Prelude.{Option}
-use Rattle.scope_check.specs.declared.fault.ScopeFault.{ScopeFault}
+use Rattle.std.proofs.Common.{◌<◌, inr, length, sym, ap, ◌∙◌, arith, Some}
 use Rattle.scope_check.specs.Limits.{max_functions}
 use Rattle.scope_check.proofs.Declared.{fault-param, fault-twice, names-next, no-fault}
 use Rattle.scope_check.proofs.header.function_names.Goals as goal
@@ -9,7 +7,7 @@ pub returns-then-not-branch-clause-fault : goal.returns-then-not-branch-clause-f
 returns-then-not-branch-clause-fault c =
     let room : length c.loop-function.names.keys < max_functions = omega (arith, c.len.ensures.len) in
     let fault = fault-twice c.args.bytes.now c.args.functions.now c.loop-function.function-index c.function-item.result c.loop-function-test.true c.function-item.is
-        c.loop-function.names.keys c.written.result c.written.ensures c.loop-function.invariant.fault c.loop-function.invariant.names room c.in_ok-insert.field-0 c.in_ok-insert.ensures.added c.if-not-branch.true in
+    c.loop-function.names.keys c.written.result c.written.ensures c.loop-function.invariant.fault c.loop-function.invariant.names room c.in_ok-insert.field-0 c.in_ok-insert.ensures.added c.if-not-branch.true in
     inr (fault ∙ ap Some (sym c.twice.ensures))
 
 pub returns-in-Some-clause-fault : goal.returns-in-Some-clause-fault

@@ -1,4 +1,3 @@
-use Rattle.std.proofs.Common.{arith}
 use Rattle.stab_lex.proofs.Spans.{reads_in_order, reads_slices}
 use Rattle.scope_check.proofs.Programs.{program-valid}
 use Rattle.scope_check.proofs.SoundTokens.{few-forms, few-nodes, sound-parsed}

@@ -1,7 +1,7 @@
-use Rattle.std.proofs.Common.{◌≡◌, ◌<◌, ◌^◌, ap, length, sym, subst, ◌∙◌}
+use Rattle.std.proofs.Common.{◌<◌, ◌^◌, length, sym, subst, ◌∙◌}
 use Rattle.stab_code.specs.Program.{program_of}
 use Rattle.stab_code.specs.Valid.{IsValid}
-use Rattle.stab_parse.specs.FormList.{functions_of, nodes_of_program}
+use Rattle.stab_parse.specs.FormList.{nodes_of_program}
 use Rattle.scope_check.specs.Progress.{AreWithin, HaveTexts}
 use Rattle.scope_check.proofs.Known.{all-within, few-named, few-read, texts-read, valid-read}
 use Rattle.scope_check.proofs.Whole.{program-made}

@@ -23,7 +23,7 @@ form-returns-in_err-slots-clause-fault t c =
     let node = get_or plan.forms.now c.args.at c.index-self-at.result in
     let found = slice_get-get_or plan.forms.now c.args.at c.index-self-at.result c.requires.there in
     let head : HeadMet plan.bytes.now plan.functions.now c.args.arity plan.forms.now plan.fewer node c.args.progress.now c.head.new.progress c.in_ok-head.head =
-        record { met = c.in_ok-head.ensures.head; nodes = c.in_ok-head.ensures.others.0; seen = c.in_ok-head.ensures.others.1 } in
+    record { met = c.in_ok-head.ensures.head; nodes = c.in_ok-head.ensures.others.0; seen = c.in_ok-head.ensures.others.1 } in
     rw (p.1, p.2) (form-parts-fault plan.bytes.now plan.functions.now c.args.arity plan.forms.now plan.fewer c.args.at c.args.progress.now c.head.new.progress node found c.in_ok-head.head head c.in_err-slots.field-0.0 c.in_err-slots.ensures.fault)
 
 pub form-of-requires : goal.form-of-requires
@@ -35,7 +35,7 @@ form-returns-clause-ok t c =
     let node = get_or plan.forms.now c.args.at c.index-self-at.result in
     let found = slice_get-get_or plan.forms.now c.args.at c.index-self-at.result c.requires.there in
     let head : HeadMet plan.bytes.now plan.functions.now c.args.arity plan.forms.now plan.fewer node c.args.progress.now c.head.new.progress c.in_ok-head.head =
-        record { met = c.in_ok-head.ensures.head; nodes = c.in_ok-head.ensures.others.0; seen = c.in_ok-head.ensures.others.1 } in
+    record { met = c.in_ok-head.ensures.head; nodes = c.in_ok-head.ensures.others.0; seen = c.in_ok-head.ensures.others.1 } in
     let last = c.form_parts.new.progress in
     let listed : slice_get (part_lists 0 [] plan.forms.now) c.args.at ≡ Some c.of.result.now = ap (λ l. slice_get l c.args.at) (sym plan.laid) ∙ c.of.ensures in
     form-made plan.bytes.now plan.functions.now c.args.arity plan.forms.now plan.fewer c.args.at c.args.progress.now c.head.new.progress node found c.in_ok-head.head head

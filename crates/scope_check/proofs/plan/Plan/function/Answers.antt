@@ -1,4 +1,4 @@
-use Rattle.std.proofs.Common.{[], ◌≡◌, ◌+◌, ◌-◌, ap, length, map, refl, sym, subst, ◌∙◌}
+use Rattle.std.proofs.Common.{[], ◌+◌, ◌-◌, ap, length, map, refl, sym, subst, ◌∙◌}
 use Rattle.scope_check.specs.Made.{IsFormMade, IsFunctionMade}
 use Rattle.scope_check.specs.Seen.{params_seen}
 use Rattle.scope_check.proofs.Functions.{function-made}

@@ -1,4 +1,4 @@
-use Rattle.std.proofs.Common.{◌≡◌, ◌+◌, arith, refl, sym, subst}
+use Rattle.std.proofs.Common.{◌+◌, arith, refl, sym, subst}
 use Rattle.std.proofs.lemmas.Option.{slice_get_read}
 use Rattle.std.proofs.lemmas.Result.{err_from_is_err_and}
 use Rattle.scope_check.proofs.Functions.{FunctionsSoFar, functions-all, functions-fault, functions-next, functions-none}

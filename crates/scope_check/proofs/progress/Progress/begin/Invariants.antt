@@ -1,4 +1,4 @@
-use Rattle.std.proofs.Common.{◌≡◌, [], drop, length, take}
+use Rattle.std.proofs.Common.{◌≡◌, [], drop}
 use Rattle.std.specs.Prelude.{reverse}
 use Rattle.scope_check.specs.Progress.{texts_of}
 use Rattle.scope_check.specs.Seen.{params_seen}

@@ -1,7 +1,6 @@
-use Rattle.std.proofs.Common.{◌≡◌, ◌<◌, ◌≤◌, Bool, false, inr, length, ap, ◌∙◌, arith, Some}
+use Rattle.std.proofs.Common.{inr, ap, ◌∙◌, arith}
 use Rattle.std.specs.Prelude.{bytes_eq, position}
 use Rattle.std.specs.List.{list_any}
-use Rattle.scope_check.specs.Limits.{max_texts}
 use Rattle.scope_check.proofs.Numbered.{text-found, text-full, text-new}
 use Rattle.scope_check.proofs.progress.Progress.number_text.Goals as goal
 
