@@ -16,7 +16,7 @@ use Rattle.stab_top.specs.declared.report.Status.{Status}
 use Rattle.stab_top.specs.declared.report.Status.TheVariants.{Done, Held, BadWords, BadText, NoFile, TooBig, FileFault, SinkFault, Spent, NoMemory, BadProbes, BadTrace, BadScript, No, NotBuilt}
 use Rattle.stab_top.specs.declared.report.Role.TheVariants.{Program}
 use Rattle.stab_top.specs.Words.{is_built}
-use Rattle.stab_top.specs.Device.{Device, Rests}
+use Rattle.stab_top.specs.Device.{Device}
 use Rattle.stab_top.specs.Ending.{CheckEnds, RunEnds}
 use Rattle.stab_top.specs.Loading.{Finds, LoadRefused, Loads, max_bytes}
 use Rattle.stab_top.specs.Reading.{Holds, ReadRefused, TextRefused}

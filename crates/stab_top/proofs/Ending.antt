@@ -1,5 +1,5 @@
 -- What a status says of a run that is over.
-use Rattle.std.proofs.Common.{◌≡◌, inl, inr, ℕ, List, [], Some, refl, ap, sym, subst, ◌∙◌}
+use Rattle.std.proofs.Common.{◌≡◌, inl, inr, ℕ, List, [], Some, ap, sym, subst}
 use Rattle.plain_language.specs.Plain.{PlainState, language_of}
 use Rattle.plain_language.specs.Quiet.{IsQuiet}
 use Rattle.plain_run.specs.Book.{Book, IsBook, IsOver, IsShown, IsSpent}

@@ -6,11 +6,9 @@ use Rattle.stab_words.specs.declared.request.Request.TheVariants.{Run, Trace, Ve
 use Rattle.stab_words.specs.declared.request.RunArgs.{RunArgs}
 use Rattle.stab_words.specs.declared.request.WordFault.{WordFault}
 use Rattle.std.proofs.lemmas.Bool.{false≢true}
-use Rattle.stab_top.specs.declared.report.Status.{Status}
 use Rattle.stab_top.specs.declared.report.Status.TheVariants.{NoMemory}
 use Rattle.stab_top.specs.Reason.{blames_file, no_blame}
 use Rattle.stab_top.specs.Words.{is_built}
-use Rattle.stab_top.specs.Device.{Rests}
 use Rattle.stab_top.specs.Loading.{LoadRefused, blamed}
 use Rattle.stab_top.specs.Reading.{Blames, ReadRefused}
 use Rattle.stab_top.specs.declared.report.Role.TheVariants.{Program}
