@@ -94,6 +94,7 @@ impl Reader {
     }
 
     /// A token where a form is owed.
+    #[inline(never)]
     pub(crate) fn begins(
         &mut self,
         alloc: Global,
@@ -128,6 +129,7 @@ impl Reader {
     }
 
     /// A token behind a minus.
+    #[inline(never)]
     pub(crate) fn signed(
         &mut self,
         alloc: Global,
@@ -149,6 +151,7 @@ impl Reader {
     }
 
     /// A token behind a bracket that begins a form.
+    #[inline(never)]
     pub(crate) fn opened(
         &mut self,
         alloc: Global,
@@ -168,6 +171,7 @@ impl Reader {
     }
 
     /// A token behind the bracket of a call.
+    #[inline(never)]
     pub(crate) fn call_open(
         &mut self,
         alloc: Global,
@@ -188,6 +192,7 @@ impl Reader {
     }
 
     /// A token where an item may begin.
+    #[inline(never)]
     pub(crate) fn in_items(
         &mut self,
         alloc: Global,
@@ -208,6 +213,7 @@ impl Reader {
     }
 
     /// A token behind a name.
+    #[inline(never)]
     pub(crate) fn named(
         &mut self,
         alloc: Global,
@@ -226,6 +232,7 @@ impl Reader {
     }
 
     /// A token behind the block that follows a condition.
+    #[inline(never)]
     pub(crate) fn then_read(
         &mut self,
         alloc: Global,
@@ -246,6 +253,7 @@ impl Reader {
     }
 
     /// A token behind an `else`.
+    #[inline(never)]
     pub(crate) fn else_read(
         &mut self,
         alloc: Global,
@@ -269,6 +277,7 @@ impl Reader {
     }
 
     /// The bracket behind a word, with the frame that it opens.
+    #[inline(never)]
     pub(crate) fn bracket(&mut self, frame: Frame, symbol: Symbol) -> Result<Step, ParseFault>
         ensures ok { IfOk result (λ step. outcome step self.new ≡ bracket frame symbol self.old) }
         ensures fault { IfErr result (λ fault. fault ≡ ParseFault.NoMemory) }
@@ -282,6 +291,7 @@ impl Reader {
         }
     }
 
+    #[inline(never)]
     pub(crate) fn paren(&mut self, next: Phase, symbol: Symbol) -> Result<Step, ParseFault>
         ensures ok { IfOk result (λ step. outcome step self.new ≡ paren next symbol self.old) }
         ensures fault { IfErr result (λ fault. fault ≡ ParseFault.NoMemory) }
@@ -292,6 +302,7 @@ impl Reader {
         }
     }
 
+    #[inline(never)]
     pub(crate) fn paren_in(&mut self, frame: Frame, symbol: Symbol) -> Result<Step, ParseFault>
         ensures ok { IfOk result (λ step. outcome step self.new ≡ paren_in frame symbol self.old) }
         ensures fault { IfErr result (λ fault. fault ≡ ParseFault.NoMemory) }
@@ -305,6 +316,7 @@ impl Reader {
         }
     }
 
+    #[inline(never)]
     pub(crate) fn paren_end(
         &mut self,
         head: Head,
@@ -320,6 +332,7 @@ impl Reader {
         }
     }
 
+    #[inline(never)]
     pub(crate) fn word_read(
         &mut self,
         word: CallWord,
@@ -336,6 +349,7 @@ impl Reader {
         }
     }
 
+    #[inline(never)]
     pub(crate) fn let_read(&mut self, symbol: Symbol, span: Span) -> Result<Step, ParseFault>
         ensures ok { IfOk result (λ step. outcome step self.new ≡ let_read symbol span self.old) }
         ensures fault { IfErr result (λ fault. fault ≡ ParseFault.NoMemory) }
@@ -346,6 +360,7 @@ impl Reader {
         }
     }
 
+    #[inline(never)]
     pub(crate) fn let_named(&mut self, name: Span, symbol: Symbol) -> Result<Step, ParseFault>
         ensures ok { IfOk result (λ step. outcome step self.new ≡ let_named name symbol self.old) }
         ensures fault { IfErr result (λ fault. fault ≡ ParseFault.NoMemory) }

@@ -318,6 +318,7 @@ impl Reader {
     }
 
     /// A token behind a term.
+    #[inline(never)]
     pub(crate) fn ends(
         &mut self,
         alloc: Global,

@@ -24,6 +24,7 @@ fn basic(word: BasicType) -> ParsedType
 }
 
 impl Reader {
+    #[inline(never)]
     pub(crate) fn between(&mut self, symbol: Symbol) -> Result<Step, ParseFault>
         ensures ok { IfOk result (λ step. outcome step self.new ≡ between symbol self.old) }
         ensures fault { IfErr result (λ fault. fault ≡ ParseFault.NoMemory) }
@@ -34,6 +35,7 @@ impl Reader {
         }
     }
 
+    #[inline(never)]
     pub(crate) fn fn_read(&mut self, symbol: Symbol, span: Span) -> Result<Step, ParseFault>
         ensures ok { IfOk result (λ step. outcome step self.new ≡ fn_read symbol span self.old) }
         ensures fault { IfErr result (λ fault. fault ≡ ParseFault.NoMemory) }
@@ -44,6 +46,7 @@ impl Reader {
         }
     }
 
+    #[inline(never)]
     pub(crate) fn params_open(
         &mut self,
         alloc: Global,
@@ -61,6 +64,7 @@ impl Reader {
         }
     }
 
+    #[inline(never)]
     pub(crate) fn param_owed(
         &mut self,
         function: Span,
@@ -77,6 +81,7 @@ impl Reader {
         }
     }
 
+    #[inline(never)]
     pub(crate) fn param_named(
         &mut self,
         function: Span,
@@ -96,6 +101,7 @@ impl Reader {
         }
     }
 
+    #[inline(never)]
     pub(crate) fn params_closed(
         &mut self,
         function: Span,
@@ -115,6 +121,7 @@ impl Reader {
     }
 
     /// A token where a type is owed.
+    #[inline(never)]
     pub(crate) fn owes_type(&mut self, symbol: Symbol) -> Result<Step, ParseFault>
         ensures ok { IfOk result (λ step. outcome step self.new ≡ owes_type symbol self.old) }
         ensures fault { IfErr result (λ fault. fault ≡ ParseFault.NoMemory) }
@@ -249,6 +256,7 @@ impl Reader {
     }
 
     /// A token behind a type.
+    #[inline(never)]
     pub(crate) fn has_type(
         &mut self,
         alloc: Global,

@@ -35,7 +35,7 @@ impl Phase {
 }
 
 impl Reader {
-    /// What a token does.
+    /// What a token does. No phase's function is inlined here, since one token would then pay for the locals of all.
     fn step(
         &mut self,
         alloc: Global,
