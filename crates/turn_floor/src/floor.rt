@@ -32,8 +32,10 @@ const TURN: usize = 0;
 // The word that says how long the history is.
 const FRONT: usize = 1;
 
-// How often a worker looks at the turn before it sleeps.
+// How often a worker looks at the turn before it sleeps, and how many pauses it makes between two looks at most.
 const LOOKS: u32 = 40;
+
+const PAUSES: u32 = 8;
 
 // How often a worker that rests lets others run before it sleeps.
 const YIELDS: u32 = 20;
@@ -178,13 +180,13 @@ impl<K: Kept, C: Ledger, S: Ledger> Floor<K, C, S> {
         unreachable!()
     }
 
-    // Returns when the turn was given, or sooner.
+    // Returns when the turn was given, or sooner. The looks become rarer, since each one slows the holder's give.
     fn wait_for_turn<R: Wait>(&self, rt: &R) {
-        for _ in 0..LOOKS {
+        for look in 0..LOOKS {
             if self.table.shared.peek(TURN) == 0 {
                 return;
             }
-            spin_loop();
+            pause(look.min(PAUSES));
         }
         self.waiting.fetch_add(1, SeqCst);
         self.table.shared.park(rt, TURN, 1);
@@ -251,5 +253,13 @@ impl<K: Kept, C: Ledger, S: Ledger> Floor<K, C, S> {
         if self.resting.load(SeqCst) > 0 {
             self.table.shared.wake_all(FRONT);
         }
+    }
+}
+
+fn pause(more: u32)
+    requires { more ≤ PAUSES }
+{
+    for _ in 0..more + 1 {
+        spin_loop();
     }
 }
