@@ -1,5 +1,7 @@
+mod no_steps;
+mod pure_steps;
+
 use super::*;
-use crate::operators::{number_of, operate};
 use stab_base::{ChanId, Fault, FnId, NoMemory, RefId, Seq, Texts, ThreadId, Value};
 use stab_code::{Function, Head as NodeHead, NodeId, Nodes, Op, Program, Ty, TyForm};
 use stab_journal::Label;
@@ -11,36 +13,20 @@ fn no_memory<E: Drop>(_refused: E) -> Fail {
     Fail::from("no memory")
 }
 
-fn number(op: Op, m: i64, n: i64) -> Result<Option<i64>, Fault> {
-    let v = operate(op, &Value::int(m), &Value::int(n))?;
-    Ok(number_of(&v))
-}
-
-#[test]
-fn operators_of_numbers(rt: HostRuntime) {
-    assert_eq!(rt; number(Op::Add, 3, 4), Ok(Some(7)));
-    assert_eq!(rt; number(Op::Sub, 3, 4), Ok(Some(-1)));
-    assert_eq!(rt; number(Op::Mul, -3, 4), Ok(Some(-12)));
-    assert_eq!(rt; number(Op::Div, -7, 2), Ok(Some(-3)));
-    assert_eq!(rt; number(Op::Rem, -7, 2), Ok(Some(-1)));
-    assert_eq!(rt; number(Op::Rem, 7, -2), Ok(Some(1)));
-    assert_eq!(rt; number(Op::Div, 1, 0), Err(Fault::ZeroDivisor));
-    assert_eq!(rt; number(Op::Div, i64::MIN, -1), Err(Fault::Overflow));
-    assert_eq!(rt; number(Op::Rem, i64::MIN, -1), Err(Fault::Overflow));
-    assert_eq!(rt; number(Op::Add, i64::MAX, 1), Err(Fault::Overflow));
-    assert_eq!(rt; number(Op::Lt, 1, 2), Ok(None));
-}
-
-fn over(alloc: Global, head: Head, parts: [Expr; 2]) -> Result<Expr, NoMemory> {
+fn form<const N: usize>(alloc: Global, head: Head, parts: [Expr; N]) -> Result<Expr, NoMemory> {
     Ok(Expr::form(head, Vec::from_array(alloc, parts)?))
 }
 
+fn int(n: i64) -> Expr {
+    Expr::value(Value::int(n))
+}
+
+fn truth(b: bool) -> Expr {
+    Expr::value(Value::truth(b))
+}
+
 fn sent(alloc: Global, c: Value) -> Result<Expr, NoMemory> {
-    over(
-        alloc,
-        Head::Send,
-        [Expr::value(c), Expr::value(Value::int(5))],
-    )
+    form(alloc, Head::Send, [Expr::value(c), int(5)])
 }
 
 #[test]
@@ -56,7 +42,7 @@ fn what_is_next(rt: HostRuntime) -> Result<(), Fail> {
     let wrong = sent(alloc, Value::int(3)).map_err(no_memory)?;
     assert_eq!(rt; wrong.look(), Look::Pure);
     let inner = sent(alloc, Value::chan(ChanId(3))).map_err(no_memory)?;
-    let held = over(alloc, Head::Pair, [Expr::value(Value::unit()), inner]).map_err(no_memory)?;
+    let held = form(alloc, Head::Pair, [Expr::value(Value::unit()), inner]).map_err(no_memory)?;
     assert_eq!(rt; held.look(), Look::Act(ActKind::Send));
     Ok(())
 }
