@@ -156,8 +156,12 @@ impl<K: Kept, C: Ledger, S: Ledger> Floor<K, C, S> {
     {
         self.take(rt, seat);
         let (answer, len) = self.serve(seat, worker, ask, commits, stale);
+        let grown = self.table.shared.peek(FRONT) != len;
         self.show(seat, len);
         self.give(seat);
+        if grown {
+            self.wake_resting();
+        }
         (answer, len)
     }
 
@@ -237,7 +241,7 @@ impl<K: Kept, C: Ledger, S: Ledger> Floor<K, C, S> {
         self.table.shared.store::<Show<K, C, S>>(seat, FRONT, len);
     }
 
-    // Gives the turn back, and wakes one that sleeps for it and all that sleep for an event.
+    // Gives the turn back, and wakes one that sleeps for it.
     fn give(&self, seat: &mut Place<K, C, S>)
         requires id { seat.old.table_id ≡ self.now.table }
         requires live { (seat.old.me.0.holds ≡ true) × (0 < seat.old.me.0.seats) }
@@ -250,6 +254,10 @@ impl<K: Kept, C: Ledger, S: Ledger> Floor<K, C, S> {
         if self.waiting.load(SeqCst) > 0 {
             self.table.shared.wake_one(TURN);
         }
+    }
+
+    // Wakes all that sleep for an event.
+    fn wake_resting(&self) {
         if self.resting.load(SeqCst) > 0 {
             self.table.shared.wake_all(FRONT);
         }
