@@ -10,7 +10,8 @@ use stab_parse::parse;
 use std::alloc::Global;
 
 /// The program of a text, or its first fault: what isn't tokens comes before what isn't syntax, and that before names that
-/// mean nothing. It takes time that grows with the length of the text, and nothing of it recurses on the text.
+/// mean nothing. It takes time that grows with the length of the text. Calls go as deep as forms and types stand in each other,
+/// at most 200, and else nothing of it recurses on the text.
 pub fn read_program(alloc: Global, bytes: &[u8]) -> Result<Program, TextFault>
     requires { length bytes.now ≤ 1048576 }
     ensures program { IfOk result (IsTextOf bytes.now) }
