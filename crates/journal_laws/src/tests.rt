@@ -127,6 +127,7 @@ fn the_laws_of_the_cascade(rt: HostRuntime) -> Result<(), Fail> {
     let end = played(alloc, &program, &run)?.ok_or("the steps are a run of the program")?;
     let gone = reached(alloc, &run, Seq(17))?;
     conclude(&program, &run, Seq(17), &gone, &end);
+    call_laws_of_programs(alloc, &program, &run, Seq(17), &gone)?;
     let first = ThreadId(1);
     assert_eq!(rt; end.look(first), Some(Look::Act(ActKind::Stabilize)));
     assert_eq!(rt; end.mark(first), Some(Seq(17)));
