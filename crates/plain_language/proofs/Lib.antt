@@ -16,7 +16,6 @@ pub mod Ranges
 pub mod Resting
 pub mod Showing
 pub mod Staying
-pub mod TestPrograms
 pub mod ThirdAttempt
 pub mod Touching
 pub mod Unique

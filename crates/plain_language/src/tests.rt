@@ -1,6 +1,5 @@
 mod no_steps;
 mod pure_steps;
-mod runs;
 
 use super::*;
 use stab_base::{ChanId, Fault, FnId, NoMemory, RefId, Seq, Texts, ThreadId, Value};

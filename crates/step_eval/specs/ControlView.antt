@@ -1,6 +1,5 @@
 -- A control without addresses, and the expression that it stands for.
 use Rattle.std.specs.Prelude.{◌≡◌, ◌<◌, ⊤, List, [], length, slice_get, Option, Some, None}
-use Rattle.std.specs.Arc.{arc_value}
 use Rattle.stab_base.specs.Datum.{Datum}
 use Rattle.stab_base.specs.declared.fault.Fault.{Fault}
 use Rattle.stab_base.specs.declared.numbers.Seq.{Seq}
@@ -63,7 +62,7 @@ module _ (p : ProgramParts) where
 
   abbrev pub FocusFits : FocusView → List FrameView → Type 0
   FocusFits (begun n env) round = (n.0 < length p.nodes) × IsForm (node_at p n).head × IsScoped (length env) (tree_at p n)
-  FocusFits (settled here) round = IsSettled p here × (told (turn_at p here) ≡ None)
+  FocusFits (settled here) round = IsSettled p here
   FocusFits (acting a here) round = IsSettled p here × (told (turn_at p here) ≡ Some (act_of (body p) here.done a))
   FocusFits (value v) round = ⊤
   FocusFits (fault k) round = round ≡ []
@@ -73,12 +72,13 @@ module _ (p : ProgramParts) where
     pub focus : FocusFits c.focus c.round
     pub frames : FramesFit p c.mark c.round
 
--- a form that is begun is to be searched, and so is a value within frames
-abbrev pub IsFound : FocusView → List FrameView → Type 0
-IsFound (begun n env) round = ⊥
-IsFound (value v) round = round ≡ []
-IsFound what round = ⊤
+  abbrev pub IsFound : FocusView → List FrameView → Type 0
+  IsFound (begun n env) round = ⊥
+  IsFound (settled here) round = told (turn_at p here) ≡ None
+  IsFound (acting a here) round = ⊤
+  IsFound (value v) round = round ≡ []
+  IsFound (fault k) round = ⊤
 
--- the control's redex is found, if it has one
-abbrev pub RedexIsFound : ControlView → Type 0
-RedexIsFound c = IsFound c.focus c.round
+  -- the control's redex is found, if it has one
+  abbrev pub RedexIsFound : ControlView → Type 0
+  RedexIsFound c = IsFound c.focus c.round
