@@ -132,6 +132,12 @@ run a --fuel2=5 -> UnknownOption 2\n\
 run a --Fuel=5 -> UnknownOption 2\n\
 run a --füel=5 -> UnknownOption 2\n\
 run a --speed --speed b c -> UnknownOption 2\n\
+run --fuel -> NoValue 1\n\
+run a b --speed -> ExtraWord 2\n\
+run a b - -> ExtraWord 2\n\
+run a  -> ExtraWord 2\n\
+run a --speed b c -> UnknownOption 2\n\
+run a --probes p --workers 1 --fuel 5 --quantum 7 -- b -> ExtraWord 11\n\
 run a -> run a . 4 1000000 1000\n\
 run a --probes p --workers 1 --fuel 5 --quantum 7 -> run a p 1 5 7\n\
 run --probes=p --workers=64 --fuel=16000000 --quantum=10000 a -> run a p 64 16000000 10000\n\
@@ -146,6 +152,7 @@ run -- -- -> run -- . 4 1000000 1000\n\
 run -- --fuel=5 -> run --fuel=5 . 4 1000000 1000\n\
 run --probes=-p a=b -> run a=b -p 4 1000000 1000\n\
 run --probes=p=q é -> run é p=q 4 1000000 1000\n\
+run --probes==p a -> run a =p 4 1000000 1000\n\
 run --probes run run -> run run run 4 1000000 1000\n\
 ";
 
@@ -166,6 +173,8 @@ run a --fuel=٥ -> BadValue 2\n\
 run a --fuel=16000001 -> BadValue 2\n\
 run a --fuel=00016000000 -> BadValue 2\n\
 run a --fuel=99999999999999999999999 -> BadValue 2\n\
+run --fuel= 5 -> BadValue 1\n\
+run --fuel a -> BadValue 1\n\
 run a --quantum=10001 -> BadValue 2\n\
 run a --workers 65 -> BadValue 2\n\
 run a --workers=00 -> BadValue 2\n\
@@ -186,16 +195,31 @@ trace a --size 3 -> UnknownOption 2\n\
 trace --workers=4 --workers=4 a -> Repeated 2\n\
 trace a --quantum -- -> NoValue 2\n\
 trace --workers=65 a -> BadValue 1\n\
+trace a --fuel=00000000005 -> BadValue 2\n\
+trace  -> BadValue 1\n\
+trace - -> UnknownOption 1\n\
+trace a -- - -> ExtraWord 3\n\
 trace a --quantum 1 -> trace a . 4 1000000 1\n\
 trace --quantum 1 -- a -> trace a . 4 1000000 1\n\
+trace --fuel 0000000005 a -> trace a . 4 5 1000\n\
+trace a --fuel=5 -- -> trace a . 4 5 1000\n\
+trace -- - -> trace - . 4 1000000 1000\n\
+trace é --probes ü -> trace é ü 4 1000000 1000\n\
 watch -> MissingWord\n\
 watch a --workers 1 b -> ExtraWord 4\n\
 watch a --size 3 -> UnknownOption 2\n\
 watch --workers=4 --workers=4 a -> Repeated 2\n\
 watch a --quantum -- -> NoValue 2\n\
 watch --workers=65 a -> BadValue 1\n\
+watch a --fuel=00000000005 -> BadValue 2\n\
+watch  -> BadValue 1\n\
+watch - -> UnknownOption 1\n\
+watch a -- - -> ExtraWord 3\n\
 watch --workers 01 a -> watch a . 1 1000000 1000\n\
 watch a --probes=p -> watch a p 4 1000000 1000\n\
+watch a --fuel 5 -- -> watch a . 4 5 1000\n\
+watch --fuel=5 -- a -> watch a . 4 5 1000\n\
+watch -- é -> watch é . 4 1000000 1000\n\
 ";
 
 #[test]
@@ -213,10 +237,19 @@ verify a --workers=1 b -> UnknownOption 2\n\
 verify --probes p --probes p a b -> Repeated 3\n\
 verify a b --probes -> NoValue 3\n\
 verify a  -> BadValue 2\n\
+verify  t -> BadValue 1\n\
+verify a t --probes= -> BadValue 3\n\
+verify - t -> UnknownOption 1\n\
+verify a - -> UnknownOption 2\n\
+verify -- a t -- -> ExtraWord 4\n\
 verify a t -> verify a t .\n\
 verify a --probes p t -> verify a t p\n\
 verify --probes p a -- t -> verify a t p\n\
 verify -- a t -> verify a t .\n\
+verify a -- t -> verify a t .\n\
+verify a t -- -> verify a t .\n\
+verify a t --probes=p -> verify a t p\n\
+verify é -- -ü -> verify é -ü .\n\
 drill -> MissingWord\n\
 drill a -> MissingWord\n\
 drill a s t -> ExtraWord 3\n\
@@ -224,10 +257,16 @@ drill a s --workers 2 -> UnknownOption 3\n\
 drill --fuel=1 a --fuel=1 s -> Repeated 3\n\
 drill a s --quantum -> NoValue 3\n\
 drill --quantum 0 a s -> BadValue 1\n\
+drill a s --fuel=00000000005 -> BadValue 3\n\
+drill a  -> BadValue 2\n\
+drill a - -> UnknownOption 2\n\
 drill a s --fuel 1 --quantum 2 --probes p -> drill a s p 1 2\n\
 drill --fuel=1 a s -> drill a s . 1 1000\n\
 drill -- a -s -> drill a -s . 1000000 1000\n\
 drill a -- -s -> drill a -s . 1000000 1000\n\
+drill a s -- -> drill a s . 1000000 1000\n\
+drill a --fuel=0000000005 s -> drill a s . 5 1000\n\
+drill é ü --quantum=2 -> drill é ü . 1000000 2\n\
 ";
 
 #[test]
@@ -242,16 +281,26 @@ check a b -> ExtraWord 2\n\
 check a --probes p -> UnknownOption 2\n\
 check --fuel=1 a -> UnknownOption 1\n\
 check  -> BadValue 1\n\
+check --  -> BadValue 2\n\
+check - -> UnknownOption 1\n\
+check a - -> UnknownOption 2\n\
 check run -> check run\n\
 check -- -a -> check -a\n\
+check a -- -> check a\n\
+check é -> check é\n\
 types -> MissingWord\n\
 types -- -> MissingWord\n\
 types a b -> ExtraWord 2\n\
 types a --probes p -> UnknownOption 2\n\
 types --fuel=1 a -> UnknownOption 1\n\
 types  -> BadValue 1\n\
+types --  -> BadValue 2\n\
+types - -> UnknownOption 1\n\
+types a - -> UnknownOption 2\n\
 types a -> types a\n\
 types a -- -> types a\n\
+types -- -a -> types -a\n\
+types é -> types é\n\
 ";
 
 #[test]
@@ -272,9 +321,16 @@ mill x -> BadValue 1\n\
 mill  -> BadValue 1\n\
 mill -5 -> UnknownOption 1\n\
 mill -- -5 -> BadValue 2\n\
+mill - -> UnknownOption 1\n\
+mill ٥ -> BadValue 1\n\
+mill 5 --fuel=00000000005 -> BadValue 2\n\
+mill 5 --quantum=10001 -> BadValue 2\n\
 mill 10000 -> mill 10000 4 1000000 1000\n\
 mill --workers 8 0000000001 --fuel=2 --quantum 3 -> mill 1 8 2 3\n\
 mill -- 5 -> mill 5 4 1000000 1000\n\
+mill 5 -- -> mill 5 4 1000000 1000\n\
+mill --fuel=5 -- 5 -> mill 5 4 5 1000\n\
+mill 5 --fuel 0000000005 -> mill 5 4 5 1000\n\
 ";
 
 #[test]
@@ -292,9 +348,19 @@ save a t --probes -> NoValue 3\n\
 save a t x -> BadValue 3\n\
 save a t 10001 -> BadValue 3\n\
 save a  1 -> BadValue 2\n\
+save a t 0 -> BadValue 3\n\
+save a t 00000000001 -> BadValue 3\n\
+save a t 1 --probes= -> BadValue 4\n\
+save a t -1 -> UnknownOption 3\n\
+save a - 1 -> UnknownOption 2\n\
+save a t -- -1 -> BadValue 4\n\
 save a t 00003 --probes p -> save a t 3 p\n\
 save --probes=p a t 1 -> save a t 1 p\n\
 save a -- t 10000 -> save a t 10000 .\n\
+save -- a t 1 -> save a t 1 .\n\
+save a t -- 1 -> save a t 1 .\n\
+save a t 1 -- -> save a t 1 .\n\
+save é ü --probes ö 1 -> save é ü 1 ö\n\
 resume -> MissingWord\n\
 resume i j -> ExtraWord 2\n\
 resume i --workers 2 -> UnknownOption 2\n\
@@ -302,14 +368,37 @@ resume i --probes p -> UnknownOption 2\n\
 resume --fuel 1 i --fuel 1 -> Repeated 4\n\
 resume i --fuel -> NoValue 2\n\
 resume i --quantum= -> BadValue 2\n\
+resume --fuel=16000001 i -> BadValue 1\n\
+resume i --fuel=00000000005 -> BadValue 2\n\
+resume  -> BadValue 1\n\
+resume - -> UnknownOption 1\n\
 resume i -> resume i 1000000 1000\n\
 resume --fuel 4 i --quantum 5 -> resume i 4 5\n\
 resume -- i -> resume i 1000000 1000\n\
+resume i -- -> resume i 1000000 1000\n\
+resume --fuel=5 -- - -> resume - 5 1000\n\
+resume é --fuel 0000000005 -> resume é 5 1000\n\
 ";
 
 #[test]
 fn words_of_save_and_resume(rt: HostRuntime) -> Result<(), Fail> {
     answers(rt.alloc(), SAVE)
+}
+
+// The name of a file is as long as a system takes it.
+#[test]
+fn long_names(rt: HostRuntime) -> Result<(), Fail> {
+    let mut name = String::new(rt.alloc());
+    for _ in 0..2_048 {
+        name.push_str("é")?;
+    }
+    let name = name.as_str();
+    let run = format!(in rt.alloc();
+        "run {name} --probes={name} -> run {name} {name} 4 1000000 1000"
+    )?;
+    answers(rt.alloc(), run.as_str())?;
+    let save = format!(in rt.alloc(); "save {name} {name} 1 -> save {name} {name} 1 .")?;
+    answers(rt.alloc(), save.as_str())
 }
 
 const UNKNOWN: &str = "\
