@@ -1,5 +1,5 @@
 -- What a list of words asks for.
-use Rattle.std.specs.Prelude.{◌≡◌, ◌≢◌, ℕ, suc, Bool, false, not, List, [], ◌∷◌, Option, Some, None, Result, Ok, Err, option_map, unwrap_or, codes, if◌then◌else◌, nat_lt, length, find, ◌==◌}
+use Rattle.std.specs.Prelude.{◌≡◌, ◌≢◌, ℕ, suc, Bool, true, false, not, List, [], ◌∷◌, Option, Some, None, is_none, Result, Ok, Err, option_map, unwrap_or, codes, if◌then◌else◌, nat_lt, length, find, ◌==◌}
 use Rattle.std.specs.Str.{bytes_eq}
 use Rattle.std.specs.List.{before_first, after_first, position_or_len}
 use Rattle.std.specs.Option.{option_and_then}
@@ -7,9 +7,6 @@ use Rattle.stab_words.specs.declared.command.Command.{Command}
 use Rattle.stab_words.specs.declared.command.Command.TheVariants.{Run, Trace, Verify, Drill, Check, Mill, Types, Save, Resume, Watch}
 use Rattle.stab_words.specs.declared.command.Setting.{Setting}
 use Rattle.stab_words.specs.declared.given.Given.{Given}
-use Rattle.stab_words.specs.declared.reading.Reading.{Reading}
-use Rattle.stab_words.specs.declared.reading.Expects.{Expects}
-use Rattle.stab_words.specs.declared.reading.Expects.TheVariants.{AnyWord, ValueOf, PlainWord}
 use Rattle.stab_words.specs.declared.request.Request.{Request}
 use Rattle.stab_words.specs.declared.request.Request.TheVariants as asks
 use Rattle.stab_words.specs.declared.request.RunArgs.{RunArgs}
@@ -57,37 +54,38 @@ abbrev pub plain : Command → ℕ → List ℕ → Given → Result Given WordF
 plain c i word given = and_then (or_fault (find (λ p. not (is_filled p given)) (places c)) (ExtraWord i)) (λ place.
     or_fault (fill place word given) (BadValue i))
 
+-- what follows an option that has no `=`: its value, unless it begins with `-`
+abbrev pub next_value : List (List ℕ) → Option (List ℕ)
+next_value [] = None
+next_value (word ∷ words) = if has_dash word then None else Some word
+
+-- the value of an option: what follows its `=`, or else the next word
+abbrev pub option_value : List ℕ → List (List ℕ) → Option (List ℕ)
+option_value word words = if is_none (written_value word) then next_value words else written_value word
+
 -- the option that is the word i has this value
 abbrev pub valued : Setting → ℕ → List ℕ → Given → Result Given WordFault
 valued option i value given = or_fault (set option value given) (BadValue i)
 
--- the reading goes on with this, and expects that of the next word
-abbrev pub goes_on : Expects → Given → Result Reading WordFault
-goes_on expects given = Ok (record { given = given; expects = expects })
+-- the word i is an option, and these words follow it
+abbrev pub optional : Command → ℕ → List ℕ → List (List ℕ) → Given → Result Given WordFault
+optional c i word words given = and_then (option_of c i (name_of word) given) (λ option.
+    and_then (or_fault (option_value word words) (NoValue i)) (λ value. valued option i value given))
 
--- the option that is the word i has the value that follows its `=`, or the next word is to be its value
-abbrev pub with_value : Setting → ℕ → Option (List ℕ) → Given → Result Reading WordFault
-with_value option i (Some value) given = and_then (valued option i value given) (goes_on AnyWord)
-with_value option i None given = goes_on (ValueOf option i) given
+-- behind a word `--` each word is a plain word
+abbrev pub read_plain : Command → ℕ → List (List ℕ) → Given → Result Given WordFault
+read_plain c i [] given = Ok given
+read_plain c i (word ∷ words) given = and_then (plain c i word given) (read_plain c (suc i) words)
 
--- the word i is an option
-abbrev pub optional : Command → ℕ → List ℕ → Given → Result Reading WordFault
-optional c i word given = and_then (option_of c i (name_of word) given) (λ option. with_value option i (written_value word) given)
-
--- the word i, by what is expected there
-abbrev pub step : Command → ℕ → List ℕ → Given → Expects → Result Reading WordFault
-step c i word given PlainWord = and_then (plain c i word given) (goes_on PlainWord)
-step c i word given (ValueOf option at) = if has_dash word then Err (NoValue at) else and_then (valued option at word given) (goes_on AnyWord)
-step c i word given AnyWord =
-    if bytes_eq word (codes "--") then goes_on PlainWord given
-    else (if has_dashes word then optional c i word given
+-- the words from the number i on, from the left, where the first of them may be the value of the option before it
+abbrev pub read : Command → ℕ → Bool → List (List ℕ) → Given → Result Given WordFault
+read c i is_value [] given = Ok given
+read c i true (word ∷ words) given = read c (suc i) false words given
+read c i false (word ∷ words) given =
+    if bytes_eq word (codes "--") then read_plain c (suc i) words given
+    else (if has_dashes word then and_then (optional c i word words given) (read c (suc i) (is_none (written_value word)) words)
     else (if has_dash word then Err (UnknownOption i)
-    else and_then (plain c i word given) (goes_on AnyWord)))
-
--- the words from the number i on, from the left
-abbrev pub read_from : Command → ℕ → List (List ℕ) → Reading → Result Reading WordFault
-read_from c i [] reading = Ok reading
-read_from c i (word ∷ words) reading = and_then (step c i word reading.given reading.expects) (λ r. read_from c (suc i) words r)
+    else and_then (plain c i word given) (read c (suc i) false words)))
 
 abbrev pub run_args : List ℕ → Given → RunArgs
 run_args file given = record {
@@ -116,21 +114,14 @@ request_of Mill g = option_map (λ size.
 request_of Resume g = option_map (λ image.
     asks.Resume (record { image = image; fuel = unwrap_or g.fuel default_fuel; quantum = unwrap_or g.quantum default_quantum })) g.file
 
--- the end of the words: an option still lacks its value, or a place its word, or this is the request
-abbrev pub finished : Command → Given → Expects → Result Request WordFault
-finished c given (ValueOf option at) = Err (NoValue at)
-finished c given AnyWord = or_fault (request_of c given) MissingWord
-finished c given PlainWord = or_fault (request_of c given) MissingWord
-
--- nothing was read yet
-abbrev pub begun : Reading
-begun = record { given = nothing; expects = AnyWord }
+-- the request, where a word is in each place
+abbrev pub request : Command → Given → Result Request WordFault
+request c given = or_fault (request_of c given) MissingWord
 
 -- The request or the fault: the command is the first word, and the others are read from the left.
 abbrev pub asked : List (List ℕ) → Result Request WordFault
 asked [] = Err NoCommand
-asked (word ∷ words) = and_then (or_fault (command_named word) UnknownCommand) (λ c.
-    and_then (read_from c 1 words begun) (λ r. finished c r.given r.expects))
+asked (word ∷ words) = and_then (or_fault (command_named word) UnknownCommand) (λ c. and_then (read c 1 false words nothing) (request c))
 
 -- an answer is what is meant, unless memory was refused
 abbrev pub Gives : {A B : Type 0} → (A → B) → Result A WordFault → Result B WordFault → Type 0

@@ -1,9 +1,10 @@
 //! Reads the words from the left.
-ghost use Rattle.std.specs.Prelude.{◌≡◌, map as each, string_bytes, option_copied, IsTrue, ◌↔◌, find, not, IfOk};
+ghost use Rattle.std.specs.Prelude.{◌≡◌, map as each, string_bytes, option_copied, IsTrue, ◌↔◌, find, not, false, IfOk, option_map};
 ghost use Rattle.stab_words.specs.Command.{places};
-ghost use Rattle.stab_words.specs.Given.{is_filled};
+ghost use Rattle.stab_words.specs.Given.{is_filled, nothing};
 ghost use Rattle.stab_words.specs.Within.{IsGiven, IsWithin};
-ghost use Rattle.stab_words.specs.Asked.{Gives, asked, begun, finished, name_of, option_of, optional, plain, read_from, request_of, step, written_value};
+ghost use Rattle.stab_words.specs.Asked.{Gives, and_then, asked, name_of, option_of, plain, read, request, request_of, run_args, written_value};
+ghost use Rattle.stab_words.specs.Steps.{begun, finished, option_step, read_from, step};
 
 use crate::command::{Command, Place, Setting, command_named, option_named};
 use crate::given::Given;
@@ -47,7 +48,16 @@ pub fn read_words(alloc: Global, words: &[String]) -> Result<Request, WordFault>
         return Err(WordFault::NoCommand);
     };
     let command = command_named(first.as_str()).ok_or(WordFault::UnknownCommand)?;
-    let reading = read_rest(alloc, command, rest)?;
+    read_behind(alloc, command, rest)
+}
+
+// What the command is asked for by the words behind it.
+fn read_behind(alloc: Global, command: Command, words: &[String]) -> Result<Request, WordFault>
+    ensures asked { Gives (λ request. request) result
+        (and_then (read command 1 false (each string_bytes words.now) nothing) (request command)) }
+    ensures within { IfOk result IsWithin }
+{
+    let reading = read_rest(alloc, command, words)?;
     finished(command, reading)
 }
 
@@ -143,7 +153,7 @@ fn option(
     given: Given,
 ) -> Result<Reading, WordFault>
     requires { IsGiven given }
-    ensures read { Gives (λ r. r) result (optional command at word.now given) }
+    ensures read { Gives (λ r. r) result (option_step command at word.now given) }
     ensures within { IfOk result (λ r. IsGiven r.given) }
 {
     let (name, value) = name_and_value(word);
@@ -231,62 +241,82 @@ fn finished(command: Command, reading: Reading) -> Result<Request, WordFault>
 fn request_of(command: Command, given: Given) -> Option<Request>
     ensures { result ≡ request_of command given }
 {
-    let workers = given.workers.unwrap_or(DEFAULT_WORKERS);
-    let fuel = given.fuel.unwrap_or(DEFAULT_FUEL);
-    let quantum = given.quantum.unwrap_or(DEFAULT_QUANTUM);
-    let probes = given.probes;
-    Some(match command {
-        Command::Run => Request::Run(RunArgs {
-            file: given.file?,
-            probes,
-            workers,
-            fuel,
-            quantum,
-        }),
-        Command::Trace => Request::Trace(RunArgs {
-            file: given.file?,
-            probes,
-            workers,
-            fuel,
-            quantum,
-        }),
-        Command::Watch => Request::Watch(RunArgs {
-            file: given.file?,
-            probes,
-            workers,
-            fuel,
-            quantum,
-        }),
-        Command::Verify => Request::Verify(VerifyArgs {
-            file: given.file?,
-            trace: given.second?,
-            probes,
-        }),
-        Command::Drill => Request::Drill(DrillArgs {
-            file: given.file?,
-            script: given.second?,
-            probes,
-            fuel,
-            quantum,
-        }),
-        Command::Save => Request::Save(SaveArgs {
-            file: given.file?,
-            trace: given.second?,
-            at: given.number?,
-            probes,
-        }),
-        Command::Check => Request::Check(given.file?),
-        Command::Types => Request::Types(given.file?),
-        Command::Mill => Request::Mill(MillArgs {
-            size: given.number?,
-            workers,
-            fuel,
-            quantum,
-        }),
-        Command::Resume => Request::Resume(ResumeArgs {
-            image: given.file?,
-            fuel,
-            quantum,
-        }),
+    match command {
+        Command::Run => Some(Request::Run(run_args(given)?)),
+        Command::Trace => Some(Request::Trace(run_args(given)?)),
+        Command::Watch => Some(Request::Watch(run_args(given)?)),
+        Command::Check => Some(Request::Check(given.file?)),
+        Command::Types => Some(Request::Types(given.file?)),
+        Command::Verify => verify(given),
+        Command::Drill => drill(given),
+        Command::Save => save(given),
+        Command::Mill => mill(given),
+        Command::Resume => resume(given),
+    }
+}
+
+fn run_args(given: Given) -> Option<RunArgs>
+    ensures { result ≡ option_map (λ file. run_args file given) given.file }
+{
+    Some(RunArgs {
+        file: given.file?,
+        probes: given.probes,
+        workers: given.workers.unwrap_or(DEFAULT_WORKERS),
+        fuel: given.fuel.unwrap_or(DEFAULT_FUEL),
+        quantum: given.quantum.unwrap_or(DEFAULT_QUANTUM),
     })
+}
+
+fn verify(given: Given) -> Option<Request>
+    ensures { result ≡ request_of Command.Verify given }
+{
+    Some(Request::Verify(VerifyArgs {
+        file: given.file?,
+        trace: given.second?,
+        probes: given.probes,
+    }))
+}
+
+fn drill(given: Given) -> Option<Request>
+    ensures { result ≡ request_of Command.Drill given }
+{
+    Some(Request::Drill(DrillArgs {
+        file: given.file?,
+        script: given.second?,
+        probes: given.probes,
+        fuel: given.fuel.unwrap_or(DEFAULT_FUEL),
+        quantum: given.quantum.unwrap_or(DEFAULT_QUANTUM),
+    }))
+}
+
+fn save(given: Given) -> Option<Request>
+    ensures { result ≡ request_of Command.Save given }
+{
+    Some(Request::Save(SaveArgs {
+        file: given.file?,
+        trace: given.second?,
+        at: given.number?,
+        probes: given.probes,
+    }))
+}
+
+fn mill(given: Given) -> Option<Request>
+    ensures { result ≡ request_of Command.Mill given }
+{
+    Some(Request::Mill(MillArgs {
+        size: given.number?,
+        workers: given.workers.unwrap_or(DEFAULT_WORKERS),
+        fuel: given.fuel.unwrap_or(DEFAULT_FUEL),
+        quantum: given.quantum.unwrap_or(DEFAULT_QUANTUM),
+    }))
+}
+
+fn resume(given: Given) -> Option<Request>
+    ensures { result ≡ request_of Command.Resume given }
+{
+    Some(Request::Resume(ResumeArgs {
+        image: given.file?,
+        fuel: given.fuel.unwrap_or(DEFAULT_FUEL),
+        quantum: given.quantum.unwrap_or(DEFAULT_QUANTUM),
+    }))
 }

@@ -32,7 +32,7 @@ pub enum Request {
     Watch(RunArgs),
 }
 
-/// What `run`, `trace` and `watch` are given. The quantum is the most pure steps of a turn.
+/// What `run`, `trace` and `watch` are given. The quantum is the most pure steps that one event stands for.
 #[derive(Debug, Drop)]
 pub struct RunArgs {
     pub file: Name,

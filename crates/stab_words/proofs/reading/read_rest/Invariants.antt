@@ -1,6 +1,6 @@
 use Rattle.std.proofs.Common.{◌≡◌, ◌+◌, length, map}
 use Rattle.std.specs.Prelude.{string_bytes}
-use Rattle.stab_words.specs.Asked.{read_from, begun}
+use Rattle.stab_words.specs.Steps.{begun, read_from}
 use Rattle.stab_words.specs.Within.{IsGiven}
 use Rattle.stab_words.proofs.reading.read_rest.Given as goal
 
