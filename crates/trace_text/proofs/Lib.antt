@@ -1,6 +1,4 @@
-pub mod Pieces
 pub mod Entries
-pub mod Digits
 pub mod Numerals
 pub mod Splits
 pub mod Shapes

@@ -7,7 +7,7 @@ use Rattle.trace_text.specs.declared.line.Entry.{Entry}
 use Rattle.trace_text.specs.declared.line.Line.{Line}
 use Rattle.trace_text.specs.Reading.{after, follow, line_is, nothing_more, read_behind, read_lines, read_text}
 use Rattle.trace_text.specs.Form.{header_named}
-use Rattle.trace_text.specs.Words.{longer, split}
+use Rattle.text_lines.specs.Lines.{longer, split}
 use Rattle.trace_text.proofs.Splits.{pieces}
 
 -- a line that is followed by a line feed

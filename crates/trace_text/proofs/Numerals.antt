@@ -9,7 +9,8 @@ use Rattle.std.specs.Str.{all_ascii_digits}
 use Rattle.std.proofs.lemmas.Bool.{eqb-true, eqb-false, leb-true, le-leb, ne_eqb, and_parts, and_from}
 use Rattle.std.proofs.lemmas.Fmt.{digits_decimal, digits_value-decimal, decimal-digits_value, decimal_nonempty, first_decimal, decimal_digit}
 use Rattle.std.proofs.lemmas.Str.Parse.{IsNumeralModel, numerals_by_fold, tells_all_ascii_digits}
-use Rattle.trace_text.specs.Number.{value_of, value_on, is_numeral, number_in, signed_in}
+use Rattle.text_lines.specs.Digits.{value_of, value_on}
+use Rattle.trace_text.specs.Number.{is_numeral, number_in, signed_in}
 
 own : IsNumeralModel (λ ds. all_ascii_digits ds ≡ true) value_of
 own = numerals_by_fold _ tells_all_ascii_digits value_on (record { empty = λ _. refl; more = λ _ _ _ _. refl })

@@ -6,7 +6,7 @@ use Rattle.std.specs.Str.{all_ascii_digits}
 use Rattle.std.proofs.lemmas.Bool.{eqb-true, eq-eqb, leb-true, ne_eqb, and_parts, and_from, not-true}
 use Rattle.std.proofs.lemmas.List.{append-nil}
 use Rattle.trace_text.specs.Text.{separated, ended}
-use Rattle.trace_text.specs.Words.{longer, split}
+use Rattle.text_lines.specs.Lines.{longer, split}
 
 -- no byte of the piece is the mark
 abbrev pub lacks : ℕ → List ℕ → Bool

@@ -17,7 +17,7 @@ use Rattle.trace_text.specs.declared.line.Line.TheVariants as is
 use Rattle.trace_text.specs.Form.{header_named, header_text, headers}
 use Rattle.trace_text.specs.Reading.{IsEntry, after, follow, line_is, nothing_more, read_behind, read_lines, read_text, reading}
 use Rattle.trace_text.specs.Text.{IsNoRelease, NoRelease, IsTextOf, end_line, ended, entries, entries_from, event_line, event_lines, separated, text, trace}
-use Rattle.trace_text.specs.Words.{split}
+use Rattle.text_lines.specs.Lines.{split}
 use Rattle.trace_text.proofs.Lines.{Allowed, IsEndLine, IsLine, end-one, end-read, end-written, line-one, line-read, line-written, value_in-some, words_behind}
 use Rattle.trace_text.proofs.Splits.{lacks, all_lack, pieces, rejoined, separated-ended, split-ended}
 

@@ -6,3 +6,4 @@ pub mod Spelling
 pub mod Shape
 pub mod Seen
 pub mod Reading
+pub mod Limits

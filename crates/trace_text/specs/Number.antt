@@ -1,13 +1,7 @@
 -- Numbers in a trace: decimal, without leading zeros.
-use Rattle.std.specs.Prelude.{ℕ, suc, ◌+◌, ◌-◌, ◌*◌, ◌^◌, ◌==◌, ◌&&◌, ◌||◌, not, Bool, false, nat_le, nat_lt, List, [], ◌∷◌, length, Option, Some, None, option_map, if◌then◌else◌, fold, ℤ, pos, negsuc, slice_index}
+use Rattle.std.specs.Prelude.{ℕ, ◌-◌, ◌^◌, ◌==◌, ◌&&◌, ◌||◌, not, Bool, false, nat_le, List, [], ◌∷◌, length, Option, Some, None, option_map, if◌then◌else◌, ℤ, pos, negsuc}
 use Rattle.std.specs.Str.{all_ascii_digits}
-
--- the value of decimal digits
-abbrev pub value_on : ℕ → List ℕ → ℕ
-value_on value digits = fold (λ n digit. n * 10 + (digit - 48)) value digits
-
-abbrev pub value_of : List ℕ → ℕ
-value_of digits = value_on 0 digits
+use Rattle.text_lines.specs.Digits.{value_of}
 
 -- digits, at least one, and the first isn't `0` but where it is the only one
 abbrev pub is_numeral : List ℕ → Bool

@@ -17,7 +17,7 @@ use Rattle.trace_text.specs.declared.line.Line.TheVariants as is
 use Rattle.trace_text.specs.Form.{header_named}
 use Rattle.trace_text.specs.Number.{number_in}
 use Rattle.trace_text.specs.Shape.{Shape, is_word, seq_in, shape_of, what_of}
-use Rattle.trace_text.specs.Words.{split}
+use Rattle.text_lines.specs.Lines.{split}
 
 -- a step is struck by its sign
 abbrev pub is_struck : Sign → Bool

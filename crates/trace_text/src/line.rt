@@ -3,7 +3,7 @@ ghost use Rattle.std.specs.Prelude.{◌≡◌, ◌<◌, ◌^◌, Some, None, opt
 ghost use Rattle.stab_journal.specs.Event.{IsEvent};
 ghost use Rattle.trace_text.specs.Reading.{end_is, event_is, is_end, is_in_order, line_is, numbers, second};
 ghost use Rattle.trace_text.specs.Seen.{seen_shape};
-ghost use Rattle.trace_text.specs.Words.{split};
+ghost use Rattle.text_lines.specs.Lines.{split};
 
 use crate::event::{seq_in, what_of};
 use crate::form::{Header, Sign};

@@ -1,8 +1,8 @@
 //! Numbers in a trace.
-ghost use Rattle.std.specs.Prelude.{◌≡◌, ◌+◌, ◌-◌, ◌*◌, ◌<◌, ◌≤◌, ◌^◌, ◌&&◌, nat_lt, negsuc, Some, None, IfSome, if◌then◌else◌};
-ghost use Rattle.std.specs.Option.{SomeIff};
-ghost use Rattle.std.specs.Str.{all_ascii_digits};
-ghost use Rattle.trace_text.specs.Number.{number_in, signed_in, value_of};
+ghost use Rattle.std.specs.Prelude.{◌≡◌, ◌-◌, ◌≤◌, ◌^◌, negsuc, IfSome};
+ghost use Rattle.trace_text.specs.Number.{number_in, signed_in};
+
+use text_lines::digits_value;
 
 // The greatest size of a negative number of 64 bits, and the greatest number.
 const MOST_BELOW: u64 = 1 << 63;
@@ -49,30 +49,4 @@ fn negative(size: u64) -> i64
     ensures { result ≡ negsuc (size - 1) }
 {
     !((size - 1) as i64)
-}
-
-// The value of the digits, if all are digits and 64 bits hold it.
-fn digits_value(word: &[u8]) -> Option<u64>
-    ensures { result ≡ (if all_ascii_digits word.now && nat_lt (value_of word.now) (2 ^ 64)
-        then Some (value_of word.now) else None) }
-{
-    let mut value: u64 = 0;
-    for byte in word {
-        if !byte.is_ascii_digit() {
-            return None;
-        }
-        let digit = u64::from(*byte - b'0');
-        let Some(longer) = with_digit(value, digit) else {
-            return None;
-        };
-        value = longer;
-    }
-    Some(value)
-}
-
-// The number with one digit more, if 64 bits hold it.
-fn with_digit(value: u64, digit: u64) -> Option<u64>
-    ensures { SomeIff result (value * 10 + digit < 2 ^ 64) (value * 10 + digit) }
-{
-    value.checked_mul(10)?.checked_add(digit)
 }

@@ -1,23 +1,24 @@
 //! Reads a trace.
 ghost use Rattle.std.specs.Prelude.{◌≡◌, ◌≤◌, ◌<◌, ◌^◌, ◌+◌, ◌++◌, [], ◌∷◌, length, OnOk};
 ghost use Rattle.trace_text.specs.Reading.{Gives, IsEntry, read_lines, reading};
+ghost use Rattle.trace_text.specs.Limits.{max_bytes};
 ghost use Rattle.trace_text.specs.Text.{entries};
-ghost use Rattle.trace_text.specs.Words.{split};
+ghost use Rattle.text_lines.specs.Lines.{split};
 ghost use Rattle.stab_journal.specs.Event.{weight_of};
 ghost use Rattle.stab_journal.specs.Journal.{IsValid};
 
 use crate::fault::TraceFault;
 use crate::form::{Header, header_named};
 use crate::line::{Entry, Line, line_is};
-use crate::words::cut;
 use stab_base::{NoMemory, Seq};
 use stab_journal::History;
 use std::alloc::Global;
+use text_lines::cut;
 
 /// The history whose trace the bytes are, or the first fault. A trace without releases may have the first header.
 /// It takes no memory but that of the history, and time that grows with the length of the text.
 pub fn read_trace(alloc: Global, bytes: &[u8]) -> Result<History, TraceFault>
-    requires { length bytes.now ≤ 67108864 }
+    requires { length bytes.now ≤ max_bytes }
     ensures { Gives entries result (reading bytes.now) }
 {
     let Some((first, rest)) = cut(bytes, b'\n') else {
@@ -36,7 +37,7 @@ fn read_lines(
     start: usize,
     lines: &[u8],
 ) -> Result<History, TraceFault>
-    requires { start + length lines.now ≤ 67108864 }
+    requires { start + length lines.now ≤ max_bytes }
     ensures { Gives entries result (read_lines header start 1 (split 10 lines.now)) }
 {
     let mut history = History::new(alloc);

@@ -2,7 +2,8 @@
 ghost use Rattle.std.specs.Prelude.{◌≡◌, option_map, option_copied, length, IfSome, IfNone};
 ghost use Rattle.trace_text.specs.Shape.{IsNoArity, after_w, are_words, is_shape, shape_of};
 ghost use Rattle.trace_text.specs.Seen.{seen_args, seen_shape};
-ghost use Rattle.trace_text.specs.Words.{pieces_left, split};
+ghost use Rattle.text_lines.specs.Lines.{split};
+ghost use Rattle.trace_text.specs.Words.{pieces_left};
 
 use crate::form::{Header, Sign, Verb, sign_named, verb_named};
 use crate::words::next_word;

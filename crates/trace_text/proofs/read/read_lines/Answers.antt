@@ -2,7 +2,7 @@ use Rattle.std.proofs.Common.{◌≡◌, suc, ◌+◌, ◌∷◌, [], length, sy
 use Rattle.std.proofs.lemmas.Bool.{eqb-false}
 use Rattle.trace_text.specs.Reading.{IsEntry, after, read_lines}
 use Rattle.trace_text.specs.Text.{entries}
-use Rattle.trace_text.specs.Words.{split}
+use Rattle.text_lines.specs.Lines.{split}
 use Rattle.trace_text.proofs.Lines.{line-read}
 use Rattle.trace_text.proofs.LineSteps.{after-after, line_is_next, something_behind}
 use Rattle.trace_text.proofs.read.read_lines.Goals as goal

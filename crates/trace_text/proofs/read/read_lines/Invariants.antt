@@ -2,7 +2,7 @@ use Rattle.std.proofs.Common.{◌≡◌, ◌+◌, ◌*◌, ◌≤◌, length}
 use Rattle.stab_journal.specs.Event.{weight_of}
 use Rattle.trace_text.specs.Reading.{after, read_lines}
 use Rattle.trace_text.specs.Text.{entries}
-use Rattle.trace_text.specs.Words.{split}
+use Rattle.text_lines.specs.Lines.{split}
 use Rattle.trace_text.proofs.read.read_lines.Given as goal
 
 -- what was read so far and what the other lines are read as, together, are what all lines are read as

@@ -1,6 +1,6 @@
 use Rattle.std.proofs.Common.{◌+◌, length, sym, ap, ◌∙◌}
 use Rattle.trace_text.specs.Reading.{read_behind, read_text}
-use Rattle.trace_text.specs.Words.{split}
+use Rattle.text_lines.specs.Lines.{split}
 use Rattle.trace_text.proofs.LineSteps.{header_step}
 use Rattle.trace_text.proofs.read.read_trace.Goals as goal
 

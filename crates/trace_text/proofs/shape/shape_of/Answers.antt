@@ -1,7 +1,8 @@
 use Rattle.std.proofs.Common.{◌≡◌, ◌∷◌, sym, ap, ◌∙◌}
 use Rattle.std.specs.Option.{option_copied}
 use Rattle.trace_text.specs.Shape.{shape_of}
-use Rattle.trace_text.specs.Words.{pieces_left, split}
+use Rattle.text_lines.specs.Lines.{split}
+use Rattle.trace_text.specs.Words.{pieces_left}
 use Rattle.trace_text.proofs.Shapes.{no_shape}
 use Rattle.trace_text.proofs.shape.shape_of.Goals as goal
 
