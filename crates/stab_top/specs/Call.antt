@@ -1,5 +1,5 @@
 -- What the one call says by the status that it reports.
-use Rattle.std.specs.Prelude.{◌≡◌, ℕ, Bool, true, false, List, Result, Ok, Err, ◌⊎◌}
+use Rattle.std.specs.Prelude.{◌≡◌, ℕ, Bool, true, false, List, Option, Result, Ok, Err, ◌⊎◌}
 use Rattle.stab_code.specs.Program.{ProgramParts}
 use Rattle.stab_files.specs.Count.{Rose}
 use Rattle.stab_files.specs.Entry.{Entry}
@@ -11,7 +11,7 @@ use Rattle.stab_words.specs.Asked.{asked}
 use Rattle.stab_top.specs.declared.report.Status.{Status}
 use Rattle.stab_top.specs.declared.report.Status.TheVariants.{BadWords, NoMemory, NotBuilt}
 use Rattle.stab_top.specs.Ending.{CheckEnds, Outcome, Refuses, RunEnds}
-use Rattle.stab_top.specs.Device.{Device, Rests}
+use Rattle.stab_top.specs.Device.{Device, Rests, device}
 use Rattle.stab_top.specs.Reading.{Holds, ReadRefused}
 use Rattle.stab_top.specs.Reason.{Blame, blames_words, no_blame}
 use Rattle.stab_top.specs.Words.{is_built}
@@ -21,6 +21,11 @@ pub record Call : Type 0 where
   pub files : Device (List Entry)
   pub files_after : ℕ
   pub outcome : Outcome
+
+-- the call of files before and after it, and of its outcome
+abbrev pub call_of : {F : Type 0} → (F → Option (List Entry)) → (F → ℕ) → F → F → Outcome → Call
+call_of held faults files after outcome =
+    record { files = device held faults files; files_after = faults after; outcome = outcome }
 
 abbrev pub status_of : Call → Status
 status_of c = c.outcome.report.status

@@ -8,6 +8,10 @@ pub record Device (Contents : Type 0) : Type 0 where
   pub told : Option Contents
   pub faults : ℕ
 
+-- what an object is seen as, by what is told of it and by its count of faults
+abbrev pub device : {T Contents : Type 0} → (T → Option Contents) → (T → ℕ) → T → Device Contents
+device told faults object = record { told = told object; faults = faults object }
+
 -- nothing was written
 abbrev pub Rests : Device (List ℕ) → Device (List ℕ) → Type 0
 Rests sink after = (after.told ≡ sink.told) × (after.faults ≡ sink.faults)

@@ -1,5 +1,5 @@
 -- What a call says of the end of what it does with a program.
-use Rattle.std.specs.Prelude.{◌≡◌, ℕ, List, [], ◌∷◌, ◌++◌, Some, codes, decimal, length}
+use Rattle.std.specs.Prelude.{◌≡◌, ℕ, List, [], ◌∷◌, ◌++◌, Option, Some, codes, decimal, length}
 use Rattle.plain_language.specs.Plain.{PlainState, language_of}
 use Rattle.plain_language.specs.Quiet.{IsQuiet}
 use Rattle.plain_language.specs.Shown.{shown}
@@ -11,7 +11,7 @@ use Rattle.stab_words.specs.declared.request.RunArgs.{RunArgs}
 use Rattle.stab_top.specs.declared.report.Report.{Report}
 use Rattle.stab_top.specs.declared.report.Status.{Status}
 use Rattle.stab_top.specs.declared.report.Status.TheVariants.{Done, Held, SinkFault, Spent, NoMemory, NotBuilt}
-use Rattle.stab_top.specs.Device.{Device, Gains, GainsPrefix, Rests}
+use Rattle.stab_top.specs.Device.{Device, Gains, GainsPrefix, Rests, device}
 use Rattle.stab_top.specs.Reading.{Blames}
 use Rattle.stab_top.specs.Reason.{Blame, blame_of, no_blame}
 
@@ -20,6 +20,11 @@ pub record Outcome : Type 0 where
   pub sink : Device (List ℕ)
   pub sink_after : Device (List ℕ)
   pub report : Report
+
+-- the outcome of a report, with a sink before and after it
+abbrev pub outcome_of : {K : Type 0} → (K → Option (List ℕ)) → (K → ℕ) → K → K → Report → Outcome
+outcome_of told faults sink after report =
+    record { sink = device told faults sink; sink_after = device told faults after; report = report }
 
 -- no book, this to blame, and the sink as it was
 abbrev pub Refuses : Outcome → Blame → Type 0

@@ -28,7 +28,8 @@ pub record Loads (role : Role) (files : Device (List Entry)) (name : List ℕ) (
 -- why there are no bytes of the file; want of memory is free, and no other status comes
 abbrev pub LoadRefused : Status → Role → Device (List Entry) → List ℕ → ℕ → Type 0
 LoadRefused NoFile role files name faults = (faults ≡ files.faults) × Finds files name (λ found. found ≡ None)
-LoadRefused TooBig role files name faults = (faults ≡ files.faults) × Finds files name (λ found. IsSomeAnd found (λ bytes. max_bytes role < length bytes))
+LoadRefused TooBig role files name faults =
+    (faults ≡ files.faults) × Finds files name (λ found. IsSomeAnd found (λ bytes. max_bytes role < length bytes))
 LoadRefused FileFault role files name faults = Rose files.faults faults
 LoadRefused NoMemory role files name faults = faults ≡ files.faults
 LoadRefused _ role files name faults = ⊥

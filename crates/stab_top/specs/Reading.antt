@@ -32,4 +32,5 @@ TextRefused _ report bytes = ⊥
 -- there is no program: the file was refused, or its text was
 abbrev pub ReadRefused : Report → Device (List Entry) → List ℕ → ℕ → Type 0
 ReadRefused report files name faults =
-    FileSays Program report.status files name faults (Blames report (blames_file (blamed report.status Program))) (TextRefused report.status report)
+    FileSays Program report.status files name faults (Blames report (blames_file (blamed report.status Program)))
+    (TextRefused report.status report)

@@ -91,7 +91,8 @@ fault_words (Some fault) = 32 ∷ (words.fault_name fault ++ number_word (words.
 -- the fault's name, its place, and the length of the name that it is about
 abbrev pub text_words : Option TextFault → List ℕ
 text_words None = []
-text_words (Some fault) = 32 ∷ (text.fault_name fault ++ (number_word (text.fault_place fault) ++ number_word (text.fault_length fault)))
+text_words (Some fault) =
+    32 ∷ (text.fault_name fault ++ (number_word (text.fault_place fault) ++ number_word (text.fault_length fault)))
 
 -- the status, and what is blamed
 abbrev pub reason_line : Status → Blame → List ℕ

@@ -1,6 +1,6 @@
 //! Tells of a program that was read.
 ghost use Rattle.std.specs.Prelude.{◌≡◌, IfOk, string_bytes};
-ghost use Rattle.stab_top.specs.Ending.{CheckEnds, checked_line};
+ghost use Rattle.stab_top.specs.Ending.{CheckEnds, checked_line, outcome_of};
 
 use crate::report::{Report, Status};
 use stab_base::NoMemory;
@@ -10,11 +10,7 @@ use std::alloc::Global;
 
 /// Writes how many functions and texts the program has.
 pub fn check_program<K: Sink>(alloc: Global, program: &Program, sink: &mut K) -> Report
-    ensures { CheckEnds result.status program.now (record {
-      sink = record { told = K.told sink.old; faults = K.faults sink.old };
-      sink_after = record { told = K.told sink.new; faults = K.faults sink.new };
-      report = result;
-    }) }
+    ensures { CheckEnds result.status program.now (outcome_of K.told K.faults sink.old sink.new result) }
 {
     let Ok(line) = checked_line(alloc, program) else {
         return Report::bare(Status::NoMemory);

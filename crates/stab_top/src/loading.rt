@@ -1,5 +1,6 @@
 //! Loads the files that a call reads.
 ghost use Rattle.std.specs.Prelude.{◌≡◌, IfOk, IfErr};
+ghost use Rattle.stab_top.specs.Device.{device};
 ghost use Rattle.stab_top.specs.Loading.{blamed, LoadRefused, Loads};
 
 use crate::report::{Role, Status};
@@ -13,8 +14,8 @@ pub fn load<F: Files>(
     role: Role,
     name: &str,
 ) -> Result<Vec<u8>, Status>
-    ensures ok { IfOk result (λ bytes. Loads role (record { told = F.held files.old; faults = F.faults files.old }) name.now (F.faults files.new) bytes.items) }
-    ensures err { IfErr result (λ status. LoadRefused status role (record { told = F.held files.old; faults = F.faults files.old }) name.now (F.faults files.new)) }
+    ensures ok { IfOk result (λ bytes. Loads role (device F.held F.faults files.old) name.now (F.faults files.new) bytes.items) }
+    ensures err { IfErr result (λ status. LoadRefused status role (device F.held F.faults files.old) name.now (F.faults files.new)) }
     ensures kept { F.held files.new ≡ F.held files.old }
 {
     match files.load(alloc, name, role.max_bytes()) {

@@ -1,10 +1,11 @@
 //! The program, from its arguments to its exit status.
-ghost use Rattle.std.specs.Prelude.{◌≡◌, ◌≢◌, ◌⊎◌, drop, map as each, string_bytes, IfOk, IfErr};
+ghost use Rattle.std.specs.Prelude.{◌≡◌, ◌≢◌, drop, map as each, string_bytes, IfOk, IfErr};
 ghost use Rattle.std.specs.IoError.{error_kind};
 ghost use Rattle.std.specs.Vec.Iter.{into_iter_items};
-ghost use Rattle.stab_top.specs.Call.{Says};
-ghost use Rattle.stab_top.specs.Command.{EndsWith, Executes};
-ghost use Rattle.stab_top.specs.Device.{Rests, Writes};
+ghost use Rattle.stab_top.specs.Call.{Says, call_of};
+ghost use Rattle.stab_top.specs.Command.{EndsWith, EndsWithoutWords, Executes, execution_of};
+ghost use Rattle.stab_top.specs.Device.{Rests, Writes, device};
+ghost use Rattle.stab_top.specs.Ending.{outcome_of};
 ghost use Rattle.stab_top.specs.Reading.{Blames};
 ghost use Rattle.stab_top.specs.Reason.{blame_of, no_blame, reason_text, status_number};
 ghost use Rattle.stab_top.specs.declared.report.Status.TheVariants.{BadWords, NoMemory as OutOfMemory};
@@ -37,17 +38,12 @@ pub fn command<R: Threads + Wait + Sync, F: Files, K: Sink, E: Sink>(
     sink: &mut K,
     errors: &mut E,
 ) -> u8
-    ensures executes { IfOk args (λ args. Executes (each string_bytes (drop 1 (into_iter_items args))) (record {
-      files = record { told = F.held files.old; faults = F.faults files.old };
-      files_after = F.faults files.new;
-      sink = record { told = K.told sink.old; faults = K.faults sink.old };
-      sink_after = record { told = K.told sink.new; faults = K.faults sink.new };
-      errors = record { told = E.told errors.old; faults = E.faults errors.old };
-      errors_after = record { told = E.told errors.new; faults = E.faults errors.new };
-      number = result;
-    })) }
-    ensures no_memory { IfErr args (λ error. error_kind error ≡ ErrorKind.OutOfMemory → result ≡ status_number OutOfMemory) }
-    ensures no_text { IfErr args (λ error. error_kind error ≢ ErrorKind.OutOfMemory → result ≡ status_number BadWords) }
+    ensures executes { IfOk args (λ args. Executes (each string_bytes (drop 1 (into_iter_items args))) (execution_of
+        F.held F.faults files.old files.new K.told K.faults sink.old sink.new E.told E.faults errors.old errors.new result)) }
+    ensures no_memory { IfErr args (λ error. error_kind error ≡ ErrorKind.OutOfMemory → EndsWithoutWords OutOfMemory (execution_of
+        F.held F.faults files.old files.new K.told K.faults sink.old sink.new E.told E.faults errors.old errors.new result)) }
+    ensures no_text { IfErr args (λ error. error_kind error ≢ ErrorKind.OutOfMemory → EndsWithoutWords BadWords (execution_of
+        F.held F.faults files.old files.new K.told K.faults sink.old sink.new E.told E.faults errors.old errors.new result)) }
     ensures kept { F.held files.new ≡ F.held files.old }
 {
     match args {
@@ -69,15 +65,8 @@ fn called<R: Threads + Wait + Sync, F: Files, K: Sink>(
     files: &mut F,
     sink: &mut K,
 ) -> Report
-    ensures says { Says (each string_bytes (drop 1 (into_iter_items args))) (record {
-      files = record { told = F.held files.old; faults = F.faults files.old };
-      files_after = F.faults files.new;
-      outcome = record {
-        sink = record { told = K.told sink.old; faults = K.faults sink.old };
-        sink_after = record { told = K.told sink.new; faults = K.faults sink.new };
-        report = result;
-      };
-    }) ⊎ ((result.status ≡ OutOfMemory) × (blame_of result ≡ no_blame) × (K.told sink.new ≡ K.told sink.old) × (K.faults sink.new ≡ K.faults sink.old) × (F.faults files.new ≡ F.faults files.old)) }
+    ensures says { Says (each string_bytes (drop 1 (into_iter_items args))) (call_of F.held F.faults files.old files.new
+        (outcome_of K.told K.faults sink.old sink.new result)) }
     ensures kept { F.held files.new ≡ F.held files.old }
 {
     match words(alloc, args) {
@@ -127,8 +116,8 @@ fn reason_line(alloc: Global, report: &Report) -> Result<Vec<u8>, NoMemory>
 
 /// Writes the reason, where there is memory for it, and gives the number of the status.
 fn finish<E: Sink>(alloc: Global, report: &Report, errors: &mut E) -> u8
-    ensures { EndsWith report.now.status (blame_of report.now) result (record { told = E.told errors.old; faults = E.faults errors.old })
-        (record { told = E.told errors.new; faults = E.faults errors.new }) }
+    ensures { EndsWith report.now.status (blame_of report.now) result (device E.told E.faults errors.old)
+        (device E.told E.faults errors.new) }
 {
     end(report, reason_line(alloc, report), errors)
 }
@@ -138,10 +127,9 @@ fn finish<E: Sink>(alloc: Global, report: &Report, errors: &mut E) -> u8
 fn end<E: Sink>(report: &Report, line: Result<Vec<u8>, NoMemory>, errors: &mut E) -> u8
     requires { IfOk line (λ line. line.items ≡ reason_text report.now.status (blame_of report.now)) }
     ensures number { result ≡ status_number report.now.status }
-    ensures written { IfOk line (λ _. Writes (record { told = E.told errors.old; faults = E.faults errors.old })
-        (record { told = E.told errors.new; faults = E.faults errors.new }) (reason_text report.now.status (blame_of report.now))) }
-    ensures silent { IfErr line (λ _. Rests (record { told = E.told errors.old; faults = E.faults errors.old })
-        (record { told = E.told errors.new; faults = E.faults errors.new })) }
+    ensures written { IfOk line (λ _. Writes (device E.told E.faults errors.old) (device E.told E.faults errors.new)
+        (reason_text report.now.status (blame_of report.now))) }
+    ensures silent { IfErr line (λ _. Rests (device E.told E.faults errors.old) (device E.told E.faults errors.new)) }
 {
     match line {
         Ok(line) => {

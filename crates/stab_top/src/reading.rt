@@ -1,6 +1,7 @@
 //! Reads the program of a file.
 ghost use Rattle.std.specs.Prelude.{◌≡◌, ◌≤◌, length, IfOk, IfErr};
 ghost use Rattle.stab_text.specs.Text.{IsTextOf};
+ghost use Rattle.stab_top.specs.Device.{device};
 ghost use Rattle.stab_top.specs.Loading.{max_bytes};
 ghost use Rattle.stab_top.specs.Reading.{Holds, ReadRefused, TextRefused};
 ghost use Rattle.stab_top.specs.declared.report.Role.TheVariants.{Program as ProgramFile};
@@ -14,8 +15,8 @@ use std::alloc::Global;
 
 /// The program of the file, or the report of a call that can't have it.
 pub fn read_file<F: Files>(alloc: Global, files: &mut F, name: &str) -> Result<Program, Report>
-    ensures ok { IfOk result (Holds (record { told = F.held files.old; faults = F.faults files.old }) name.now (F.faults files.new)) }
-    ensures err { IfErr result (λ report. ReadRefused report (record { told = F.held files.old; faults = F.faults files.old }) name.now (F.faults files.new)) }
+    ensures ok { IfOk result (Holds (device F.held F.faults files.old) name.now (F.faults files.new)) }
+    ensures err { IfErr result (λ report. ReadRefused report (device F.held F.faults files.old) name.now (F.faults files.new)) }
     ensures kept { F.held files.new ≡ F.held files.old }
 {
     match load(alloc, files, Role::Program, name) {

@@ -6,7 +6,7 @@ ghost use Rattle.plain_run.specs.Sequential.{IsSequential};
 ghost use Rattle.stab_code.specs.JobParts.{job_of};
 ghost use Rattle.stab_code.specs.Valid.{IsValid};
 ghost use Rattle.stab_words.specs.Within.{IsRunWithin};
-ghost use Rattle.stab_top.specs.Ending.{EndSays, RunEnds};
+ghost use Rattle.stab_top.specs.Ending.{EndSays, RunEnds, outcome_of};
 ghost use Rattle.stab_top.specs.Reason.{blame_of, no_blame};
 
 use crate::report::{Report, Status};
@@ -22,11 +22,7 @@ use std::sync::Arc;
 /// Runs the program, where its only act is `print`, and writes what it shows.
 pub fn run_program<K: Sink>(alloc: Global, args: &RunArgs, program: Program, sink: &mut K) -> Report
     requires within { IsRunWithin args.now.workers args.now.fuel args.now.quantum }
-    ensures { RunEnds result.status args.now program (record {
-      sink = record { told = K.told sink.old; faults = K.faults sink.old };
-      sink_after = record { told = K.told sink.new; faults = K.faults sink.new };
-      report = result;
-    }) }
+    ensures { RunEnds result.status args.now program (outcome_of K.told K.faults sink.old sink.new result) }
 {
     if !is_sequential(&program) {
         return Report::bare(Status::NotBuilt);
@@ -61,11 +57,7 @@ fn write_end<K: Sink>(book: Book, text: &[u8], sink: &mut K) -> Report
     requires over { IsOver book book.state }
     ensures book { result.book ≡ Some book }
     ensures blame { blame_of result ≡ no_blame }
-    ensures end { EndSays result.status book book.state (record {
-      sink = record { told = K.told sink.old; faults = K.faults sink.old };
-      sink_after = record { told = K.told sink.new; faults = K.faults sink.new };
-      report = result;
-    }) }
+    ensures end { EndSays result.status book book.state (outcome_of K.told K.faults sink.old sink.new result) }
     ensures kept { IsBook book }
 {
     let quiet = book.is_quiet();

@@ -1,7 +1,8 @@
 //! The one call that the program makes.
 ghost use Rattle.std.specs.Prelude.{◌≡◌, map as each, string_bytes};
 ghost use Rattle.stab_words.specs.Within.{IsRunWithin, IsWithin};
-ghost use Rattle.stab_top.specs.Call.{CheckSays, RequestSays, RunSays, Says};
+ghost use Rattle.stab_top.specs.Call.{CheckSays, RequestSays, RunSays, Says, call_of};
+ghost use Rattle.stab_top.specs.Ending.{outcome_of};
 ghost use Rattle.stab_top.specs.Words.{is_built};
 
 use crate::checking::check_program;
@@ -25,15 +26,8 @@ pub fn stab<R: Threads + Wait + Sync, F: Files, K: Sink, G: Gate + Sync>(
     sink: &mut K,
     gate: &G,
 ) -> Report
-    ensures says { Says (each string_bytes words.now) (record {
-      files = record { told = F.held files.old; faults = F.faults files.old };
-      files_after = F.faults files.new;
-      outcome = record {
-        sink = record { told = K.told sink.old; faults = K.faults sink.old };
-        sink_after = record { told = K.told sink.new; faults = K.faults sink.new };
-        report = result;
-      };
-    }) }
+    ensures says { Says (each string_bytes words.now) (call_of F.held F.faults files.old files.new
+        (outcome_of K.told K.faults sink.old sink.new result)) }
     ensures kept { F.held files.new ≡ F.held files.old }
 {
     answer(alloc, words, files, sink)
@@ -41,15 +35,8 @@ pub fn stab<R: Threads + Wait + Sync, F: Files, K: Sink, G: Gate + Sync>(
 
 // The answer, for which nothing waits.
 fn answer<F: Files, K: Sink>(alloc: Global, words: &[String], files: &mut F, sink: &mut K) -> Report
-    ensures says { Says (each string_bytes words.now) (record {
-      files = record { told = F.held files.old; faults = F.faults files.old };
-      files_after = F.faults files.new;
-      outcome = record {
-        sink = record { told = K.told sink.old; faults = K.faults sink.old };
-        sink_after = record { told = K.told sink.new; faults = K.faults sink.new };
-        report = result;
-      };
-    }) }
+    ensures says { Says (each string_bytes words.now) (call_of F.held F.faults files.old files.new
+        (outcome_of K.told K.faults sink.old sink.new result)) }
     ensures kept { F.held files.new ≡ F.held files.old }
 {
     match read_words(alloc, words) {
@@ -67,15 +54,8 @@ fn answer_request<F: Files, K: Sink>(
     sink: &mut K,
 ) -> Report
     requires { IsWithin request.now }
-    ensures says { RequestSays (is_built request.now) (record {
-      files = record { told = F.held files.old; faults = F.faults files.old };
-      files_after = F.faults files.new;
-      outcome = record {
-        sink = record { told = K.told sink.old; faults = K.faults sink.old };
-        sink_after = record { told = K.told sink.new; faults = K.faults sink.new };
-        report = result;
-      };
-    }) request.now }
+    ensures says { RequestSays (is_built request.now) (call_of F.held F.faults files.old files.new
+        (outcome_of K.told K.faults sink.old sink.new result)) request.now }
     ensures kept { F.held files.new ≡ F.held files.old }
 {
     if !is_built(request) {
@@ -91,15 +71,8 @@ fn answer_request<F: Files, K: Sink>(
 // Runs the program of a file, and writes what it shows.
 fn run_file<F: Files, K: Sink>(alloc: Global, args: &RunArgs, files: &mut F, sink: &mut K) -> Report
     requires { IsRunWithin args.now.workers args.now.fuel args.now.quantum }
-    ensures says { RunSays (record {
-      files = record { told = F.held files.old; faults = F.faults files.old };
-      files_after = F.faults files.new;
-      outcome = record {
-        sink = record { told = K.told sink.old; faults = K.faults sink.old };
-        sink_after = record { told = K.told sink.new; faults = K.faults sink.new };
-        report = result;
-      };
-    }) args.now }
+    ensures says { RunSays (call_of F.held F.faults files.old files.new
+        (outcome_of K.told K.faults sink.old sink.new result)) args.now }
     ensures kept { F.held files.new ≡ F.held files.old }
 {
     match read_file(alloc, files, args.file.as_str()) {
@@ -110,15 +83,8 @@ fn run_file<F: Files, K: Sink>(alloc: Global, args: &RunArgs, files: &mut F, sin
 
 // Reads the program of a file, and writes how many functions and texts it has.
 fn check_file<F: Files, K: Sink>(alloc: Global, file: &Name, files: &mut F, sink: &mut K) -> Report
-    ensures says { CheckSays (record {
-      files = record { told = F.held files.old; faults = F.faults files.old };
-      files_after = F.faults files.new;
-      outcome = record {
-        sink = record { told = K.told sink.old; faults = K.faults sink.old };
-        sink_after = record { told = K.told sink.new; faults = K.faults sink.new };
-        report = result;
-      };
-    }) file.now }
+    ensures says { CheckSays (call_of F.held F.faults files.old files.new
+        (outcome_of K.told K.faults sink.old sink.new result)) file.now }
     ensures kept { F.held files.new ≡ F.held files.old }
 {
     match read_file(alloc, files, file.as_str()) {

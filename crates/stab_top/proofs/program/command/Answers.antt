@@ -1,21 +1,22 @@
-use Rattle.std.proofs.Common.{drop, string_bytes}
-use Rattle.std.proofs.Common.{map as each}
-use Rattle.std.specs.Vec.Iter.{into_iter_items}
-use Rattle.stab_top.proofs.Executing.{executed, executes}
+use Rattle.std.proofs.Common.{refl}
+use Rattle.stab_top.specs.declared.report.Status.TheVariants.{BadWords, NoMemory}
+use Rattle.stab_top.specs.Reason.{blame_of}
+use Rattle.stab_top.specs.Device.{device}
+use Rattle.stab_top.proofs.Executing.{ends_as, executed, refused}
 use Rattle.stab_top.proofs.program.command.Goals as goal
 
 pub returns-in-Ok-clause-executes : goal.returns-in-Ok-clause-executes
 returns-in-Ok-clause-executes g c =
-    let report = c.called-report.result in
-    executed c.args.args c.in-Ok.args _ c.in-Ok.is
-    (executes (each string_bytes (drop 1 (into_iter_items c.in-Ok.args)))
-    (record {
-      files = record { told = g.F.Files.held c.args.files.now; faults = g.F.Files.faults c.args.files.now };
-      files_after = g.F.Files.faults c.called-report.new.files;
-      sink = record { told = g.K.Sink.told c.args.sink.now; faults = g.K.Sink.faults c.args.sink.now };
-      sink_after = record { told = g.K.Sink.told c.called-report.new.sink; faults = g.K.Sink.faults c.called-report.new.sink };
-      errors = record { told = g.E.Sink.told c.args.errors.now; faults = g.E.Sink.faults c.args.errors.now };
-      errors_after = record { told = g.E.Sink.told c.finish.new.errors; faults = g.E.Sink.faults c.finish.new.errors };
-      number = c.finish.result;
-    })
-    report c.finish.ensures c.called-report.ensures.says)
+    executed c.args.args c.in-Ok.args _ c.in-Ok.is (c.called-report.result, c.finish.ensures, c.called-report.ensures.says)
+
+pub returns-in-Err-clause-no_memory : goal.returns-in-Err-clause-no_memory
+returns-in-Err-clause-no_memory g c =
+    let report = c.refused_words-report.result in
+    refused c.args.args c.in-Err.error _ c.in-Err.is
+    (λ kind. (ends_as report.status NoMemory (blame_of report) _ _ _ (c.refused_words-report.ensures.no_memory kind) c.refused_words-report.ensures.blames.blame c.finish-in-Err.ensures, (refl, refl), refl))
+
+pub returns-in-Err-clause-no_text : goal.returns-in-Err-clause-no_text
+returns-in-Err-clause-no_text g c =
+    let report = c.refused_words-report.result in
+    refused c.args.args c.in-Err.error _ c.in-Err.is
+    (λ kind. (ends_as report.status BadWords (blame_of report) _ _ _ (c.refused_words-report.ensures.no_text kind) c.refused_words-report.ensures.blames.blame c.finish-in-Err.ensures, (refl, refl), refl))
