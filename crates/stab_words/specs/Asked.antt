@@ -42,7 +42,8 @@ name_of word = before_first (λ b. b == 61) word
 
 -- its value is what follows the `=`, where there is one
 abbrev pub written_value : List ℕ → Option (List ℕ)
-written_value word = if nat_lt (position_or_len (λ b. b == 61) word) (length word) then Some (after_first (λ b. b == 61) word) else None
+written_value word =
+    if nat_lt (position_or_len (λ b. b == 61) word) (length word) then Some (after_first (λ b. b == 61) word) else None
 
 -- the option that the word i names, which the command has and which wasn't given yet
 abbrev pub option_of : Command → ℕ → List ℕ → Given → Result Setting WordFault
@@ -87,14 +88,18 @@ read c i false (word ∷ words) given =
     else (if has_dash word then Err (UnknownOption i)
     else and_then (plain c i word given) (read c (suc i) false words)))
 
+-- the numbers that were given, or what is meant without them
+abbrev pub workers_of : Given → ℕ
+workers_of g = unwrap_or g.workers default_workers
+
+abbrev pub fuel_of : Given → ℕ
+fuel_of g = unwrap_or g.fuel default_fuel
+
+abbrev pub quantum_of : Given → ℕ
+quantum_of g = unwrap_or g.quantum default_quantum
+
 abbrev pub run_args : List ℕ → Given → RunArgs
-run_args file given = record {
-  file = file;
-  probes = given.probes;
-  workers = unwrap_or given.workers default_workers;
-  fuel = unwrap_or given.fuel default_fuel;
-  quantum = unwrap_or given.quantum default_quantum;
-}
+run_args file g = record { file = file; probes = g.probes; workers = workers_of g; fuel = fuel_of g; quantum = quantum_of g }
 
 -- the request of a command, where each of its places is filled
 abbrev pub request_of : Command → Given → Option Request
@@ -106,13 +111,13 @@ request_of Types g = option_map asks.Types g.file
 request_of Verify g = option_and_then (λ file. option_map (λ trace.
     asks.Verify (record { file = file; trace = trace; probes = g.probes })) g.second) g.file
 request_of Drill g = option_and_then (λ file. option_map (λ script.
-    asks.Drill (record { file = file; script = script; probes = g.probes; fuel = unwrap_or g.fuel default_fuel; quantum = unwrap_or g.quantum default_quantum })) g.second) g.file
+    asks.Drill (record { file = file; script = script; probes = g.probes; fuel = fuel_of g; quantum = quantum_of g })) g.second) g.file
 request_of Save g = option_and_then (λ file. option_and_then (λ trace. option_map (λ at.
     asks.Save (record { file = file; trace = trace; at = at; probes = g.probes })) g.number) g.second) g.file
 request_of Mill g = option_map (λ size.
-    asks.Mill (record { size = size; workers = unwrap_or g.workers default_workers; fuel = unwrap_or g.fuel default_fuel; quantum = unwrap_or g.quantum default_quantum })) g.number
+    asks.Mill (record { size = size; workers = workers_of g; fuel = fuel_of g; quantum = quantum_of g })) g.number
 request_of Resume g = option_map (λ image.
-    asks.Resume (record { image = image; fuel = unwrap_or g.fuel default_fuel; quantum = unwrap_or g.quantum default_quantum })) g.file
+    asks.Resume (record { image = image; fuel = fuel_of g; quantum = quantum_of g })) g.file
 
 -- the request, where a word is in each place
 abbrev pub request : Command → Given → Result Request WordFault
@@ -121,7 +126,8 @@ request c given = or_fault (request_of c given) MissingWord
 -- The request or the fault: the command is the first word, and the others are read from the left.
 abbrev pub asked : List (List ℕ) → Result Request WordFault
 asked [] = Err NoCommand
-asked (word ∷ words) = and_then (or_fault (command_named word) UnknownCommand) (λ c. and_then (read c 1 false words nothing) (request c))
+asked (word ∷ words) =
+    and_then (or_fault (command_named word) UnknownCommand) (λ c. and_then (read c 1 false words nothing) (request c))
 
 -- an answer is what is meant, unless memory was refused
 abbrev pub Gives : {A B : Type 0} → (A → B) → Result A WordFault → Result B WordFault → Type 0

@@ -24,12 +24,14 @@ with_value option i None given = goes_on (ValueOf option i) given
 
 -- the word i is an option
 abbrev pub option_step : Command → ℕ → List ℕ → Given → Result Reading WordFault
-option_step c i word given = and_then (option_of c i (name_of word) given) (λ option. with_value option i (written_value word) given)
+option_step c i word given =
+    and_then (option_of c i (name_of word) given) (λ option. with_value option i (written_value word) given)
 
 -- the word i, by what is expected there
 abbrev pub step : Command → ℕ → List ℕ → Given → Expects → Result Reading WordFault
 step c i word given PlainWord = and_then (plain c i word given) (goes_on PlainWord)
-step c i word given (ValueOf option at) = if has_dash word then Err (NoValue at) else and_then (valued option at word given) (goes_on AnyWord)
+step c i word given (ValueOf option at) =
+    if has_dash word then Err (NoValue at) else and_then (valued option at word given) (goes_on AnyWord)
 step c i word given AnyWord =
     if bytes_eq word (codes "--") then goes_on PlainWord given
     else (if has_dashes word then option_step c i word given
