@@ -54,6 +54,7 @@ pub(crate) fn place_in(spot: Spot) -> Option<usize>
 }
 
 impl Links {
+    /// What stands before and behind a spot.
     pub(crate) fn link(&self, spot: Spot) -> Link
         requires { IsThere (length self.now.ends.items) (length self.now.places.items) spot }
         ensures { result ≡ link_at self.now.ends.items self.now.places.items spot }

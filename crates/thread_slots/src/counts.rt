@@ -15,6 +15,7 @@ pub struct StateCounts {
 }
 
 impl StateCounts {
+    /// No threads.
     pub(crate) fn none() -> Self
         ensures { (s : State) → count_of result s ≡ 0 }
     {

@@ -42,6 +42,7 @@ impl Model for Queues {
 }
 
 impl Queues {
+    /// Queues without places.
     pub(crate) fn new(alloc: Global) -> Self
         ensures ready { result.ready ≡ [] }
         ensures leased { result.leased ≡ [] }
