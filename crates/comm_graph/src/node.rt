@@ -20,6 +20,7 @@ pub enum NodeFor {
 }
 
 impl NodeFor {
+    /// The thread that acts in it, of a communication the sender.
     pub(crate) fn first(&self) -> ThreadId
         ensures { result ≡ first_of self.now }
     {
@@ -34,6 +35,7 @@ impl NodeFor {
         }
     }
 
+    /// The receiver, or the thread that is started.
     pub(crate) fn second(&self) -> Option<ThreadId>
         ensures { result ≡ second_of self.now }
     {
@@ -67,6 +69,7 @@ impl NodeFor {
         }
     }
 
+    /// Whether the thread acts in it; one that is started only doesn't.
     pub(crate) fn acts(&self, t: ThreadId) -> bool
         ensures { result ≡ acts t.0 self.now }
     {
@@ -76,12 +79,14 @@ impl NodeFor {
         }
     }
 
+    /// Whether it writes a reference, or makes one.
     pub(crate) fn is_write(&self) -> bool
         ensures { result ≡ is_write self.now }
     {
         matches!(self, NodeFor::Set(_) | NodeFor::NewRef(_))
     }
 
+    /// The number of the write that a get read.
     pub(crate) fn read(&self) -> Option<Seq>
         ensures { result ≡ read_by self.now }
     {

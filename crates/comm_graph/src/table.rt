@@ -42,6 +42,7 @@ pub struct Entry {
 }
 
 impl Entry {
+    /// Its neighbours in a line that it stands in.
     pub fn links(&self, line: Line) -> Links
         ensures { result ≡ links_of line self.now }
     {
@@ -98,6 +99,7 @@ pub struct Table {
 }
 
 impl Table {
+    /// No entries, none of which were dropped.
     pub fn new(alloc: Global) -> Table
         ensures entries { result.entries.items ≡ [] }
         ensures gone { result.gone ≡ 0 }
@@ -138,6 +140,7 @@ impl Table {
         });
     }
 
+    /// The entry at a place that wasn't dropped.
     pub fn entry(&self, place: Place) -> &Entry
         requires { IsPlace self.now.entries.items self.now.gone place }
         ensures { entry_at self.now.entries.items self.now.gone place ≡ Some result.now }
@@ -145,6 +148,7 @@ impl Table {
         &self.entries[(place - self.gone - 1) as usize]
     }
 
+    /// Notes which entry is before this one in a line. A dropped entry stays as it is.
     pub fn set_before(&mut self, place: Place, line: Line, before: Place)
         requires { place ≤ self.old.gone + length self.old.entries.items }
         ensures gone { self.new.gone ≡ self.old.gone }
@@ -158,6 +162,7 @@ impl Table {
         }
     }
 
+    /// Notes which entry is behind this one in a line. A dropped entry stays as it is.
     pub fn set_after(&mut self, place: Place, line: Line, after: Place)
         requires { place ≤ self.old.gone + length self.old.entries.items }
         ensures gone { self.new.gone ≡ self.old.gone }
@@ -171,6 +176,7 @@ impl Table {
         }
     }
 
+    /// Notes the last get that read a write. A dropped entry stays as it is.
     pub fn set_last_reader(&mut self, place: Place, last: Place)
         requires { place ≤ self.old.gone + length self.old.entries.items }
         ensures gone { self.new.gone ≡ self.old.gone }
@@ -185,6 +191,7 @@ impl Table {
         }
     }
 
+    /// Notes that the node was struck. A dropped entry stays as it is.
     pub fn set_struck(&mut self, place: Place)
         requires { place ≤ self.old.gone + length self.old.entries.items }
         ensures gone { self.new.gone ≡ self.old.gone }

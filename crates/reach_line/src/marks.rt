@@ -102,6 +102,7 @@ impl Marks {
         &self.nodes
     }
 
+    /// The i-th node that was marked.
     pub(crate) fn at(&self, i: usize) -> Option<Seq>
         ensures at { option_map (λ q. q.0) result ≡ slice_get self.now.nodes i }
         ensures once { IsOnce self.now.nodes }
@@ -111,6 +112,7 @@ impl Marks {
         self.nodes.get(i).copied()
     }
 
+    /// Marks a node for which there is room, where it isn't marked yet.
     pub(crate) fn mark(&mut self, q: Seq)
         requires low { self.old.lowest ≤ q.0 }
         requires high { q.0 < self.old.beyond }
