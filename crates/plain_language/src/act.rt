@@ -32,8 +32,8 @@ pub(crate) enum Act<'a> {
     Attempt,
 }
 
-/// The channel that a value is.
-pub(crate) fn as_chan(v: &Value) -> Option<ChanId>
+/// The channel that a value is, if it is one.
+pub fn as_chan(v: &Value) -> Option<ChanId>
     ensures { option_map (λ c. c.0) result ≡ chan_of v.now }
 {
     match v.shape() {
@@ -42,8 +42,8 @@ pub(crate) fn as_chan(v: &Value) -> Option<ChanId>
     }
 }
 
-/// The reference that a value is.
-pub(crate) fn as_reference(v: &Value) -> Option<RefId>
+/// The reference that a value is, if it is one.
+pub fn as_reference(v: &Value) -> Option<RefId>
     ensures { option_map (λ r. r.0) result ≡ reference_of v.now }
 {
     match v.shape() {

@@ -21,6 +21,7 @@ mod state;
 #[cfg(test)]
 mod tests;
 
+pub use act::{as_chan, as_reference};
 pub use expr::Expr;
 pub use head::Head;
 pub use laws::{
@@ -28,5 +29,7 @@ pub use laws::{
     steps_change_what_they_name,
 };
 pub use look::{ActKind, Look};
+pub use operators::{negated, number_of, operate};
 pub use play::PlayFault;
+pub use pure::as_truth;
 pub use state::PlainState;

@@ -8,8 +8,8 @@ ghost use Rattle.plain_language.specs.Outcome.{by_operator, divided, number};
 use stab_base::{Fault, Shape, Value};
 use stab_code::Op;
 
-/// The number that a value is.
-pub(crate) fn number_of(v: &Value) -> Option<i64>
+/// The number that a value is, if it is one.
+pub fn number_of(v: &Value) -> Option<i64>
     ensures { result ≡ number_of v.now }
 {
     match v.shape() {
@@ -74,7 +74,7 @@ fn between(op: Op, m: i64, n: i64) -> Result<Value, Fault>
 }
 
 /// What an operator other than `&&` and `||` makes of two values.
-pub(crate) fn operate(op: Op, v: &Value, w: &Value) -> Result<Value, Fault>
+pub fn operate(op: Op, v: &Value, w: &Value) -> Result<Value, Fault>
     ensures { outcome_of result ≡ by_operator op v.now w.now }
 {
     match op {
@@ -87,8 +87,8 @@ pub(crate) fn operate(op: Op, v: &Value, w: &Value) -> Result<Value, Fault>
     }
 }
 
-/// The negation of a number.
-pub(crate) fn negated(n: i64) -> Result<Value, Fault>
+/// The negation of a number, which overflows at the least.
+pub fn negated(n: i64) -> Result<Value, Fault>
     ensures { outcome_of result ≡ number (pos 0 -ℤ n) }
 {
     difference(0, n)

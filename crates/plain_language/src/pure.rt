@@ -29,8 +29,8 @@ pub(crate) enum Pure {
     Fails(Fault),
 }
 
-/// The truth value that a value is.
-fn as_truth(v: &Value) -> Option<bool>
+/// The truth value that a value is, if it is one.
+pub fn as_truth(v: &Value) -> Option<bool>
     ensures { result ≡ truth_of v.now }
 {
     match v.shape() {
