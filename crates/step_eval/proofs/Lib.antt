@@ -1,7 +1,15 @@
+pub mod Arriving
+pub mod Asking
+pub mod Blocks
 pub mod Calls
 pub mod Ending
 pub mod Forms
 pub mod Nodes
 pub mod Redexes
+pub mod Scopes
 pub mod Shares
 pub mod Small
+pub mod Standing
+pub mod Stepping
+pub mod Turning
+pub mod Units

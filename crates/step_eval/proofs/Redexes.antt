@@ -1,17 +1,24 @@
 -- The redex of a control whose redex is found is what it looks at, within its frames.
 use Rattle.std.proofs.Common.{◌≡◌, ℕ, zero, suc, ◌+◌, ◌<◌, ◌≤◌, Bool, true, false, List, [], ◌∷◌, ◌++◌, map, length, drop, slice_get, Option, Some, None, option_map, refl, ap, sym, ◌∙◌, arith, append-nil, append_assoc, cond, subst}
 use Rattle.stab_base.specs.Datum.{Datum}
+use Rattle.stab_base.specs.declared.fault.Fault.{Fault}
+use Rattle.stab_base.specs.declared.fault.Fault.TheVariants.{TooDeep}
 use Rattle.stab_base.specs.declared.numbers.Seq.{Seq}
+use Rattle.std.proofs.lemmas.Bool.Decides.{nat_tests}
+use Rattle.std.proofs.lemmas.List.{length-map}
+use Rattle.std.specs.Prelude.{nat_lt}
 use Rattle.stab_code.specs.declared.head.Head as code
 use Rattle.stab_code.specs.declared.head.Head.TheVariants.{Block, If, Two}
 use Rattle.stab_code.specs.declared.head.Op.TheVariants.{Or, And}
+use Rattle.stab_code.specs.declared.node_id.NodeId.{NodeId}
 use Rattle.stab_code.specs.Heads.{strict_parts}
 use Rattle.stab_code.specs.Program.{ProgramParts, trees_at}
 use Rattle.plain_language.specs.declared.head.Head.{Head}
-use Rattle.plain_language.specs.Expression.{Parts, none, put_parts}
-use Rattle.plain_language.specs.Frames.{AreFrames}
+use Rattle.plain_language.specs.Expression.{Expr, Parts, failed, none, put_parts}
+use Rattle.step_eval.specs.Arrival.{Arrives}
+use Rattle.plain_language.specs.Frames.{IsFrame, AreFrames}
 use Rattle.plain_language.specs.Program.{exprs_of}
-use Rattle.plain_language.specs.Redex.{Frame, Redex, after_values, first_counts_alone, frames_of, innermost, mark, redex, redex_in, section_or}
+use Rattle.plain_language.specs.Redex.{Frame, Redex, after_values, cap, first_counts_alone, frames_of, innermost, mark, redex, redex_in, section_or, spine, within}
 use Rattle.plain_language.proofs.Unique.{redex-within}
 use Rattle.step_eval.specs.declared.machine.Focus.{Focus}
 use Rattle.step_eval.specs.declared.machine.Focus.TheVariants as focus
@@ -19,7 +26,7 @@ use Rattle.step_eval.specs.declared.machine.Machine.{Machine}
 use Rattle.step_eval.specs.declared.site.Site.{Site}
 use Rattle.step_eval.specs.declared.site.Site.TheVariants.{Form, Section}
 use Rattle.step_eval.specs.ControlView.{ControlView, Fits, RedexIsFound, focus_expr, focus_view, view_of, expr_of as expr_in}
-use Rattle.step_eval.specs.Fits.{FramesFit, IsMarkAt, outside}
+use Rattle.step_eval.specs.Fits.{FrameFits, FramesFit, IsMarkAt, outside}
 use Rattle.step_eval.specs.FrameView.{FrameView}
 use Rattle.step_eval.specs.Meaning.{form_at, frame_at, head_at, head_of, left_of, node_at, rest_of, strict_at, waiting_at, within_forms}
 use Rattle.step_eval.specs.Ready.{IsSettled}
@@ -112,16 +119,42 @@ module _ (p : ProgramParts) where
   none_left mk [] fit is = fit
   none_left mk (f ∷ fs) fit is = cc
 
-  mark_by : (f : Focus) (h : FrameView) (round : List FrameView) (mk : Option Seq) → Fits p (record { focus = focus_view f h; round = round; mark = mk }) → RedexIsFound p (record { focus = focus_view f h; round = round; mark = mk }) → option_map (λ m. m.0) mk ≡ mark (within_forms p round (focus_expr p (focus_view f h)))
+  mark_by : (f : Focus) (h : FrameView) (round : List FrameView) (mk : Option Seq) → Fits p (record { focus = focus_view f h; round = round; mark = mk }) → RedexIsFound (record { focus = focus_view f h; round = round; mark = mk }) → option_map (λ m. m.0) mk ≡ mark (within_forms p round (focus_expr p (focus_view f h)))
   mark_by (focus.Begun n) h round mk fits is = elim is [ ]
-  mark_by focus.Form h round mk fits is = mark_within mk round h fits.frames fits.focus
+  mark_by focus.Form h round mk fits is = mark_within mk round h fits.frames fits.focus.0
   mark_by (focus.Act a) h round mk fits is = mark_within mk round h fits.frames fits.focus.0
   mark_by (focus.Value v) h round mk fits is = ap (option_map (λ m. m.0)) (none_left mk round fits.frames is) ∙ sym (ap (λ fs. mark (within_forms p fs (focus_expr p (focus_view (focus.Value v) h)))) is)
   mark_by (focus.Fault k) h round mk fits is = ap (option_map (λ m. m.0)) (none_left mk round fits.frames fits.focus) ∙ sym (ap (λ fs. mark (within_forms p fs (focus_expr p (focus_view (focus.Fault k) h)))) fits.focus)
 
   -- the mark of a control is that of its expression
-  pub mark_is : (v : ControlView) (m : Machine) → v ≡ view_of m → Fits p v → RedexIsFound p v → option_map (λ q. q.0) m.mark ≡ mark (expr_in p v)
+  pub mark_is : (v : ControlView) (m : Machine) → v ≡ view_of m → Fits p v → RedexIsFound v → option_map (λ q. q.0) m.mark ≡ mark (expr_in p v)
   mark_is v m is fits found =
       let P : ControlView → Type 0 = λ (x : ControlView). Fits p x in
-      let Q : ControlView → Type 0 = λ (x : ControlView). RedexIsFound p x in
+      let Q : ControlView → Type 0 = λ (x : ControlView). RedexIsFound x in
       mark_by m.focus (here_of m) (round_of m) m.mark (subst P is fits) (subst Q is found) ∙ sym (ap (λ (x : ControlView). mark (expr_in p x)) is)
+
+  spine_within : (mk : Option Seq) (fs : List FrameView) (h : FrameView) → FramesFit p mk fs → IsSettled p h → spine (within_forms p fs (form_at p h)) ≡ length fs
+  spine_within mk fs h fit settled = ap (λ o. length (frames_of o)) (redex-settled mk fs h fit settled) ∙ length-map fs (frame_at p)
+
+  spine_by : (f : Focus) (h : FrameView) (round : List FrameView) (mk : Option Seq) → Fits p (record { focus = focus_view f h; round = round; mark = mk }) → RedexIsFound (record { focus = focus_view f h; round = round; mark = mk }) → spine (within_forms p round (focus_expr p (focus_view f h))) ≡ length round
+  spine_by (focus.Begun n) h round mk fits is = elim is [ ]
+  spine_by focus.Form h round mk fits is = spine_within mk round h fits.frames fits.focus.0
+  spine_by (focus.Act a) h round mk fits is = spine_within mk round h fits.frames fits.focus.0
+  spine_by (focus.Value v) h round mk fits is = ap (λ fs. spine (within_forms p fs (focus_expr p (focus_view (focus.Value v) h)))) is ∙ sym (ap length is)
+  spine_by (focus.Fault k) h round mk fits is = ap (λ fs. spine (within_forms p fs (focus_expr p (focus_view (focus.Fault k) h)))) fits.focus ∙ sym (ap length fits.focus)
+
+  -- as many forms stand round the redex as there are frames
+  pub spine_is : (m : Machine) (e : Expr) → Arrives p (view_of m) e → spine e ≡ length (round_of m)
+  spine_is m e a = ap spine (sym a.expr) ∙ spine_by m.focus (here_of m) (round_of m) m.mark a.fits a.found
+
+above : (n : ℕ) → 1000 < n → nat_lt 1000 n ≡ true
+above n h = grind (arith, nat_tests)
+
+not_above : (n : ℕ) → n ≤ 1000 → nat_lt 1000 n ≡ false
+not_above n h = grind (arith, nat_tests)
+
+pub cap-over : (e : Expr) (n : ℕ) → spine e ≡ n → 1000 < n → failed TooDeep ≡ cap e
+cap-over e n is h = ap (λ b. cond b (failed TooDeep) e) (sym (ap (nat_lt 1000) is ∙ above n h))
+
+pub cap-within : (e : Expr) (n : ℕ) → spine e ≡ n → n ≤ 1000 → e ≡ cap e
+cap-within e n is h = ap (λ b. cond b (failed TooDeep) e) (sym (ap (nat_lt 1000) is ∙ not_above n h))

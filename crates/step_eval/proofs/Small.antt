@@ -1,11 +1,11 @@
 -- A program for tests, as contracts see it, and that it is valid.
-use Rattle.std.proofs.Common.{◌≡◌, ◌<◌, ◌≤◌, ◌++◌, [], ◌∷◌, length, pos, Some, IfSome, refl, lit<, lit≤}
+use Rattle.std.proofs.Common.{◌≡◌, ◌<◌, ◌≤◌, ◌++◌, List, [], ◌∷◌, length, pos, Some, None, IfSome, refl, lit<, lit≤}
 use Rattle.std.specs.List.{All, range_with_len}
 use Rattle.std.proofs.lemmas.List.Elements.{All-from_recursion}
 use Rattle.stab_code.specs.declared.head.Head.TheVariants.{Call, Int, Print, Two, Var}
 use Rattle.stab_code.specs.declared.head.Op.TheVariants.{Add}
 use Rattle.stab_code.specs.Heads.{text_of}
-use Rattle.stab_code.specs.Nodes.{node_of, id}
+use Rattle.stab_code.specs.Nodes.{NodeParts, node_of, id}
 use Rattle.stab_code.specs.Program.{ProgramParts, arity_of, body_of, function_of, program_of}
 use Rattle.stab_code.specs.Syntax.{lets_of, open_in, depth_of}
 use Rattle.stab_code.specs.Limits.{max_form_depth}

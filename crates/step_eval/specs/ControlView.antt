@@ -1,5 +1,6 @@
 -- A control without addresses, and the expression that it stands for.
 use Rattle.std.specs.Prelude.{◌≡◌, ◌<◌, ⊤, List, [], length, slice_get, Option, Some, None}
+use Rattle.std.specs.Arc.{arc_value}
 use Rattle.stab_base.specs.Datum.{Datum}
 use Rattle.stab_base.specs.declared.fault.Fault.{Fault}
 use Rattle.stab_base.specs.declared.numbers.Seq.{Seq}
@@ -18,6 +19,7 @@ use Rattle.step_eval.specs.Acts.{act_of}
 use Rattle.step_eval.specs.FrameView.{FrameView}
 use Rattle.step_eval.specs.Fits.{FramesFit, IsForm}
 use Rattle.step_eval.specs.Meaning.{form_at, node_at, within_forms}
+use Rattle.step_eval.specs.Operands.{HasOperands}
 use Rattle.step_eval.specs.Ready.{IsSettled}
 use Rattle.step_eval.specs.Scoped.{IsScoped}
 use Rattle.step_eval.specs.Turns.{turn_at}
@@ -62,23 +64,22 @@ module _ (p : ProgramParts) where
 
   abbrev pub FocusFits : FocusView → List FrameView → Type 0
   FocusFits (begun n env) round = (n.0 < length p.nodes) × IsForm (node_at p n).head × IsScoped (length env) (tree_at p n)
-  FocusFits (settled here) round = IsSettled p here
-  FocusFits (acting a here) round = IsSettled p here × (told (turn_at p here) ≡ Some (act_of (body p) here.done a))
+  FocusFits (settled here) round = IsSettled p here × (told (turn_at p here) ≡ None)
+  FocusFits (acting a here) round = IsSettled p here × (told (turn_at p here) ≡ Some (act_of (body p) here.done a)) × HasOperands p (length here.done) a
   FocusFits (value v) round = ⊤
   FocusFits (fault k) round = round ≡ []
 
-  -- each node, slot and function number in the control is the program's, and each variable has a value
+  -- each node, slot and function number in the control is the program's, each variable has a value, and an act has its operands
   pub record Fits (c : ControlView) : Type 0 where
     pub focus : FocusFits c.focus c.round
     pub frames : FramesFit p c.mark c.round
 
-  abbrev pub IsFound : FocusView → List FrameView → Type 0
-  IsFound (begun n env) round = ⊥
-  IsFound (settled here) round = told (turn_at p here) ≡ None
-  IsFound (acting a here) round = ⊤
-  IsFound (value v) round = round ≡ []
-  IsFound (fault k) round = ⊤
+-- a form that is begun is to be searched, and so is a value within frames
+abbrev pub IsFound : FocusView → List FrameView → Type 0
+IsFound (begun n env) round = ⊥
+IsFound (value v) round = round ≡ []
+IsFound what round = ⊤
 
-  -- the control's redex is found, if it has one
-  abbrev pub RedexIsFound : ControlView → Type 0
-  RedexIsFound c = IsFound c.focus c.round
+-- the control's redex is found, if it has one
+abbrev pub RedexIsFound : ControlView → Type 0
+RedexIsFound c = IsFound c.focus c.round

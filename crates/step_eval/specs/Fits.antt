@@ -2,7 +2,8 @@
 use Rattle.std.specs.Prelude.{◌≡◌, ℕ, ◌<◌, ⊤, List, [], ◌∷◌, length, drop, Option, Some, None}
 use Rattle.stab_base.specs.declared.numbers.Seq.{Seq}
 use Rattle.stab_code.specs.declared.head.Head.{Head}
-use Rattle.stab_code.specs.declared.head.Head.TheVariants.{Unit, Truth, Int, Text, Var, Block}
+use Rattle.stab_code.specs.declared.head.Head.TheVariants.{Unit, Truth, Int, Text, Var, Block, If, Two, Call}
+use Rattle.stab_code.specs.declared.head.Op.TheVariants.{Or, And}
 use Rattle.stab_code.specs.declared.node_id.NodeId.{NodeId}
 use Rattle.stab_code.specs.Program.{ProgramParts, trees_at}
 use Rattle.stab_code.specs.Trees.{Tree, tree}
@@ -20,6 +21,20 @@ IsForm (Int n) = ⊥
 IsForm (Text t) = ⊥
 IsForm (Var x) = ⊥
 IsForm h = ⊤
+
+-- a form other than a call, all of whose parts have to be values
+abbrev pub GivesValue : Head → Type 0
+GivesValue Unit = ⊥
+GivesValue (Truth b) = ⊥
+GivesValue (Int n) = ⊥
+GivesValue (Text t) = ⊥
+GivesValue (Var x) = ⊥
+GivesValue (Block slots) = ⊥
+GivesValue If = ⊥
+GivesValue (Two And) = ⊥
+GivesValue (Two Or) = ⊥
+GivesValue (Call f) = ⊥
+GivesValue h = ⊤
 
 -- of a block an item is left, and nothing else has lost a part
 abbrev pub IsLeft : Head → ℕ → Type 0

@@ -1,9 +1,13 @@
 pub mod Acts
+pub mod Arrival
+pub mod Asked
 pub mod ControlView
 pub mod Entries
 pub mod Fits
 pub mod FrameView
 pub mod Meaning
+pub mod Operands
+pub mod Progress
 pub mod Ready
 pub mod Rests
 pub mod Scoped

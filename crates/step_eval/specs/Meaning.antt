@@ -1,5 +1,5 @@
 -- The expression that a form stands for while it is being evaluated.
-use Rattle.std.specs.Prelude.{ℕ, ◌+◌, List, [], length, map, drop, slice_get, unwrap_or}
+use Rattle.std.specs.Prelude.{ℕ, ◌+◌, List, [], ◌∷◌, ◌++◌, length, map, drop, slice_get, unwrap_or}
 use Rattle.stab_base.specs.Datum.{Datum}
 use Rattle.stab_code.specs.declared.head.Head as code
 use Rattle.stab_code.specs.declared.head.Head.TheVariants.{Unit, Block}
@@ -63,6 +63,14 @@ frame_at p v = record { head = head_at p v.site; left = v.done; right = put_part
 abbrev pub within_forms : ProgramParts → List FrameView → Expr → Expr
 within_forms p round e = within (map (frame_at p) round) e
 
+-- a node's form without so many of its items, which has these values
+abbrev pub at_form : NodeId → ℕ → List Datum → List Datum → FrameView
+at_form n from done env = record { site = Form n from; done = done; env = env }
+
 -- a node's form before it has a value
 abbrev pub at_start : NodeId → List Datum → FrameView
-at_start n env = record { site = Form n 0; done = []; env = env }
+at_start n env = at_form n 0 [] env
+
+-- one value more
+abbrev pub with_value : FrameView → Datum → FrameView
+with_value f v = record { site = f.site; done = f.done ++ v ∷ []; env = f.env }

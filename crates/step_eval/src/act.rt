@@ -1,6 +1,20 @@
 //! Acts.
+ghost use Rattle.std.specs.Prelude.{◌≡◌, ℕ, List, IfSome, option_map};
+ghost use Rattle.stab_code.specs.Heads.{strict_parts};
+ghost use Rattle.stab_code.specs.Program.{FunctionParts};
+ghost use Rattle.stab_code.specs.Valid.{parts_of};
+ghost use Rattle.plain_language.specs.Acts.{told};
+ghost use Rattle.plain_language.specs.Expression.{Expr, Parts};
+ghost use Rattle.plain_language.specs.Outcome.{outcome};
+ghost use Rattle.step_eval.specs.Acts.{act_of};
+ghost use Rattle.step_eval.specs.Fits.{IsForm};
+ghost use Rattle.step_eval.specs.Meaning.{head_of, left_of};
+ghost use Rattle.step_eval.specs.Operands.{operand_count};
 
-use stab_base::{ChanId, FnId, RefId};
+use crate::values::{one, two};
+use plain_language::{as_chan, as_reference};
+use stab_base::{ChanId, FnId, RefId, Value};
+use stab_code::Head;
 
 /// What a thread does to others than itself. Its values are the control's operands.
 #[derive(Clone, Copy, PartialEq, Eq, Debug)]
@@ -20,4 +34,46 @@ pub enum Act {
     Print,
     Probe,
     Attempt,
+}
+
+/// The act that a form is whose parts have these values, if it is one.
+pub(crate) fn act_at(head: &Head, values: &[Value]) -> Option<Act>
+    requires { IsForm head.now }
+    ensures act { (body : ℕ → Expr) (from : ℕ) (rest : Parts) → option_map (act_of body values.now) result ≡ told (outcome body (head_of (left_of from head.now)) values.now rest) }
+    ensures operands { IfSome result (λ a. (functions : List FunctionParts) → operand_count functions a ≡ parts_of functions head.now) }
+    ensures whole { IfSome result (λ _. (parts : ℕ) → strict_parts head.now parts ≡ parts) }
+{
+    match head {
+        Head::Spawn(f) => Some(Act::Spawn(*f)),
+        Head::Stable(f) => Some(Act::Enter(*f)),
+        Head::NewChan(_) => Some(Act::NewChan),
+        Head::NewRef => {
+            one(values)?;
+            Some(Act::NewRef)
+        }
+        Head::Get => Some(Act::Get(as_reference(one(values)?)?)),
+        Head::Set => {
+            let (r, _v) = two(values)?;
+            Some(Act::Set(as_reference(r)?))
+        }
+        Head::Send => {
+            let (c, _v) = two(values)?;
+            Some(Act::Send(as_chan(c)?))
+        }
+        Head::Recv => Some(Act::Recv(as_chan(one(values)?)?)),
+        Head::Pick => {
+            let (c, d) = two(values)?;
+            Some(Act::Pick(as_chan(c)?, as_chan(d)?))
+        }
+        Head::Stabilize => Some(Act::Stabilize),
+        Head::Cut => Some(Act::Cut),
+        Head::Pin => Some(Act::Pin),
+        Head::Print => {
+            one(values)?;
+            Some(Act::Print)
+        }
+        Head::Probe => Some(Act::Probe),
+        Head::Attempt => Some(Act::Attempt),
+        _ => None,
+    }
 }

@@ -3,14 +3,17 @@ ghost use Rattle.std.specs.Prelude.{◌≡◌, ◌↔◌, ◌≤◌, ◌+◌, le
 ghost use Rattle.stab_code.specs.Program.{ProgramParts};
 ghost use Rattle.stab_code.specs.Valid.{IsValid};
 ghost use Rattle.plain_language.specs.Expression.{failed};
+ghost use Rattle.plain_language.specs.Look.{look};
 ghost use Rattle.plain_language.specs.Outcome.{called};
 ghost use Rattle.plain_language.specs.Program.{body};
 ghost use Rattle.plain_language.specs.Redex.{mark};
+ghost use Rattle.step_eval.specs.Asked.{AsksRightly, IsAsked, act_in, act_next, operands_of};
 ghost use Rattle.step_eval.specs.ControlView.{expr_of, Fits, RedexIsFound};
 ghost use Rattle.step_eval.specs.Entries.{entered};
 ghost use Rattle.step_eval.specs.Rests.{rest_of};
 ghost use Rattle.step_eval.specs.Turns.{Takes};
 
+use crate::ask::Ask;
 use crate::env::Env;
 use crate::machine::{Focus, Machine};
 use crate::node::entry;
@@ -106,9 +109,34 @@ impl Control {
         self.machine.fail(fault);
     }
 
+    /// What is next, once the redex is found.
+    pub fn ask(&self) -> Ask
+        ensures look { (p : ProgramParts) → Fits p self.now → RedexIsFound self.now → IsAsked (body p) (operands_of self.now) (look (body p) (expr_of p self.now)) result }
+        ensures act { act_in result ≡ act_next self.now }
+        ensures operands { (p : ProgramParts) → Fits p self.now → AsksRightly p (operands_of self.now) result }
+    {
+        match &self.machine.focus {
+            Focus::Begun(_n) => Ask::More,
+            Focus::Form => Ask::More,
+            Focus::Act(a) => Ask::Act(*a),
+            Focus::Value(_v) => Ask::Done,
+            Focus::Fault(k) => Ask::Failed(*k),
+        }
+    }
+
+    /// The values of the act that is next, from left to right; there are none where no act is.
+    pub fn operands(&self) -> &[Value]
+        ensures { result.now ≡ operands_of self.now }
+    {
+        match &self.machine.focus {
+            Focus::Act(_a) => self.machine.done.as_slice(),
+            _ => &[],
+        }
+    }
+
     /// The number of the innermost section round the redex, if there is one.
     pub fn mark(&self) -> Option<Seq>
-        ensures { (p : ProgramParts) → Fits p self.now → RedexIsFound p self.now → option_map (λ m. m.0) result ≡ mark (expr_of p self.now) }
+        ensures { (p : ProgramParts) → Fits p self.now → RedexIsFound self.now → option_map (λ m. m.0) result ≡ mark (expr_of p self.now) }
     {
         self.machine.mark
     }

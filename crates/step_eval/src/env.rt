@@ -1,9 +1,11 @@
 //! Environments: the values of variables by their slots.
-ghost use Rattle.std.specs.Prelude.{◌≡◌, IfOk};
+ghost use Rattle.std.specs.Prelude.{◌≡◌, ◌≤◌, [], length, IfOk, OnOk};
+ghost use Rattle.step_eval.specs.Scoped.{bound};
 
 use stab_base::{NoMemory, Value};
 use std::alloc::Global;
 use std::marker::Model;
+use std::mem;
 
 /// Values by slot. Contracts see a list.
 #[derive(Drop)]
@@ -37,6 +39,37 @@ impl Env {
         ensures { result.now ≡ self.now }
     {
         self.slots.as_slice()
+    }
+
+    /// Other values in their place, which come back without what they were.
+    pub(crate) fn replace(&mut self, slots: Vec<Value>) -> Vec<Value>
+        ensures values { self.new ≡ slots.items }
+        ensures none_left { result.items ≡ [] }
+    {
+        let mut old = mem::replace(&mut self.slots, slots);
+        old.clear();
+        old
+    }
+
+    /// The value of a slot behind the others; those in between, which no variable of what is left names, get unit.
+    pub(crate) fn bind(&mut self, slot: u32, v: Value) -> Result<(), NoMemory>
+        requires { length self.old ≤ slot }
+        ensures { OnOk result (self.new ≡ bound self.old slot v) }
+    {
+        for _passed in self.slots.len()..slot as usize {
+            self.slots.push(Value::unit())?;
+        }
+        self.slots.push(v)?;
+        Ok(())
+    }
+
+    /// An equal one.
+    pub(crate) fn copy(&self, alloc: Global) -> Result<Env, NoMemory>
+        ensures { IfOk result (λ e. e ≡ self.now) }
+    {
+        Ok(Env {
+            slots: copied(alloc, self.slots.as_slice())?,
+        })
     }
 
     /// The list of the values.

@@ -2,19 +2,26 @@
 #![tactic(auto)]
 
 mod act;
+mod ask;
 mod control;
 mod env;
 mod frame;
 mod machine;
 mod node;
+mod progress;
 mod rest;
 mod same;
+mod settle;
 mod site;
+mod step;
 #[cfg(test)]
 mod tests;
+mod values;
 
 pub use act::Act;
+pub use ask::Ask;
 pub use control::{CallRefused, Control};
 pub use frame::Frame;
+pub use progress::{AdvanceRefused, Progress, advance};
 pub use rest::Rest;
 pub use site::Site;

@@ -139,6 +139,17 @@ impl Machine {
         self.mark = None;
     }
 
+    /// An equal machine, which shares all frames but the innermost.
+    pub(crate) fn copied(&self) -> Result<Machine, NoMemory>
+        ensures { IfOk result (λ m. view_of m ≡ view_of self.now) }
+    {
+        let top = match &self.top {
+            None => None,
+            Some(frame) => Some(frame.equal(self.alloc)?),
+        };
+        self.keep(top)
+    }
+
     /// The same machine once more, which has this copy of its innermost frame and shares the others.
     pub(crate) fn keep(&self, top: Option<Frame>) -> Result<Machine, NoMemory>
         requires { top ≡ self.now.top }

@@ -21,6 +21,22 @@ pub(crate) fn node_at(p: &Program, n: NodeId) -> Node<'_>
     p.node(n).unwrap()
 }
 
+/// A part among those of a node, by its place.
+pub(crate) fn item_of(parts: &[NodeId], k: usize) -> NodeId
+    requires { k < length parts.now }
+    ensures { slice_get parts.now k ≡ Some result }
+{
+    parts[k]
+}
+
+/// The slot of an item, by its place.
+pub(crate) fn slot_of(slots: &[Option<u32>], k: usize) -> Option<u32>
+    requires { k < length slots.now }
+    ensures { slice_get slots.now k ≡ Some result }
+{
+    slots[k]
+}
+
 /// The value of a slot.
 fn value_at(values: &[Value], slot: u32) -> &Value
     requires { slot < length values.now }

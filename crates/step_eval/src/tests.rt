@@ -1,11 +1,13 @@
-//! Calls, equal controls and faults.
-ghost use Rattle.std.specs.Prelude.{◌≡◌};
+//! Calls, equal controls, faults, and pure steps.
+ghost use Rattle.std.specs.Prelude.{◌≡◌, IfOk};
+ghost use Rattle.step_eval.specs.ControlView.{Fits};
 
 use super::*;
 use stab_base::{Fault, FnId, NoMemory, Texts, Value};
 use stab_code::{Function, Head, NodeId, Nodes, Op, Program, Ty, TyForm};
 use std::alloc::Global;
 use std::marker::Brand;
+use std::sync::Arc;
 use std::sync::ledger::{Blank, Ledger};
 use std::test::Fail;
 use step_counter::Steps;
@@ -38,16 +40,21 @@ const SECOND: FnId = FnId(1);
 
 const TWICE: FnId = FnId(2);
 
+const MAIN: FnId = FnId(3);
+
 // A call with numbers, where the function takes so many.
-fn called(alloc: Global, program: &Program, f: FnId, numbers: &[i64]) -> Result<Control, Fail> {
+fn called(alloc: Global, program: &Program, f: FnId, numbers: &[i64]) -> Result<Control, Fail>
+    ensures { IfOk result (Fits program.now) }
+{
     let mut args = Vec::new(alloc);
     for n in numbers {
         args.push(Value::int(*n))?;
     }
     match program.arity(f) {
-        Some(count) if count as usize == args.len() => {
-            Control::call(program, f, args).map_err(|_refused| Fail::from("no memory"))
-        }
+        Some(count) if count as usize == args.len() => match Control::call(program, f, args) {
+            Ok(control) => Ok(control),
+            Err(_refused) => Err(Fail::from("no memory")),
+        },
         _ => Err(Fail::from("another number of arguments")),
     }
 }
@@ -116,5 +123,51 @@ fn one_that_is_kept_stays(rt: HostRuntime) -> Result<(), Fail> {
         ended(alloc, &program)?,
         (Rest::Failed(Fault::NoSection), Rest::Going)
     );
+    Ok(())
+}
+
+// So many pure steps of a call at most.
+fn advanced(alloc: Global, f: FnId, numbers: &[i64], quantum: u32) -> Result<Progress, Fail> {
+    let program = Arc::new(alloc, small(alloc)?)?;
+    let control = called(alloc, &program, f, numbers)?;
+    match advance(&program, control, quantum) {
+        Ok(progress) => Ok(progress),
+        Err(_refused) => Err(Fail::from("no memory")),
+    }
+}
+
+fn next_of(
+    alloc: Global,
+    f: FnId,
+    numbers: &[i64],
+    quantum: u32,
+) -> Result<(u32, Ask, Rest), Fail> {
+    let progress = advanced(alloc, f, numbers, quantum)?;
+    let end = progress.end();
+    Ok((progress.steps(), end.ask(), end.rest()))
+}
+
+// A call and a sum are a step each, and a print is none.
+#[test]
+fn pure_steps(rt: HostRuntime) -> Result<(), Fail> {
+    let alloc = rt.alloc();
+    let print = Ask::Act(Act::Print);
+    assert_eq!(rt; next_of(alloc, FIVE, &[], 10)?, (0, Ask::Done, Rest::Done));
+    assert_eq!(rt;
+        next_of(alloc, TWICE, &[2], 10)?,
+        (1, Ask::Done, Rest::Done)
+    );
+    assert_eq!(rt; next_of(alloc, MAIN, &[], 1)?, (1, Ask::More, Rest::Going));
+    assert_eq!(rt; next_of(alloc, MAIN, &[], 10)?, (2, print, Rest::Going));
+    Ok(())
+}
+
+#[test]
+fn what_is_printed(rt: HostRuntime) -> Result<(), Fail> {
+    let progress = advanced(rt.alloc(), MAIN, &[], 10)?;
+    let end = progress.end();
+    assert!(rt; matches!(end.operands(), [v] if v.same(&Value::int(8))));
+    assert_eq!(rt; end.mark(), None);
+    assert!(rt; !end.same(progress.origin()));
     Ok(())
 }

@@ -1,0 +1,79 @@
+-- What is next of a control is what is next of its expression.
+use Rattle.std.proofs.Common.{◌≡◌, List, [], map, Some, None, refl, ap, sym, subst}
+use Rattle.stab_base.specs.Datum.{Datum}
+use Rattle.stab_base.specs.declared.numbers.Seq.{Seq}
+use Rattle.std.proofs.Common.{Option}
+use Rattle.stab_code.specs.Program.{ProgramParts}
+use Rattle.plain_language.specs.Acts.{told}
+use Rattle.plain_language.specs.Expression.{Expr, value, failed}
+use Rattle.plain_language.specs.Look.{look, look_by}
+use Rattle.plain_language.specs.Outcome.{Outcome, becomes, fails, acts}
+use Rattle.plain_language.specs.Program.{body}
+use Rattle.plain_language.specs.Table.{Look}
+use Rattle.step_eval.specs.declared.act.Act.{Act}
+use Rattle.step_eval.specs.declared.ask.Ask.{Ask}
+use Rattle.step_eval.specs.declared.ask.Ask.TheVariants as ask
+use Rattle.step_eval.specs.declared.machine.Focus.{Focus}
+use Rattle.step_eval.specs.declared.machine.Focus.TheVariants as focus
+use Rattle.step_eval.specs.declared.machine.Machine.{Machine}
+use Rattle.step_eval.specs.Acts.{act_of}
+use Rattle.step_eval.specs.Asked.{AsksRightly, IsAsked, operands_of, values_at}
+use Rattle.step_eval.specs.ControlView.{ControlView, Fits, RedexIsFound, focus_expr, focus_view, view_of, expr_of as expr_in}
+use Rattle.step_eval.specs.FrameView.{FrameView}
+use Rattle.step_eval.specs.Meaning.{frame_at, within_forms}
+use Rattle.step_eval.specs.Turns.{turn_at}
+use Rattle.step_eval.specs.View.{here_of, round_of}
+use Rattle.step_eval.proofs.Stepping.{look-settled}
+
+module _ (p : ProgramParts) where
+  step-next : (vs : List Datum) (round : List FrameView) (o : Outcome) → told o ≡ None → IsAsked (body p) vs (look_by (map (frame_at p) round) o) ask.More
+  step-next vs round (becomes e) none = refl
+  step-next vs round (fails k) none = refl
+  step-next vs round (acts a) none = cc
+
+  act-next : (vs : List Datum) (round : List FrameView) (o : Outcome) (a : Act) → told o ≡ Some (act_of (body p) vs a) → IsAsked (body p) vs (look_by (map (frame_at p) round) o) (ask.Act a)
+  act-next vs round (becomes e) a is = cc
+  act-next vs round (fails k) a is = cc
+  act-next vs round (acts b) a is = let same : b ≡ act_of (body p) vs a = cc in same
+
+  abbrev pub asked : Focus → Ask
+  asked (focus.Begun n) = ask.More
+  asked focus.Form = ask.More
+  asked (focus.Act a) = ask.Act a
+  asked (focus.Value v) = ask.Done
+  asked (focus.Fault k) = ask.Failed k
+
+  asked-by : (f : Focus) (h : FrameView) (round : List FrameView) (mk : Option Seq) → Fits p (record { focus = focus_view f h; round = round; mark = mk }) → RedexIsFound (record { focus = focus_view f h; round = round; mark = mk }) → IsAsked (body p) (values_at (focus_view f h)) (look (body p) (within_forms p round (focus_expr p (focus_view f h)))) (asked f)
+  asked-by (focus.Begun n) h round mk fits found = elim found [ ]
+  asked-by focus.Form h round mk fits found =
+      let L : Look Expr → Type 0 = λ (l : Look Expr). IsAsked (body p) [] l ask.More in
+      subst L (sym (look-settled p mk round h fits.frames fits.focus.0)) (step-next [] round (turn_at p h) fits.focus.1)
+  asked-by (focus.Act a) h round mk fits found =
+      let L : Look Expr → Type 0 = λ (l : Look Expr). IsAsked (body p) h.done l (ask.Act a) in
+      subst L (sym (look-settled p mk round h fits.frames fits.focus.0)) (act-next h.done round (turn_at p h) a fits.focus.1)
+  asked-by (focus.Value v) h round mk fits found =
+      let R : List FrameView → Type 0 = λ (r : List FrameView). IsAsked (body p) [] (look (body p) (within_forms p r (value v))) ask.Done in
+      subst R (sym found) refl
+  asked-by (focus.Fault k) h round mk fits found =
+      let R : List FrameView → Type 0 = λ (r : List FrameView). IsAsked (body p) [] (look (body p) (within_forms p r (failed k))) (ask.Failed k) in
+      subst R (sym fits.focus) refl
+
+  pub asked-is : (v : ControlView) (m : Machine) (f : Focus) → v ≡ view_of m → m.focus ≡ f → Fits p v → RedexIsFound v → IsAsked (body p) (operands_of v) (look (body p) (expr_in p v)) (asked f)
+  asked-is v m f is at fits found =
+      let F : ControlView → Type 0 = λ (x : ControlView). Fits p x in
+      let R : ControlView → Type 0 = λ (x : ControlView). RedexIsFound x in
+      let A : ControlView → Type 0 = λ (x : ControlView). IsAsked (body p) (operands_of x) (look (body p) (expr_in p x)) (asked f) in
+      let K : Focus → Type 0 = λ (g : Focus). IsAsked (body p) (values_at (focus_view m.focus (here_of m))) (look (body p) (within_forms p (round_of m) (focus_expr p (focus_view m.focus (here_of m))))) (asked g) in
+      subst A (sym is) (subst K at (asked-by m.focus (here_of m) (round_of m) m.mark (subst F is fits) (subst R is found)))
+
+rightly-by : (p : ProgramParts) (f : Focus) (h : FrameView) (round : List FrameView) (mk : Option Seq) → Fits p (record { focus = focus_view f h; round = round; mark = mk }) → AsksRightly p (values_at (focus_view f h)) (asked p f)
+rightly-by p (focus.Act a) h round mk fits = fits.focus.2
+rightly-by p f h round mk fits = tt
+
+-- an act that is next has its operands
+pub asked-rightly : (p : ProgramParts) (v : ControlView) (m : Machine) (f : Focus) → v ≡ view_of m → m.focus ≡ f → Fits p v → AsksRightly p (operands_of v) (asked p f)
+asked-rightly p v m f is at fits =
+    let F : ControlView → Type 0 = λ (x : ControlView). Fits p x in
+    let A : ControlView → Type 0 = λ (x : ControlView). AsksRightly p (operands_of x) (asked p f) in
+    let K : Focus → Type 0 = λ (g : Focus). AsksRightly p (values_at (focus_view m.focus (here_of m))) (asked p g) in
+    subst A (sym is) (subst K at (rightly-by p m.focus (here_of m) (round_of m) m.mark (subst F is fits)))

@@ -1,0 +1,228 @@
+//! Finding the redex.
+ghost use Rattle.std.specs.Prelude.{◌≡◌, ◌<◌, ◌≤◌, ◌∷◌, ◌++◌, [], length, option_map, option_to_list, slice_get, IfNone, IfOk, IfSome, OnOk};
+ghost use Rattle.std.specs.Arc.{arc_value};
+ghost use Rattle.stab_code.specs.Program.{tree_at};
+ghost use Rattle.plain_language.specs.Acts.{told};
+ghost use Rattle.plain_language.specs.Expression.{put, value};
+ghost use Rattle.plain_language.specs.Program.{body, expr_of};
+ghost use Rattle.step_eval.specs.Acts.{act_of};
+ghost use Rattle.step_eval.specs.Arrival.{Arrives, form_focus};
+ghost use Rattle.step_eval.specs.ControlView.{view_of};
+ghost use Rattle.step_eval.specs.Fits.{FormFits, FramesFit};
+ghost use Rattle.step_eval.specs.Meaning.{at_form, at_start, form_at, strict_at, with_value, within_forms};
+ghost use Rattle.step_eval.specs.Operands.{HasOperands};
+ghost use Rattle.step_eval.specs.Ready.{IsNextPart, IsSettled};
+ghost use Rattle.step_eval.specs.Scoped.{IsScoped};
+ghost use Rattle.step_eval.specs.Turns.{turn_at};
+ghost use Rattle.step_eval.specs.View.{here_of, round_of};
+ghost use Rattle.step_eval.specs.declared.site.Site.TheVariants.{Form};
+
+use crate::act::{Act, act_at};
+use crate::frame::Frame;
+use crate::machine::{Focus, Machine};
+use crate::node::{item_of, leaf, node_at};
+use crate::site::Site;
+use stab_base::{NoMemory, Value};
+use stab_code::{NodeId, Program};
+use std::alloc::Global;
+use std::mem;
+use std::sync::Arc;
+
+/// Puts the values of the next parts behind those so far, as long as they are literals or variables. Answers
+/// the first part that has to be a value and isn't, if there is one.
+fn take_leaves(
+    alloc: Global,
+    p: &Program,
+    n: NodeId,
+    from: usize,
+    values: &[Value],
+    done: &mut Vec<Value>,
+) -> Result<Option<NodeId>, NoMemory>
+    requires fits { FormFits p.now n from (length values.now) }
+    requires few { length done.old.items ≤ strict_at p.now (Form n from) }
+    ensures form { form_at p.now (at_form n from done.new.items values.now) ≡ form_at p.now (at_form n from done.old.items values.now) }
+    ensures next { IfOk result (IsNextPart p.now (at_form n from done.new.items values.now) n from) }
+{
+    let node = node_at(p, n);
+    let parts = node.parts();
+    let strict = node.strict();
+    'leaves: while done.len() < strict {
+        let part = item_of(parts, from + done.len());
+        match leaf(alloc, p, part, values)? {
+            Some(v) => done.push(v)?,
+            None => return Ok(Some(part)),
+        }
+    }
+    Ok(None)
+}
+
+impl Machine {
+    /// The form at hand becomes the innermost frame, and a part's form is at hand.
+    fn go_in(&mut self, part: NodeId) -> Result<(), NoMemory>
+        ensures round { OnOk result (round_of self.new ≡ here_of self.old ∷ round_of self.old) }
+        ensures here { OnOk result (here_of self.new ≡ at_start part (arc_value self.old.env)) }
+        ensures mark { self.new.mark ≡ self.old.mark }
+    {
+        let mut spare = mem::replace(&mut self.spare, Vec::new(self.alloc));
+        spare.clear();
+        let frame = Frame {
+            site: self.site,
+            done: mem::replace(&mut self.done, spare),
+            env: Arc::try_clone(&self.env)?,
+        };
+        self.site = Site::Form(part, 0);
+        if let Some(below) = self.top.replace(frame) {
+            self.frames.push(Arc::new(self.alloc, below)?)?;
+        }
+        Ok(())
+    }
+
+    /// Goes in as long as a part that has to be a value isn't one.
+    fn settle(&mut self, p: &Program, n: NodeId, from: usize) -> Result<(), NoMemory>
+        requires site { self.old.site ≡ Form n from }
+        requires fits { FormFits p.now n from (length (arc_value self.old.env)) }
+        requires few { length self.old.done.items ≤ strict_at p.now (Form n from) }
+        requires frames { FramesFit p.now self.old.mark (round_of self.old) }
+        ensures expr { OnOk result (within_forms p.now (round_of self.new) (form_at p.now (here_of self.new)) ≡ within_forms p.now (round_of self.old) (form_at p.now (here_of self.old))) }
+        ensures settled { OnOk result (IsSettled p.now (here_of self.new)) }
+        ensures frames { OnOk result (FramesFit p.now self.new.mark (round_of self.new)) }
+    {
+        let mut n = n;
+        let mut from = from;
+        'inward: while let Some(part) = take_leaves(
+            self.alloc,
+            p,
+            n,
+            from,
+            self.env.values(),
+            &mut self.done,
+        )? {
+            self.go_in(part)?;
+            n = part;
+            from = 0;
+        }
+        Ok(())
+    }
+
+    /// The act that the form at hand is, if it is one.
+    fn act(&self, p: &Program) -> Option<Act>
+        requires { IsSettled p.now (here_of self.now) }
+        ensures act { option_map (act_of (body p.now) self.now.done.items) result ≡ told (turn_at p.now (here_of self.now)) }
+        ensures operands { IfSome result (HasOperands p.now (length self.now.done.items)) }
+    {
+        match self.site {
+            Site::Section(_m, _outer) => None,
+            Site::Form(n, _from) => act_at(node_at(p, n).head(), self.done.as_slice()),
+        }
+    }
+
+    /// Looks at the form at hand, as an act where it is one.
+    fn look(&mut self, act: Option<Act>)
+        ensures focus { self.new.focus ≡ form_focus act }
+        ensures here { here_of self.new ≡ here_of self.old }
+        ensures round { round_of self.new ≡ round_of self.old }
+        ensures mark { self.new.mark ≡ self.old.mark }
+    {
+        let Some(act) = act else {
+            self.focus = Focus::Form;
+            return;
+        };
+        self.focus = Focus::Act(act);
+    }
+
+    /// Finds the redex in the form at hand.
+    pub(crate) fn arrive(&mut self, p: &Program, n: NodeId, from: usize) -> Result<(), NoMemory>
+        requires site { self.old.site ≡ Form n from }
+        requires fits { FormFits p.now n from (length (arc_value self.old.env)) }
+        requires few { length self.old.done.items ≤ strict_at p.now (Form n from) }
+        requires frames { FramesFit p.now self.old.mark (round_of self.old) }
+        ensures { OnOk result (Arrives p.now (view_of self.new) (within_forms p.now (round_of self.old) (form_at p.now (here_of self.old)))) }
+    {
+        self.settle(p, n, from)?;
+        let act = self.act(p);
+        self.look(act);
+        Ok(())
+    }
+
+    /// The innermost frame, which stands round the focus no more.
+    fn pop_frame(&mut self) -> Result<Option<Frame>, NoMemory>
+        ensures round { IfOk result (λ f. round_of self.old ≡ option_to_list f ++ round_of self.new) }
+        ensures last { IfOk result (λ f. IfNone f (round_of self.new ≡ [])) }
+        ensures mark { self.new.mark ≡ self.old.mark }
+    {
+        if let Some(frame) = self.top.take() {
+            return Ok(Some(frame));
+        }
+        match self.frames.pop() {
+            None => Ok(None),
+            Some(shared) => match Arc::try_unwrap(shared) {
+                Ok(frame) => Ok(Some(frame)),
+                Err(shared) => Ok(Some(shared.equal(self.alloc)?)),
+            },
+        }
+    }
+
+    /// A frame's form is at hand, and has one value more.
+    fn open(&mut self, frame: Frame, v: Value) -> Result<(), NoMemory>
+        ensures here { OnOk result (here_of self.new ≡ with_value frame v) }
+        ensures round { round_of self.new ≡ round_of self.old }
+        ensures mark { self.new.mark ≡ self.old.mark }
+    {
+        let Frame { site, done, env } = frame;
+        self.site = site;
+        self.env = env;
+        self.spare = mem::replace(&mut self.done, done);
+        self.done.push(v)?;
+        Ok(())
+    }
+
+    /// A value takes the place of the focus.
+    pub(crate) fn give(&mut self, p: &Program, v: Value) -> Result<(), NoMemory>
+        requires { FramesFit p.now self.old.mark (round_of self.old) }
+        ensures { OnOk result (Arrives p.now (view_of self.new) (within_forms p.now (round_of self.old) (value v))) }
+    {
+        let Some(frame) = self.pop_frame()? else {
+            self.focus = Focus::Value(v);
+            return Ok(());
+        };
+        self.open(frame, v)?;
+        match self.site {
+            Site::Section(_m, outer) => {
+                self.mark = outer;
+                self.focus = Focus::Form;
+                Ok(())
+            }
+            Site::Form(n, from) => {
+                self.arrive(p, n, from)?;
+                Ok(())
+            }
+        }
+    }
+
+    /// A node is at hand, none of whose parts has a value yet.
+    fn begin(&mut self, n: NodeId)
+        ensures here { here_of self.new ≡ at_start n (arc_value self.old.env) }
+        ensures round { round_of self.new ≡ round_of self.old }
+        ensures mark { self.new.mark ≡ self.old.mark }
+    {
+        self.site = Site::Form(n, 0);
+        self.done.clear();
+    }
+
+    /// A node takes the place of the focus.
+    pub(crate) fn start(&mut self, p: &Program, n: NodeId) -> Result<(), NoMemory>
+        requires there { n.0 < length p.now.nodes }
+        requires scoped { IsScoped (length (arc_value self.old.env)) (tree_at p.now n) }
+        requires frames { FramesFit p.now self.old.mark (round_of self.old) }
+        ensures { OnOk result (Arrives p.now (view_of self.new) (within_forms p.now (round_of self.old) (put (slice_get (arc_value self.old.env)) (expr_of (tree_at p.now n))))) }
+    {
+        match leaf(self.alloc, p, n, self.env.values())? {
+            Some(v) => self.give(p, v),
+            None => {
+                self.begin(n);
+                self.arrive(p, n, 0)?;
+                Ok(())
+            }
+        }
+    }
+}

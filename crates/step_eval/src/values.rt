@@ -1,0 +1,149 @@
+//! What a form makes of the values of its parts.
+ghost use Rattle.std.specs.Prelude.{◌≡◌, ◌-ℤ◌, ℕ, [], None, pos, not, option_and_then, option_map, IfOk, IfSome, if◌then◌else◌};
+ghost use Rattle.std.specs.Option.{option_copied};
+ghost use Rattle.plain_language.specs.Acts.{told};
+ghost use Rattle.plain_language.specs.Expression.{Expr, Parts, value};
+ghost use Rattle.plain_language.specs.Operands.{one_of, outcome_of, truth_of, two_values_of};
+ghost use Rattle.plain_language.specs.Outcome.{becomes, by_operator, number, outcome, pair_of, truth_value, with_number, with_one, with_pair, with_truth, with_two};
+ghost use Rattle.step_eval.specs.Fits.{GivesValue};
+ghost use Rattle.step_eval.specs.Meaning.{head_of, left_of};
+
+use plain_language::{as_truth, negated, number_of, operate};
+use stab_base::{Fault, NoMemory, PairFault, Value};
+use stab_code::{Head, Op};
+use std::alloc::Global;
+
+/// The only value.
+pub(crate) fn one(values: &[Value]) -> Option<&Value>
+    ensures { option_copied result ≡ one_of values.now }
+{
+    match values {
+        [v] => Some(v),
+        _ => None,
+    }
+}
+
+/// The only two values.
+pub(crate) fn two(values: &[Value]) -> Option<(&Value, &Value)>
+    ensures { option_map (λ p. (p.0.now, p.1.now)) result ≡ two_values_of values.now }
+{
+    match values {
+        [v, w] => Some((v, w)),
+        _ => None,
+    }
+}
+
+/// The only value, out of its list.
+pub(crate) fn take_one(values: &mut Vec<Value>) -> Option<Value>
+    ensures value { result ≡ one_of values.old.items }
+    ensures none_left { IfSome result (λ _. values.new.items ≡ []) }
+{
+    if values.len() == 1 {
+        values.pop()
+    } else {
+        None
+    }
+}
+
+/// The only two values, out of their list.
+fn take_two(values: &mut Vec<Value>) -> Option<(Value, Value)>
+    ensures { result ≡ two_values_of values.old.items }
+{
+    if values.len() != 2 {
+        return None;
+    }
+    let second = values.pop()?;
+    let first = values.pop()?;
+    Some((first, second))
+}
+
+/// The truth value of the only value.
+pub(crate) fn condition(values: &[Value]) -> Option<bool>
+    ensures { result ≡ option_and_then truth_of (one_of values.now) }
+{
+    as_truth(one(values)?)
+}
+
+/// What an operator that looks at both sides makes.
+fn operator(op: Op, values: &[Value]) -> Result<Value, Fault>
+    ensures { outcome_of result ≡ with_two values.now (by_operator op) }
+{
+    match two(values) {
+        Some((v, w)) => operate(op, v, w),
+        None => Err(Fault::WrongKind),
+    }
+}
+
+/// The negation of a truth value.
+fn opposite(values: &[Value]) -> Result<Value, Fault>
+    ensures { outcome_of result ≡ with_one values.now (λ v. with_truth v (λ b. truth_value (not b))) }
+{
+    let Some(v) = one(values) else {
+        return Err(Fault::WrongKind);
+    };
+    match as_truth(v) {
+        Some(b) => Ok(Value::truth(!b)),
+        None => Err(Fault::WrongKind),
+    }
+}
+
+/// The negation of a number.
+fn negation(values: &[Value]) -> Result<Value, Fault>
+    ensures { outcome_of result ≡ with_one values.now (λ v. with_number v (λ n. number (pos 0 -ℤ n))) }
+{
+    let Some(v) = one(values) else {
+        return Err(Fault::WrongKind);
+    };
+    match number_of(v) {
+        Some(n) => negated(n),
+        None => Err(Fault::WrongKind),
+    }
+}
+
+/// A pair, where it is within the limits.
+fn pair(alloc: Global, values: &mut Vec<Value>) -> Result<Result<Value, Fault>, NoMemory>
+    ensures { IfOk result (λ r. outcome_of r ≡ with_two values.old.items pair_of) }
+{
+    let Some((v, w)) = take_two(values) else {
+        return Ok(Err(Fault::WrongKind));
+    };
+    match Value::pair(alloc, v, w) {
+        Ok(pair) => Ok(Ok(pair)),
+        Err(PairFault::Deep(_, _)) => Ok(Err(Fault::DeepValue)),
+        Err(PairFault::NoMemory(_, _)) => Err(NoMemory),
+    }
+}
+
+/// A part of a pair.
+fn part_of(values: &mut Vec<Value>, second: bool) -> Result<Value, Fault>
+    ensures { outcome_of result ≡ with_one values.old.items (λ v. with_pair v (λ a b. becomes (value (if second then b else a)))) }
+{
+    let Some(v) = take_one(values) else {
+        return Err(Fault::WrongKind);
+    };
+    match v.split() {
+        Ok((a, b)) => Ok(if second { b } else { a }),
+        Err(_) => Err(Fault::WrongKind),
+    }
+}
+
+/// What a form that is no act makes of the values of its parts, where all its parts count.
+pub(crate) fn made(
+    alloc: Global,
+    head: &Head,
+    values: &mut Vec<Value>,
+) -> Result<Result<Value, Fault>, NoMemory>
+    requires { GivesValue head.now }
+    ensures { (body : ℕ → Expr) (from : ℕ) (rest : Parts) → told (outcome body (head_of (left_of from head.now)) values.old.items rest) ≡ None →
+        IfOk result (λ r. outcome_of r ≡ outcome body (head_of (left_of from head.now)) values.old.items rest) }
+{
+    match head {
+        Head::Two(op) => Ok(operator(*op, values.as_slice())),
+        Head::Not => Ok(opposite(values.as_slice())),
+        Head::Neg => Ok(negation(values.as_slice())),
+        Head::Pair => pair(alloc, values),
+        Head::Fst => Ok(part_of(values, false)),
+        Head::Snd => Ok(part_of(values, true)),
+        _ => Ok(Err(Fault::WrongKind)),
+    }
+}
