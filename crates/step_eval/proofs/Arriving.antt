@@ -66,7 +66,7 @@ pub section-tells : (p : ProgramParts) (h : FrameView) (m : Seq) (outer : Option
 section-tells p h m outer at = ap (λ s. told (turn_at p (record { site = s; done = h.done; env = h.env }))) at ∙ no_act h.done
 
 module _ (p : ProgramParts) (f : FrameView) (v : Datum) (round : List FrameView) (mk : Option Seq) (fit : FramesFit p mk (f ∷ round)) where
-  section-settled : (m : Seq) (outer : Option Seq) → f.site ≡ Section m outer → IsSettled p (with_value f v)
+  pub section-settled : (m : Seq) (outer : Option Seq) → f.site ≡ Section m outer → IsSettled p (with_value f v)
   section-settled m outer at =
       let one : strict_at p f.site ≡ 1 = ap (strict_at p) at in
       let few : length f.done < strict_at p f.site = fit.0.waits in

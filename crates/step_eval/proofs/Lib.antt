@@ -1,3 +1,4 @@
+pub mod Answering
 pub mod Arriving
 pub mod Asking
 pub mod Blocks
@@ -7,6 +8,7 @@ pub mod Forms
 pub mod Nodes
 pub mod Redexes
 pub mod Scopes
+pub mod Searching
 pub mod Shares
 pub mod Small
 pub mod Standing

@@ -133,10 +133,10 @@ module _ (p : ProgramParts) where
       let Q : ControlView → Type 0 = λ (x : ControlView). RedexIsFound x in
       mark_by m.focus (here_of m) (round_of m) m.mark (subst P is fits) (subst Q is found) ∙ sym (ap (λ (x : ControlView). mark (expr_in p x)) is)
 
-  spine_within : (mk : Option Seq) (fs : List FrameView) (h : FrameView) → FramesFit p mk fs → IsSettled p h → spine (within_forms p fs (form_at p h)) ≡ length fs
+  pub spine_within : (mk : Option Seq) (fs : List FrameView) (h : FrameView) → FramesFit p mk fs → IsSettled p h → spine (within_forms p fs (form_at p h)) ≡ length fs
   spine_within mk fs h fit settled = ap (λ o. length (frames_of o)) (redex-settled mk fs h fit settled) ∙ length-map fs (frame_at p)
 
-  spine_by : (f : Focus) (h : FrameView) (round : List FrameView) (mk : Option Seq) → Fits p (record { focus = focus_view f h; round = round; mark = mk }) → RedexIsFound (record { focus = focus_view f h; round = round; mark = mk }) → spine (within_forms p round (focus_expr p (focus_view f h))) ≡ length round
+  pub spine_by : (f : Focus) (h : FrameView) (round : List FrameView) (mk : Option Seq) → Fits p (record { focus = focus_view f h; round = round; mark = mk }) → RedexIsFound (record { focus = focus_view f h; round = round; mark = mk }) → spine (within_forms p round (focus_expr p (focus_view f h))) ≡ length round
   spine_by (focus.Begun n) h round mk fits is = elim is [ ]
   spine_by focus.Form h round mk fits is = spine_within mk round h fits.frames fits.focus.0
   spine_by (focus.Act a) h round mk fits is = spine_within mk round h fits.frames fits.focus.0

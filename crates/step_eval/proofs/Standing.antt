@@ -42,7 +42,7 @@ slice_get-drop (x ∷ xs) (suc from) k zero e = absurd (omega arith)
 slice_get-drop (x ∷ xs) (suc from) k (suc m) e = slice_get-drop xs from k m (omega arith)
 
 -- where the parts that count are
-strict-there : (functions : List FunctionParts) (h : Head) (from k count : ℕ) → parts_of functions h ≡ Some count → IsLeft h from → k < strict_parts h count → from + k < count
+pub strict-there : (functions : List FunctionParts) (h : Head) (from k count : ℕ) → parts_of functions h ≡ Some count → IsLeft h from → k < strict_parts h count → from + k < count
 strict-there functions (Block slots) from k count is left few = let n : length slots + 1 ≡ count = cc in omega arith
 strict-there functions If from k count is left few = let n : 3 ≡ count = cc in omega arith
 strict-there functions (Two Or) from k count is left few = let n : 2 ≡ count = cc in omega arith

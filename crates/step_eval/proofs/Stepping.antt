@@ -46,7 +46,7 @@ module _ (p : ProgramParts) where
   pub expr-by : (m : Machine) (f : Focus) → m.focus ≡ f → expr_of p (view_of m) ≡ within_forms p (round_of m) (focus_expr p (focus_view f (here_of m)))
   expr-by m f is = ap (λ g. within_forms p (round_of m) (focus_expr p (focus_view g (here_of m)))) is
 
-  fits-as : (m : Machine) (f : Focus) → m.focus ≡ f → Fits p (view_of m) → Fits p (record { focus = focus_view f (here_of m); round = round_of m; mark = m.mark })
+  pub fits-as : (m : Machine) (f : Focus) → m.focus ≡ f → Fits p (view_of m) → Fits p (record { focus = focus_view f (here_of m); round = round_of m; mark = m.mark })
   fits-as m f is fits = let P : Focus → Type 0 = λ (g : Focus). Fits p (record { focus = focus_view g (here_of m); round = round_of m; mark = m.mark }) in subst P is fits
 
   -- a step of a settled form that is no act

@@ -6,6 +6,7 @@ use Rattle.plain_language.specs.Expression.{Expr}
 use Rattle.plain_language.specs.Table as table
 use Rattle.plain_language.specs.Table.{Look, done, fault, act, pure}
 use Rattle.step_eval.specs.declared.act.Act as own
+use Rattle.step_eval.specs.declared.act.Act.TheVariants.{Enter}
 use Rattle.step_eval.specs.declared.ask.Ask.{Ask}
 use Rattle.step_eval.specs.declared.ask.Ask.TheVariants.{More, Done, Failed, Act}
 use Rattle.step_eval.specs.Acts.{act_of}
@@ -23,6 +24,11 @@ act_at what = None
 -- the act that a control looks at
 abbrev pub act_next : ControlView → Option own.Act
 act_next c = act_at c.focus
+
+-- a section that is entered
+abbrev pub IsEntry : Option own.Act → Type 0
+IsEntry (Some (Enter f)) = ⊤
+IsEntry _ = ⊥
 
 -- the act that is next, if one is
 abbrev pub act_in : Ask → Option own.Act

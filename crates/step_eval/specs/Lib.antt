@@ -11,5 +11,7 @@ pub mod Progress
 pub mod Ready
 pub mod Rests
 pub mod Scoped
+pub mod Searched
+pub mod Sections
 pub mod Turns
 pub mod View

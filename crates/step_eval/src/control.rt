@@ -1,18 +1,20 @@
 //! Controls.
-ghost use Rattle.std.specs.Prelude.{◌≡◌, ◌↔◌, ◌≤◌, ◌+◌, length, option_map, IfOk, IfErr, IsTrue};
+ghost use Rattle.std.specs.Prelude.{◌≡◌, ◌↔◌, ◌≤◌, ◌+◌, Some, length, option_map, IfOk, IfErr, IsSome, IsTrue, OnErr, OnOk};
 ghost use Rattle.stab_code.specs.Program.{ProgramParts};
 ghost use Rattle.stab_code.specs.Valid.{IsValid};
 ghost use Rattle.plain_language.specs.Expression.{failed};
-ghost use Rattle.plain_language.specs.Look.{look};
+ghost use Rattle.plain_language.specs.Look.{answered, entered as entered_at, look};
 ghost use Rattle.plain_language.specs.Outcome.{called};
 ghost use Rattle.plain_language.specs.Program.{body};
 ghost use Rattle.plain_language.specs.Redex.{mark};
-ghost use Rattle.step_eval.specs.Asked.{AsksRightly, IsAsked, act_in, act_next, operands_of};
+ghost use Rattle.step_eval.specs.Asked.{AsksRightly, IsAsked, IsEntry, act_in, act_next, operands_of};
 ghost use Rattle.step_eval.specs.ControlView.{expr_of, Fits, RedexIsFound};
 ghost use Rattle.step_eval.specs.Entries.{entered};
 ghost use Rattle.step_eval.specs.Rests.{rest_of};
 ghost use Rattle.step_eval.specs.Turns.{Takes};
+ghost use Rattle.step_eval.specs.declared.act.Act.TheVariants.{Enter};
 
+use crate::act::Act;
 use crate::ask::Ask;
 use crate::env::Env;
 use crate::machine::{Focus, Machine};
@@ -131,6 +133,35 @@ impl Control {
         match &self.machine.focus {
             Focus::Act(_a) => self.machine.done.as_slice(),
             _ => &[],
+        }
+    }
+
+    /// The act gets a value. Its place in the text is looked for by the next advance, but where too many forms
+    /// would then stand round what is next, the control is a fault at once.
+    pub fn answer(&mut self, program: &Program, v: Value)
+        requires fits { Fits program.now self.old }
+        requires act { IsSome (act_next self.old) }
+        ensures expr { expr_of program.now self.new ≡ answered (expr_of program.now self.old) v }
+        ensures fits { Fits program.now self.new }
+    {
+        self.machine.answer(program, v);
+    }
+
+    /// The body of the function whose section is entered takes the place of the act, in the section of this number.
+    pub fn enter(&mut self, program: &Program, q: Seq) -> Result<(), NoMemory>
+        requires fits { Fits program.now self.old }
+        requires act { IsEntry (act_next self.old) }
+        ensures expr { (f : FnId) → act_next self.old ≡ Some (Enter f) →
+            OnOk result (expr_of program.now self.new ≡ entered_at (expr_of program.now self.old) q.0 (called (body program.now) f.0 (operands_of self.old))) }
+        ensures fits { OnOk result (Fits program.now self.new) }
+        ensures back { OnErr result (self.new ≡ self.old) }
+    {
+        match &self.machine.focus {
+            Focus::Act(Act::Enter(f)) => {
+                let f = *f;
+                self.machine.enter(program, f, q)
+            }
+            _ => unreachable!(),
         }
     }
 

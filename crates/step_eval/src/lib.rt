@@ -2,8 +2,10 @@
 #![tactic(auto)]
 
 mod act;
+mod answer;
 mod ask;
 mod control;
+mod depth;
 mod env;
 mod frame;
 mod machine;

@@ -20,7 +20,7 @@ ghost use Rattle.step_eval.specs.View.{here_of, round_of};
 ghost use Rattle.step_eval.specs.declared.machine.Focus.TheVariants as Focus;
 
 use crate::env::Env;
-use crate::machine::Machine;
+use crate::machine::{MAX_SPINE, Machine};
 use crate::node::{body_at, item_of, node_at, slot_of};
 use crate::site::Site;
 use crate::values::{condition, made, take_one};
@@ -28,9 +28,6 @@ use stab_base::{Fault, FnId, NoMemory, Value};
 use stab_code::{Head, NodeId, Op, Program};
 use std::mem;
 use std::sync::Arc;
-
-/// How many forms may stand round a redex.
-const MAX_SPINE: usize = 1000;
 
 impl Machine {
     /// A value takes the place of the focus, or the whole is a fault.

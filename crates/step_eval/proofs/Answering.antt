@@ -1,0 +1,48 @@
+-- What comes into the place of an act.
+use Rattle.std.proofs.Common.{◌≡◌, ℕ, List, [], ◌∷◌, map, slice_get, Option, Some, None, IsSome, refl, ap, sym, ◌∙◌}
+use Rattle.std.specs.Arc.{arc_value}
+use Rattle.stab_base.specs.Datum.{Datum}
+use Rattle.stab_base.specs.declared.numbers.Seq.{Seq}
+use Rattle.stab_code.specs.declared.node_id.NodeId.{NodeId}
+use Rattle.stab_code.specs.Program.{ProgramParts, tree_at}
+use Rattle.plain_language.specs.Expression.{put}
+use Rattle.plain_language.specs.Expression as expr
+use Rattle.plain_language.specs.Outcome.{called}
+use Rattle.plain_language.specs.Program.{body, expr_of}
+use Rattle.plain_language.specs.Redex.{frames, frames_of}
+use Rattle.step_eval.specs.declared.machine.Focus.{Focus}
+use Rattle.step_eval.specs.declared.machine.Focus.TheVariants as focus
+use Rattle.step_eval.specs.declared.machine.Machine.{Machine}
+use Rattle.step_eval.specs.Asked.{act_at, act_next}
+use Rattle.step_eval.specs.ControlView.{Fits, focus_expr, focus_view, view_of, expr_of as expr_in}
+use Rattle.step_eval.specs.Entries.{IsEntry}
+use Rattle.step_eval.specs.FrameView.{FrameView}
+use Rattle.step_eval.specs.Meaning.{frame_at, within_forms}
+use Rattle.step_eval.specs.Sections.{entry_of}
+use Rattle.step_eval.specs.View.{here_of, round_of}
+use Rattle.step_eval.proofs.Redexes.{redex-settled}
+use Rattle.step_eval.proofs.Stepping.{expr-by}
+
+module _ (p : ProgramParts) where
+  frames-by : (f : Focus) (h : FrameView) (round : List FrameView) (mk : Option Seq) → IsSome (act_at (focus_view f h)) → Fits p (record { focus = focus_view f h; round = round; mark = mk }) → frames (within_forms p round (focus_expr p (focus_view f h))) ≡ map (frame_at p) round
+  frames-by (focus.Begun n) h round mk some fits = cc
+  frames-by focus.Form h round mk some fits = cc
+  frames-by (focus.Act a) h round mk some fits = ap frames_of (redex-settled p mk round h fits.frames fits.focus.0)
+  frames-by (focus.Value v) h round mk some fits = cc
+  frames-by (focus.Fault k) h round mk some fits = cc
+
+  -- the forms round an act are the frames
+  pub act-frames : (m : Machine) → IsSome (act_next (view_of m)) → Fits p (view_of m) → frames (expr_in p (view_of m)) ≡ map (frame_at p) (round_of m)
+  act-frames m some fits = frames-by m.focus (here_of m) (round_of m) m.mark some fits
+
+  -- a body that is entered, or its value
+  pub entry-expr : (m : Machine) (k : ℕ) (n : NodeId) (o : Option Datum) (vs : List Datum) (round : List FrameView) → m.focus ≡ entry_of n o → arc_value m.env ≡ vs → round_of m ≡ round → IsEntry p k vs n o → expr_in p (view_of m) ≡ within_forms p round (called (body p) k vs)
+  entry-expr m k n None vs round looks envs rounds entry =
+      expr-by p m (focus.Begun n) looks
+      ∙ ap (λ e. within_forms p (round_of m) (put (slice_get e) (expr_of (tree_at p n)))) envs
+      ∙ ap (λ r. within_forms p r (put (slice_get vs) (expr_of (tree_at p n)))) rounds
+      ∙ ap (within_forms p round) (sym entry.is_called)
+  entry-expr m k n (Some v) vs round looks envs rounds entry =
+      expr-by p m (focus.Value v) looks
+      ∙ ap (λ r. within_forms p r (expr.value v)) rounds
+      ∙ ap (within_forms p round) (sym entry)
