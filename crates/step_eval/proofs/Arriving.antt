@@ -1,6 +1,5 @@
 -- Controls whose redex is found.
-use Rattle.std.proofs.Common.{◌≡◌, ℕ, zero, suc, ◌+◌, ◌<◌, ◌≤◌, List, [], ◌∷◌, ◌++◌, length, Option, Some, None, IfSome, option_map, refl, ap, sym, ◌∙◌, subst, arith, length-append}
-use Rattle.std.specs.Prelude.{slice_get}
+use Rattle.std.proofs.Common.{◌≡◌, ℕ, ◌+◌, ◌<◌, ◌≤◌, List, [], ◌∷◌, ◌++◌, length, Option, Some, None, IfSome, option_map, refl, ap, sym, ◌∙◌, subst, arith, length-append}
 use Rattle.stab_base.specs.Datum.{Datum}
 use Rattle.stab_base.specs.declared.fault.Fault.{Fault}
 use Rattle.stab_base.specs.declared.numbers.Seq.{Seq}
@@ -8,7 +7,7 @@ use Rattle.stab_code.specs.declared.node_id.NodeId.{NodeId}
 use Rattle.stab_code.specs.Program.{ProgramParts}
 use Rattle.plain_language.specs.Acts.{told}
 use Rattle.plain_language.specs.Expression.{Expr, value, failed}
-use Rattle.plain_language.specs.Outcome.{Outcome, becomes, with_one}
+use Rattle.plain_language.specs.Outcome.{becomes, with_one}
 use Rattle.plain_language.specs.Program.{body}
 use Rattle.step_eval.specs.declared.act.Act.{Act}
 use Rattle.step_eval.specs.declared.machine.Focus.{Focus}
@@ -18,10 +17,9 @@ use Rattle.step_eval.specs.declared.site.Site.{Site}
 use Rattle.step_eval.specs.declared.site.Site.TheVariants.{Form, Section}
 use Rattle.step_eval.specs.Acts.{act_of}
 use Rattle.step_eval.specs.Arrival.{Arrives, form_focus}
-use Rattle.step_eval.specs.ControlView.{ControlView, Fits, FocusFits, IsFound, RedexIsFound, FocusView, settled, acting, expr_of, focus_view, view_of}
-use Rattle.step_eval.specs.ControlView as control
+use Rattle.step_eval.specs.ControlView.{ControlView, focus_view, view_of}
 use Rattle.step_eval.specs.FrameView.{FrameView}
-use Rattle.step_eval.specs.Fits.{FormFits, FrameFits, FramesFit, IsForm, SiteFits, outside}
+use Rattle.step_eval.specs.Fits.{FormFits, FramesFit, SiteFits, outside}
 use Rattle.step_eval.specs.Meaning.{form_at, strict_at, with_value, within_forms}
 use Rattle.step_eval.specs.Operands.{HasOperands}
 use Rattle.step_eval.specs.Ready.{IsSettled}

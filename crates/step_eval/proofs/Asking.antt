@@ -1,5 +1,5 @@
 -- What is next of a control is what is next of its expression.
-use Rattle.std.proofs.Common.{◌≡◌, List, [], map, Some, None, refl, ap, sym, subst}
+use Rattle.std.proofs.Common.{◌≡◌, List, [], map, Some, None, refl, sym, subst}
 use Rattle.stab_base.specs.Datum.{Datum}
 use Rattle.stab_base.specs.declared.numbers.Seq.{Seq}
 use Rattle.std.proofs.Common.{Option}

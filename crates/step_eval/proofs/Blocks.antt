@@ -1,5 +1,5 @@
 -- What a block does when an item of it has its value.
-use Rattle.std.proofs.Common.{◌≡◌, ℕ, zero, suc, ◌+◌, ◌<◌, ◌≤◌, List, [], ◌∷◌, ◌++◌, length, length-drop, get_or, drop, slice_get, Option, Some, None, IfSome, refl, ap, sym, ◌∙◌, subst, arith}
+use Rattle.std.proofs.Common.{◌≡◌, ℕ, suc, ◌+◌, ◌<◌, ◌≤◌, List, [], ◌∷◌, length, length-drop, get_or, drop, slice_get, Option, Some, None, IfSome, refl, ap, sym, ◌∙◌, subst, arith}
 use Rattle.std.proofs.lemmas.Option.{slice_get-get_or, slice_get_within}
 use Rattle.stab_base.specs.Datum.{Datum}
 use Rattle.stab_code.specs.declared.head.Head as code
@@ -10,15 +10,15 @@ use Rattle.stab_code.specs.Program.{ProgramParts, tree_at, trees_at}
 use Rattle.stab_code.specs.Trees.{Tree, Trees, tree, none, more}
 use Rattle.stab_code.specs.Valid.{IsValid, parts_of}
 use Rattle.plain_language.specs.declared.head.Head.TheVariants as head
-use Rattle.plain_language.specs.Expression.{Expr, Parts, form, put, put_parts, only}
-use Rattle.plain_language.specs.Outcome.{Outcome, becomes, after_item, block_of, outcome, with_one}
-use Rattle.plain_language.specs.Program.{body, expr_of, exprs_of}
+use Rattle.plain_language.specs.Expression.{Parts, form, put, put_parts}
+use Rattle.plain_language.specs.Outcome.{becomes, after_item, block_of, with_one}
+use Rattle.plain_language.specs.Program.{expr_of, exprs_of}
 use Rattle.step_eval.specs.declared.site.Site.TheVariants.{Form}
 use Rattle.step_eval.specs.FrameView.{FrameView}
 use Rattle.step_eval.specs.Fits.{FormFits, IsLeft}
 use Rattle.step_eval.specs.Meaning.{at_form, form_at, head_of, left_of, node_at, rest_of}
 use Rattle.step_eval.specs.Ready.{IsSettled}
-use Rattle.step_eval.specs.Scoped.{IsScoped, bound}
+use Rattle.step_eval.specs.Scoped.{IsScoped}
 use Rattle.step_eval.specs.Turns.{IsBound, turn_at}
 use Rattle.step_eval.proofs.Nodes.{part_count}
 use Rattle.step_eval.proofs.Scopes.{AreScoped, bound-scoped, first-scoped, length-bound, put_parts-bound, rest-scoped, slot-ahead}

@@ -1,21 +1,20 @@
 -- What a node's form stands for when it is begun.
-use Rattle.std.proofs.Common.{◌≡◌, ℕ, ◌+◌, ◌<◌, List, [], ◌∷◌, length, drop, slice_get, Option, Some, None, unwrap_or, refl, ap, sym, ◌∙◌, subst, ℤ, Bool, arith}
-use Rattle.stab_base.specs.Datum.{Datum, unit, truth, int, text}
+use Rattle.std.proofs.Common.{◌≡◌, ℕ, ◌<◌, List, length, slice_get, Some, refl, ap, sym, ◌∙◌, subst, ℤ, Bool, arith}
+use Rattle.stab_base.specs.Datum.{Datum}
 use Rattle.stab_base.specs.declared.numbers.TextId.{TextId}
 use Rattle.stab_code.specs.declared.head.Head as code
-use Rattle.stab_code.specs.declared.head.Head.TheVariants.{Unit, Truth, Int, Text, Var, Block}
+use Rattle.stab_code.specs.declared.head.Head.TheVariants.{Unit, Truth, Int, Text, Var}
 use Rattle.stab_code.specs.declared.node_id.NodeId.{NodeId}
 use Rattle.stab_code.specs.Nodes.{NodeParts}
 use Rattle.stab_code.specs.Program.{ProgramParts, tree_at, trees_at}
-use Rattle.stab_code.specs.Trees.{Tree, tree}
+use Rattle.stab_code.specs.Trees.{tree}
 use Rattle.stab_code.specs.Valid.{IsValid}
-use Rattle.stab_code.proofs.Lists.{All-at}
-use Rattle.plain_language.specs.Expression.{Expr, value, variable, form, Parts, none, put, put_parts, put_value}
+use Rattle.plain_language.specs.Expression.{value, form, Parts, put, put_parts, put_value}
 use Rattle.plain_language.specs.Program.{expr_of, exprs_of, form_of}
-use Rattle.step_eval.specs.Meaning.{node_at, left_of, head_of, form_at, at_start}
-use Rattle.step_eval.specs.Fits.{IsForm, IsLeft, FormFits, tree_left}
+use Rattle.step_eval.specs.Meaning.{node_at, head_of, form_at, at_start}
+use Rattle.step_eval.specs.Fits.{IsForm, IsLeft, FormFits}
 use Rattle.step_eval.specs.Scoped.{IsScoped}
-use Rattle.step_eval.proofs.Nodes.{tree_is, tree_left-zero, left_of-zero, node_there}
+use Rattle.step_eval.proofs.Nodes.{tree_is, tree_left-zero, left_of-zero}
 
 -- a form that is no literal and no variable is itself
 pub form_of-head : (h : code.Head) (ps : Parts) → IsForm h → form_of h ps ≡ form (head_of h) ps

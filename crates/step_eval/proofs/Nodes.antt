@@ -1,12 +1,12 @@
 -- Nodes of a valid program, by their numbers.
-use Rattle.std.proofs.Common.{◌≡◌, ℕ, zero, suc, ◌+◌, ◌<◌, List, [], ◌∷◌, length, slice_get, Option, Some, IsSome, is_some, option_map, unwrap_or, refl, ap, sym, ◌∙◌, subst, arith}
+use Rattle.std.proofs.Common.{◌≡◌, ℕ, zero, suc, ◌<◌, List, [], ◌∷◌, length, slice_get, Option, Some, IsSome, is_some, option_map, unwrap_or, refl, ap, sym, ◌∙◌, arith}
 use Rattle.std.proofs.lemmas.Option.{slice_get-get_or}
 use Rattle.stab_code.specs.declared.head.Head.{Head}
 use Rattle.stab_code.specs.declared.head.Head.TheVariants.{Unit, Block}
 use Rattle.stab_code.specs.declared.node_id.NodeId.{NodeId}
 use Rattle.stab_code.specs.Nodes.{NodeParts, node_of}
 use Rattle.stab_code.specs.Program.{ProgramParts, tree_at, trees_at}
-use Rattle.stab_code.specs.Trees.{Tree, tree, fold, fold_all}
+use Rattle.stab_code.specs.Trees.{tree, fold, fold_all}
 use Rattle.stab_code.specs.Valid.{IsValid, parts_of}
 use Rattle.stab_code.proofs.InOrder as order
 use Rattle.stab_code.proofs.Lists.{All-at}

@@ -1,7 +1,6 @@
 -- The redex of a control whose redex is found is what it looks at, within its frames.
 use Rattle.std.proofs.Common.{◌≡◌, ℕ, zero, suc, ◌+◌, ◌<◌, ◌≤◌, Bool, true, false, List, [], ◌∷◌, ◌++◌, map, length, drop, slice_get, Option, Some, None, option_map, refl, ap, sym, ◌∙◌, arith, append-nil, append_assoc, cond, subst}
 use Rattle.stab_base.specs.Datum.{Datum}
-use Rattle.stab_base.specs.declared.fault.Fault.{Fault}
 use Rattle.stab_base.specs.declared.fault.Fault.TheVariants.{TooDeep}
 use Rattle.stab_base.specs.declared.numbers.Seq.{Seq}
 use Rattle.std.proofs.lemmas.Bool.Decides.{nat_tests}
@@ -10,15 +9,14 @@ use Rattle.std.specs.Prelude.{nat_lt}
 use Rattle.stab_code.specs.declared.head.Head as code
 use Rattle.stab_code.specs.declared.head.Head.TheVariants.{Block, If, Two}
 use Rattle.stab_code.specs.declared.head.Op.TheVariants.{Or, And}
-use Rattle.stab_code.specs.declared.node_id.NodeId.{NodeId}
 use Rattle.stab_code.specs.Heads.{strict_parts}
 use Rattle.stab_code.specs.Program.{ProgramParts, trees_at}
 use Rattle.plain_language.specs.declared.head.Head.{Head}
 use Rattle.plain_language.specs.Expression.{Expr, Parts, failed, none, put_parts}
 use Rattle.step_eval.specs.Arrival.{Arrives}
-use Rattle.plain_language.specs.Frames.{IsFrame, AreFrames}
+use Rattle.plain_language.specs.Frames.{AreFrames}
 use Rattle.plain_language.specs.Program.{exprs_of}
-use Rattle.plain_language.specs.Redex.{Frame, Redex, after_values, cap, first_counts_alone, frames_of, innermost, mark, redex, redex_in, section_or, spine, within}
+use Rattle.plain_language.specs.Redex.{Frame, Redex, after_values, cap, first_counts_alone, frames_of, innermost, mark, redex, redex_in, section_or, spine}
 use Rattle.plain_language.proofs.Unique.{redex-within}
 use Rattle.step_eval.specs.declared.machine.Focus.{Focus}
 use Rattle.step_eval.specs.declared.machine.Focus.TheVariants as focus
@@ -26,7 +24,7 @@ use Rattle.step_eval.specs.declared.machine.Machine.{Machine}
 use Rattle.step_eval.specs.declared.site.Site.{Site}
 use Rattle.step_eval.specs.declared.site.Site.TheVariants.{Form, Section}
 use Rattle.step_eval.specs.ControlView.{ControlView, Fits, RedexIsFound, focus_expr, focus_view, view_of, expr_of as expr_in}
-use Rattle.step_eval.specs.Fits.{FrameFits, FramesFit, IsMarkAt, outside}
+use Rattle.step_eval.specs.Fits.{FramesFit, IsMarkAt, outside}
 use Rattle.step_eval.specs.FrameView.{FrameView}
 use Rattle.step_eval.specs.Meaning.{form_at, frame_at, head_at, head_of, left_of, node_at, rest_of, strict_at, waiting_at, within_forms}
 use Rattle.step_eval.specs.Ready.{IsSettled}

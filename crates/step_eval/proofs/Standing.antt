@@ -1,5 +1,5 @@
 -- How the form at hand changes as its parts get values.
-use Rattle.std.proofs.Common.{◌≡◌, ℕ, zero, suc, ◌+◌, ◌<◌, ◌≤◌, List, [], ◌∷◌, ◌++◌, map, length, drop, slice_get, Option, Some, None, refl, ap, sym, ◌∙◌, subst, arith, length-append}
+use Rattle.std.proofs.Common.{◌≡◌, ℕ, zero, suc, ◌+◌, ◌<◌, ◌≤◌, List, [], ◌∷◌, ◌++◌, length, drop, slice_get, Option, Some, None, refl, ap, sym, ◌∙◌, subst, arith, length-append}
 use Rattle.stab_base.specs.Datum.{Datum}
 use Rattle.stab_base.specs.declared.numbers.Seq.{Seq}
 use Rattle.stab_code.specs.declared.head.Head.{Head}
@@ -9,18 +9,17 @@ use Rattle.stab_code.specs.declared.node_id.NodeId.{NodeId}
 use Rattle.stab_code.specs.Heads.{slots_of, strict_parts}
 use Rattle.stab_code.specs.Nodes.{NodeParts}
 use Rattle.stab_code.specs.Program.{FunctionParts, ProgramParts, tree_at, trees_at}
-use Rattle.stab_code.specs.Trees.{Trees}
 use Rattle.stab_code.specs.Valid.{IsValid, HasItem, parts_of}
 use Rattle.stab_code.proofs.Lists.{All-at}
-use Rattle.plain_language.specs.Expression.{Expr, value, Parts, part, put}
+use Rattle.plain_language.specs.Expression.{value, Parts, part, put}
 use Rattle.plain_language.specs.Program.{expr_of}
 use Rattle.plain_language.specs.Redex.{after_values, within}
 use Rattle.step_eval.specs.declared.site.Site.{Site}
-use Rattle.step_eval.specs.declared.site.Site.TheVariants.{Form, Section}
+use Rattle.step_eval.specs.declared.site.Site.TheVariants.{Form}
 use Rattle.step_eval.specs.FrameView.{FrameView}
-use Rattle.step_eval.specs.Fits.{FormFits, FrameFits, FramesFit, IsForm, IsLeft, SiteFits, tree_left}
+use Rattle.step_eval.specs.Fits.{FormFits, IsLeft, SiteFits}
 use Rattle.step_eval.specs.Meaning.{at_form, at_start, form_at, frame_at, left_of, node_at, strict_at, with_value, within_forms}
-use Rattle.step_eval.specs.Ready.{IsLeaf, IsNext, IsNextPart, IsSettled, IsStepping}
+use Rattle.step_eval.specs.Ready.{IsLeaf, IsNext, IsNextPart, IsStepping}
 use Rattle.step_eval.specs.Scoped.{IsScoped}
 use Rattle.step_eval.proofs.Forms.{form-start, fits-start}
 use Rattle.step_eval.proofs.Nodes.{node_there, part_below, part_count}

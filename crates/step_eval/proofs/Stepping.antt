@@ -1,7 +1,6 @@
 -- A pure step is what the plain language's table says.
-use Rattle.std.proofs.Common.{◌≡◌, ℕ, zero, suc, ◌+◌, ◌<◌, ◌≤◌, List, [], ◌∷◌, map, Option, Some, None, refl, ap, sym, ◌∙◌, subst, add-one, arith}
+use Rattle.std.proofs.Common.{◌≡◌, ℕ, zero, suc, ◌+◌, List, map, Option, Some, None, refl, ap, sym, ◌∙◌, subst, add-one}
 use Rattle.std.specs.Prelude.{option_and_then}
-use Rattle.stab_base.specs.Datum.{Datum}
 use Rattle.stab_base.specs.declared.numbers.Seq.{Seq}
 use Rattle.stab_code.specs.Program.{ProgramParts}
 use Rattle.plain_language.specs.Acts.{told}
@@ -10,12 +9,10 @@ use Rattle.plain_language.specs.Look.{language, look, look_at, look_by}
 use Rattle.plain_language.specs.Outcome.{Outcome, becomes, fails, acts}
 use Rattle.plain_language.specs.Program.{body}
 use Rattle.plain_language.specs.Redex.{Redex, cap, redex}
-use Rattle.plain_language.specs.Table.{pure_of, pure_steps, act}
-use Rattle.step_eval.specs.declared.act.Act.{Act}
+use Rattle.plain_language.specs.Table.{pure_of, pure_steps}
 use Rattle.step_eval.specs.declared.machine.Focus.{Focus}
 use Rattle.step_eval.specs.declared.machine.Focus.TheVariants as focus
 use Rattle.step_eval.specs.declared.machine.Machine.{Machine}
-use Rattle.step_eval.specs.Acts.{act_of}
 use Rattle.step_eval.specs.Arrival.{Arrives, turned}
 use Rattle.step_eval.specs.ControlView.{ControlView, Fits, RedexIsFound, expr_of, focus_expr, focus_view, view_of}
 use Rattle.step_eval.specs.FrameView.{FrameView}

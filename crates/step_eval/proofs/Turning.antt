@@ -1,11 +1,9 @@
 -- What the form at hand does, from its head and its values.
-use Rattle.std.proofs.Common.{◌≡◌, ℕ, zero, suc, ◌+◌, ◌<◌, ◌≤◌, Bool, true, false, cond, List, [], ◌∷◌, ◌++◌, length, drop, slice_get, Option, Some, None, option_map, IfSome, IsSomeAnd, refl, ap, sym, ◌∙◌, subst, arith}
+use Rattle.std.proofs.Common.{◌≡◌, ℕ, zero, suc, ◌+◌, ◌<◌, ◌≤◌, Bool, true, false, cond, List, [], ◌∷◌, length, drop, slice_get, Option, Some, None, option_map, IfSome, IsSomeAnd, refl, ap, sym, ◌∙◌, subst, arith}
 use Rattle.std.specs.Prelude.{option_and_then}
-use Rattle.std.proofs.lemmas.Option.{slice_get_within}
 use Rattle.stab_base.specs.Datum.{Datum}
 use Rattle.stab_base.specs.declared.fault.Fault.TheVariants.{WrongKind}
 use Rattle.stab_base.specs.declared.numbers.FnId.{FnId}
-use Rattle.stab_base.specs.declared.numbers.Seq.{Seq}
 use Rattle.stab_code.specs.declared.head.Head as code
 use Rattle.stab_code.specs.declared.head.Head.TheVariants.{If, Two, Call}
 use Rattle.stab_code.specs.declared.head.Op.TheVariants.{Or, And}
@@ -13,20 +11,20 @@ use Rattle.stab_code.specs.declared.node_id.NodeId.{NodeId}
 use Rattle.stab_code.specs.Heads.{strict_parts}
 use Rattle.stab_code.specs.Program.{FunctionParts, ProgramParts, arity_of, tree_at, trees_at}
 use Rattle.stab_code.specs.Valid.{IsValid, parts_of}
-use Rattle.plain_language.specs.Expression.{Expr, Parts, value, failed, part, none, put, put_parts}
+use Rattle.plain_language.specs.Expression.{part, none, put, put_parts}
 use Rattle.plain_language.specs.Operands.{one_of, truth_of}
-use Rattle.plain_language.specs.Outcome.{Outcome, becomes, fails, branch_of, called, outcome, truth_value, waiting_one, with_one, with_truth}
+use Rattle.plain_language.specs.Outcome.{Outcome, becomes, fails, branch_of, outcome, truth_value, waiting_one, with_one, with_truth}
 use Rattle.plain_language.specs.Program.{body, expr_of, exprs_of}
 use Rattle.plain_language.proofs.Operands.{with_truth-none, with_truth-some}
 use Rattle.step_eval.specs.declared.act.Act.{Act}
 use Rattle.step_eval.specs.declared.act.Act.TheVariants.{Spawn, Enter}
 use Rattle.step_eval.specs.declared.site.Site.{Site}
-use Rattle.step_eval.specs.declared.site.Site.TheVariants.{Form, Section}
+use Rattle.step_eval.specs.declared.site.Site.TheVariants.{Form}
 use Rattle.step_eval.specs.FrameView.{FrameView}
 use Rattle.step_eval.specs.Fits.{FormFits, SiteFits}
 use Rattle.step_eval.specs.Meaning.{head_at, head_of, left_of, node_at, rest_of, strict_at, waiting_at}
 use Rattle.step_eval.specs.Operands.{HasOperands, operand_count}
-use Rattle.step_eval.specs.Ready.{IsSettled, IsStepping}
+use Rattle.step_eval.specs.Ready.{IsSettled}
 use Rattle.step_eval.specs.Turns.{Takes, turn_at}
 use Rattle.step_eval.proofs.Nodes.{part_count}
 use Rattle.step_eval.proofs.Standing.{drop-next}

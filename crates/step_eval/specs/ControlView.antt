@@ -1,6 +1,5 @@
 -- A control without addresses, and the expression that it stands for.
 use Rattle.std.specs.Prelude.{◌≡◌, ◌<◌, ⊤, List, [], length, slice_get, Option, Some, None}
-use Rattle.std.specs.Arc.{arc_value}
 use Rattle.stab_base.specs.Datum.{Datum}
 use Rattle.stab_base.specs.declared.fault.Fault.{Fault}
 use Rattle.stab_base.specs.declared.numbers.Seq.{Seq}

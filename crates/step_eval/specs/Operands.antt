@@ -2,7 +2,7 @@
 use Rattle.std.specs.Prelude.{◌≡◌, ℕ, List, Option, Some, option_map, slice_get}
 use Rattle.stab_code.specs.Program.{FunctionParts, ProgramParts, arity_of}
 use Rattle.step_eval.specs.declared.act.Act.{Act}
-use Rattle.step_eval.specs.declared.act.Act.TheVariants.{Spawn, NewChan, NewRef, Get, Set, Send, Recv, Pick, Enter, Stabilize, Cut, Pin, Print, Probe, Attempt}
+use Rattle.step_eval.specs.declared.act.Act.TheVariants.{Spawn, NewRef, Get, Set, Send, Recv, Pick, Enter, Print}
 use Rattle.step_eval.specs.Turns.{Takes}
 
 -- one for each argument of a body that is spawned or entered

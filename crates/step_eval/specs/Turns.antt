@@ -3,11 +3,10 @@ use Rattle.std.specs.Prelude.{◌≡◌, ◌≤◌, ℕ, List, [], ◌∷◌, le
 use Rattle.stab_base.specs.Datum.{Datum}
 use Rattle.stab_base.specs.declared.numbers.FnId.{FnId}
 use Rattle.stab_code.specs.Program.{ProgramParts, arity_of}
-use Rattle.plain_language.specs.Expression.{Expr, failed}
-use Rattle.plain_language.specs.Outcome.{Outcome, becomes, fails, acts, outcome}
+use Rattle.plain_language.specs.Outcome.{Outcome, outcome}
 use Rattle.plain_language.specs.Program.{body}
 use Rattle.step_eval.specs.FrameView.{FrameView}
-use Rattle.step_eval.specs.Meaning.{head_at, rest_of, within_forms}
+use Rattle.step_eval.specs.Meaning.{head_at, rest_of}
 use Rattle.step_eval.specs.Scoped.{bound}
 
 -- what the form at hand does

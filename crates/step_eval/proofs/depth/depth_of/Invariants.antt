@@ -1,4 +1,4 @@
-use Rattle.std.proofs.Common.{◌≡◌, ◌+◌, ◌<◌, ◌≤◌, List, length, Option}
+use Rattle.std.proofs.Common.{◌+◌, ◌<◌, ◌≤◌, List, length, Option}
 use Rattle.stab_base.specs.declared.numbers.Seq.{Seq}
 use Rattle.step_eval.specs.FrameView.{FrameView}
 use Rattle.step_eval.specs.Fits.{FramesFit, IsLeft}

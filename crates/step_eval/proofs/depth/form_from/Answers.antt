@@ -1,5 +1,5 @@
 -- The parts that are passed are literals and variables.
-use Rattle.std.proofs.Common.{◌≡◌, ◌+◌, ◌<◌, ◌≤◌, length, slice_get, Some, ap, sym, ◌∙◌, refl, arith}
+use Rattle.std.proofs.Common.{◌≡◌, ◌+◌, ◌<◌, ◌≤◌, length, slice_get, Some, ap, ◌∙◌, refl, arith}
 use Rattle.step_eval.specs.Fits.{IsLeft}
 use Rattle.step_eval.specs.Meaning.{node_at, strict_at}
 use Rattle.step_eval.specs.declared.site.Site.TheVariants.{Form}

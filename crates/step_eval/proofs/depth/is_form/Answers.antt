@@ -1,7 +1,6 @@
 -- A literal and a variable have values.
-use Rattle.std.proofs.Common.{◌≡◌, ap, sym, ◌∙◌}
+use Rattle.std.proofs.Common.{ap}
 use Rattle.stab_base.specs.Datum.{unit, truth, int, text}
-use Rattle.plain_language.specs.Expression.{value}
 use Rattle.plain_language.specs.Program.{form_of}
 use Rattle.step_eval.proofs.Forms.{head-is}
 use Rattle.step_eval.proofs.Searching.{has-value, has-variable}

@@ -1,4 +1,3 @@
-use Rattle.std.proofs.Common.{◌≡◌, map, sym, ◌∙◌}
 use Rattle.std.specs.Arc.{arc_value}
 use Rattle.step_eval.proofs.Shares.{map_take-push}
 use Rattle.step_eval.proofs.machine.shared.Goals as goal

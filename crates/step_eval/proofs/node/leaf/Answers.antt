@@ -1,10 +1,7 @@
 use Rattle.std.proofs.Common.{◌≡◌, Some, ap, sym, ◌∙◌, rules}
 use Rattle.stab_base.specs.Datum.{unit, truth, int, text}
-use Rattle.stab_code.specs.declared.head.Head.{Head}
-use Rattle.stab_code.specs.Nodes.{NodeParts}
 use Rattle.plain_language.specs.Expression.{value}
 use Rattle.plain_language.specs.Program.{form_of}
-use Rattle.step_eval.specs.Meaning.{node_at}
 use Rattle.step_eval.proofs.Forms.{leaf-value, leaf-variable, slot-there, head-is}
 use Rattle.step_eval.proofs.node.leaf.Goals as goal
 

@@ -1,8 +1,8 @@
 -- The next part that counts is there, and its variables are in scope; a leaf's value stands for it.
-use Rattle.std.proofs.Common.{◌≡◌, ◌+◌, ◌<◌, length, slice_get, Some, ◌∙◌, sym, ap, arith}
+use Rattle.std.proofs.Common.{◌≡◌, ◌+◌, ◌<◌, length, slice_get, Some, ◌∙◌, ap, arith}
 use Rattle.step_eval.specs.Meaning.{node_at, strict_at}
 use Rattle.step_eval.specs.declared.site.Site.TheVariants.{Form}
-use Rattle.step_eval.proofs.Standing.{all-taken, form-leaf, next-part, part-found, part-in, part-seen, part-there, strict-found}
+use Rattle.step_eval.proofs.Standing.{form-leaf, next-part, part-found, part-in, part-seen, part-there, strict-found}
 use Rattle.step_eval.proofs.settle.take_leaves.Goals as goal
 
 pub item_of-part-requires : goal.item_of-part-requires

@@ -1,4 +1,3 @@
-use Rattle.std.proofs.Common.{◌≡◌}
 use Rattle.step_eval.proofs.Ending.{rest-act, rest-begun, rest-fault, rest-form, rest-value}
 use Rattle.step_eval.proofs.control.Control.rest.Goals as goal
 

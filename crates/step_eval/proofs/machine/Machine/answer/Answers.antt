@@ -1,5 +1,5 @@
 -- The value stands where the act stood.
-use Rattle.std.proofs.Common.{ap, sym, ◌∙◌, refl}
+use Rattle.std.proofs.Common.{ap, sym, ◌∙◌}
 use Rattle.plain_language.specs.Expression.{value}
 use Rattle.plain_language.specs.Redex.{cap, within}
 use Rattle.step_eval.specs.ControlView.{ControlView, expr_of}

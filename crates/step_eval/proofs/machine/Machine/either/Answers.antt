@@ -1,9 +1,9 @@
 -- `||` goes on at its right side or has its value.
-use Rattle.std.proofs.Common.{◌≡◌, ◌<◌, length, slice_get, true, false, Option, Some, None, OnOk, refl, ap, sym, ◌∙◌, subst, arith}
+use Rattle.std.proofs.Common.{◌≡◌, length, slice_get, true, false, Some, OnOk, refl, ap, sym, ◌∙◌, subst, arith}
 use Rattle.std.specs.Prelude.{option_and_then}
-use Rattle.stab_base.specs.Datum.{Datum, truth}
-use Rattle.stab_code.specs.declared.head.Head.TheVariants.{If, Two}
-use Rattle.stab_code.specs.declared.head.Op.TheVariants.{And, Or}
+use Rattle.stab_base.specs.Datum.{Datum}
+use Rattle.stab_code.specs.declared.head.Head.TheVariants.{Two}
+use Rattle.stab_code.specs.declared.head.Op.TheVariants.{Or}
 use Rattle.plain_language.specs.Expression.{value}
 use Rattle.plain_language.specs.Operands.{one_of, truth_of}
 use Rattle.plain_language.specs.Outcome.{Outcome}
@@ -12,7 +12,7 @@ use Rattle.step_eval.specs.ControlView.{view_of}
 use Rattle.step_eval.specs.Meaning.{node_at, within_forms}
 use Rattle.step_eval.specs.View.{here_of, round_of}
 use Rattle.step_eval.proofs.Standing.{any-part, any-there, part-found, stepping-fits}
-use Rattle.step_eval.proofs.Turning.{or-none, or-some, parts-are}
+use Rattle.step_eval.proofs.Turning.{or-some, parts-are}
 use Rattle.step_eval.proofs.machine.Machine.either.Goals as goal
 
 pub item_of-right-requires : goal.item_of-right-requires

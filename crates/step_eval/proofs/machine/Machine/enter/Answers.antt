@@ -1,5 +1,5 @@
 -- The section with the body stands where the act stood.
-use Rattle.std.proofs.Common.{◌≡◌, ◌∷◌, List, is_some, ap, sym, ◌∙◌, refl, subst}
+use Rattle.std.proofs.Common.{◌≡◌, ◌∷◌, List, is_some, ap, sym, ◌∙◌, subst}
 use Rattle.std.specs.Arc.{arc_value}
 use Rattle.stab_base.specs.Datum.{Datum}
 use Rattle.plain_language.specs.declared.head.Head.TheVariants.{Section}
@@ -11,7 +11,7 @@ use Rattle.step_eval.specs.ControlView.{ControlView}
 use Rattle.step_eval.specs.Entries.{IsEntry}
 use Rattle.step_eval.specs.FrameView.{FrameView}
 use Rattle.step_eval.specs.Sections.{section_frame}
-use Rattle.step_eval.specs.View.{here_of, round_of}
+use Rattle.step_eval.specs.View.{round_of}
 use Rattle.step_eval.proofs.Answering.{act-frames, entry-expr}
 use Rattle.step_eval.proofs.machine.Machine.enter.Goals as goal
 

@@ -1,5 +1,5 @@
 -- A block binds its item's value, and goes on at its next item or its last part.
-use Rattle.std.proofs.Common.{◌≡◌, ℕ, ◌+◌, ◌<◌, List, [], length, slice_get, Some, OnOk, refl, ap, sym, ◌∙◌, subst, arith}
+use Rattle.std.proofs.Common.{◌≡◌, ℕ, ◌+◌, ◌<◌, List, length, slice_get, Some, OnOk, refl, ap, sym, ◌∙◌, subst, arith}
 use Rattle.std.specs.Arc.{arc_value}
 use Rattle.std.proofs.lemmas.Option.{slice_get_within}
 use Rattle.stab_base.specs.Datum.{Datum}
@@ -11,7 +11,7 @@ use Rattle.step_eval.specs.Arrival.{Arrives, turned}
 use Rattle.step_eval.specs.ControlView.{view_of}
 use Rattle.step_eval.specs.FrameView.{FrameView}
 use Rattle.step_eval.specs.Fits.{FormFits}
-use Rattle.step_eval.specs.Meaning.{at_form, form_at, node_at, within_forms}
+use Rattle.step_eval.specs.Meaning.{form_at, node_at, within_forms}
 use Rattle.step_eval.specs.View.{here_of, round_of}
 use Rattle.step_eval.proofs.Blocks.{fits-more, last-scoped, long, slot-is-ahead, turn-last, turn-more}
 use Rattle.step_eval.proofs.Standing.{any-there, part-found, stepping-fits}

@@ -1,10 +1,10 @@
 -- A node that is no leaf is its form.
-use Rattle.std.proofs.Common.{◌≡◌, ℕ, length, refl, ap, sym, ◌∙◌, subst}
+use Rattle.std.proofs.Common.{ℕ, length, refl, ap, sym, ◌∙◌, subst}
 use Rattle.std.specs.Arc.{arc_value}
 use Rattle.step_eval.specs.ControlView.{view_of}
 use Rattle.step_eval.specs.FrameView.{FrameView}
 use Rattle.step_eval.specs.Fits.{FormFits, IsForm}
-use Rattle.step_eval.specs.Meaning.{at_start, form_at, node_at, within_forms}
+use Rattle.step_eval.specs.Meaning.{form_at, node_at, within_forms}
 use Rattle.step_eval.specs.View.{here_of, round_of}
 use Rattle.step_eval.proofs.Arriving.{arrives-by}
 use Rattle.step_eval.proofs.Forms.{fits-start, form-start}

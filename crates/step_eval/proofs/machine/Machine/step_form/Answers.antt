@@ -1,7 +1,4 @@
 -- A call has its arguments.
-use Rattle.std.proofs.Common.{◌≡◌}
-use Rattle.stab_code.specs.declared.head.Head.TheVariants.{Call}
-use Rattle.step_eval.specs.Meaning.{node_at}
 use Rattle.step_eval.specs.View.{here_of, round_of}
 use Rattle.step_eval.proofs.Forms.{head-is}
 use Rattle.step_eval.proofs.Standing.{stepping-fits}
