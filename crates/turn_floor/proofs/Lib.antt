@@ -1,10 +1,8 @@
 pub mod Closing
 pub mod Counting
-pub mod Crossing
 pub mod Dealing
 pub mod Histories
 pub mod Joins
-pub mod Left
 pub mod Seats
 pub mod Steps
 pub mod Turning

@@ -102,7 +102,6 @@ impl<K: Kept, C: Ledger, S: Ledger> Floor<K, C, S> {
     /// Lets the other workers run, and sleeps for a while where none of them adds an event. It may return before
     /// a turn has ended.
     pub fn rest<R: Wait>(&self, rt: &R, pass: &mut Pass<K, C, S>)
-        requires own { pass.old.floor ≡ self.now }
         ensures same { pass.new ≡ pass.old }
     {
         if self.has_grown(pass.seen) {

@@ -1,6 +1,6 @@
 use denote.Param.Send.{sendable}
 use Rattle.std.proofs.Crossing.{crosses}
-use Rattle.turn_floor.proofs.Crossing.{counter-send}
+use Rattle.turn_trial.proofs.Crossing.{counter-send}
 use Rattle.turn_bench.proofs.turns.run.Goals as goal
 
 pub work_all-requires-send-K : goal.work_all-requires-send-K

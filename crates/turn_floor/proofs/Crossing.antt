@@ -1,8 +1,0 @@
--- Counters cross threads since their jobs do.
-use denote.Param.Send.{IsSend, IsSync, sendable}
-use Rattle.std.proofs.Crossing.{crosses}
-use Rattle.stab_code.proofs.Crossing.{program-send, program-sync}
-use Rattle.turn_floor.specs.contracts.counter.Counter as counters
-
-pub counter-send : IsSend counters.the_row
-counter-send = search (program-send, program-sync, sendable, crosses) depth 60 fits 100000

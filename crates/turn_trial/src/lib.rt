@@ -1,0 +1,10 @@
+//! A counter of calls that workers serve in turns, for tests and measures of a floor.
+#![tactic(auto)]
+
+mod counter;
+#[cfg(test)]
+mod tests;
+mod workers;
+
+pub use counter::{Call, Counter, Reply, work};
+pub use workers::{Heard, Plan, Worker, parted, work_all};
