@@ -8,6 +8,8 @@ mod pass;
 #[cfg(test)]
 mod played;
 #[cfg(test)]
+mod row_tests;
+#[cfg(test)]
 mod tests;
 
 pub use laws::{

@@ -2,8 +2,8 @@
 use crate::law_calls::{call_laws_of_programs, call_laws_of_runs, conclude, enters, rises};
 use crate::played::played;
 use crate::reached;
-use plain_language::{ActKind, Look, PlainState};
-use stab_base::{ChanId, NoMemory, RefId, Seq, ThreadId, Value};
+use plain_language::{ActKind, Look};
+use stab_base::{ChanId, NoMemory, RefId, Seq, ThreadId};
 use stab_code::Program;
 use stab_journal::{Label, Numbered};
 use stab_text::read_program;
@@ -16,7 +16,7 @@ const ONE_SECTION: &str =
     "fn part(): unit { if probe() < 0 { stabilize() } else { () } } fn main(): unit { stable part() }";
 
 // Three threads pass on what depends on the section of `main`.
-const PROGRAM: &str = "
+pub(crate) const PROGRAM: &str = "
 fn a(c: chan[int], k: chan[int]): unit { send(c, 5); recv(k); if probe() < 0 { stabilize() } else { () } }
 fn b(c: chan[int], r: ref[int]): unit { set(r, recv(c)) }
 fn c(r: ref[int], k: chan[int]): unit { let v = get(r); if v == 0 { c(r, k) } else { send(k, v) } }
@@ -29,7 +29,7 @@ fn main(): unit {
 }
 ";
 
-fn program_of(alloc: Global, text: &str) -> Result<Arc<Program>, Fail> {
+pub(crate) fn program_of(alloc: Global, text: &str) -> Result<Arc<Program>, Fail> {
     let bytes = text.as_bytes();
     if bytes.len() > 1_048_576 {
         return Err(Fail::from("a short text"));
@@ -65,12 +65,13 @@ fn step_of(line: &str) -> Option<Numbered> {
         "probe" => Label::Probe(t, word?.parse().ok()?),
         "refuse" => Label::Refuse(t),
         "pin" => Label::Pin(t),
+        "attempt" => Label::Attempt(t, u64::from(n)),
         _ => return None,
     };
     Some(Numbered { seq, label })
 }
 
-fn run_of(alloc: Global, lines: &[&str]) -> Result<Vec<Numbered>, Fail> {
+pub(crate) fn run_of(alloc: Global, lines: &[&str]) -> Result<Vec<Numbered>, Fail> {
     let mut run = Vec::new(alloc);
     for line in lines {
         for step in line.split(';') {
@@ -104,7 +105,7 @@ fn expect_reached<R: AllocGlobal + Abort>(
 }
 
 // The steps of `PROGRAM` up to the stabilize of the section that step 17 entered.
-const CASCADE: [&str; 4] = [
+pub(crate) const CASCADE: [&str; 4] = [
     "1 newchan 1 1; 2 local 1 1; 3 newchan 1 2; 4 local 1 1; 5 newref 1 1; 6 local 1 1; 7 spawn 1 2; 8 local 1 1",
     "9 spawn 1 3; 10 get 3 1; 11 local 1 1; 12 spawn 1 4; 13 local 3 4; 14 get 3 1; 15 print 4; 16 local 1 1",
     "17 enter 1; 18 local 3 4; 19 get 3 1; 20 comm 1 2 1; 21 local 3 4; 22 get 3 1; 23 set 2 1; 24 local 1 1",
@@ -131,29 +132,6 @@ fn the_laws_of_the_cascade(rt: HostRuntime) -> Result<(), Fail> {
     let first = ThreadId(1);
     assert_eq!(rt; end.look(first), Some(Look::Act(ActKind::Stabilize)));
     assert_eq!(rt; end.mark(first), Some(Seq(17)));
-    Ok(())
-}
-
-// What is left of the cascade without what is reached from 17 is played, and then the program to its end.
-#[test]
-fn what_the_cascade_leaves(rt: HostRuntime) -> Result<(), Fail> {
-    let alloc = rt.alloc();
-    let program = program_of(alloc, PROGRAM)?;
-    let lines = [
-        CASCADE[0],
-        CASCADE[1],
-        "18 local 3 4; 19 get 3 1; 21 local 3 4; 22 get 3 1; 25 local 3 4",
-        "33 enter 1; 34 get 3 1; 35 comm 1 2 1; 36 local 3 4; 37 get 3 1; 38 set 2 1; 39 local 1 1; 40 local 3 4",
-        "41 get 3 1; 42 local 3 3; 43 comm 3 1 2; 44 local 1 1; 45 probe 1 0; 46 local 1 4; 47 get 1 1; 48 print 1",
-    ];
-    let mut state = PlainState::start(alloc, &program)?;
-    for step in &run_of(alloc, &lines)? {
-        assert_eq!(rt; state.play(alloc, step.seq, &step.label), Ok(()));
-    }
-    assert!(rt;
-        matches!(state.printed(), [a, b] if a.same(&Value::int(4)) && b.same(&Value::int(5)))
-    );
-    assert_eq!(rt; state.look(ThreadId(1)), Some(Look::Done));
     Ok(())
 }
 
