@@ -3,6 +3,7 @@
 //! With the word `counts` it prints how many calls committed in some turns of one, two and four workers.
 #![tactic(auto)]
 
+mod adder;
 mod table;
 mod turns;
 

@@ -2,7 +2,7 @@
 ghost use Rattle.std.specs.Prelude.{◌≡◌};
 ghost use Rattle.stab_journal.specs.Event.{IsWorker};
 
-use crate::turns::{Made, run, run_bare};
+use crate::turns::{Made, Plan, run, run_bare};
 use stab_base::NoMemory;
 use std::io;
 use std::marker::Brand;
@@ -10,7 +10,6 @@ use std::rt::Clock;
 use std::sync::Wait;
 use std::sync::ledger::Blank;
 use std::thread::Threads;
-use turn_trial::Plan;
 
 /// How many turns are timed, by all workers.
 const TURNS: u32 = 40_000;
@@ -49,10 +48,8 @@ fn plan(workers: u32, inside: u32, beside: u32) -> Plan
     Plan {
         workers,
         turns: TURNS / workers,
-        events: false,
         inside,
         beside,
-        last_rests: false,
     }
 }
 
@@ -66,10 +63,8 @@ pub fn print_counts<R: AllocGlobal + Threads + Wait + Clock + Print + Sync>(
             Plan {
                 workers,
                 turns: 1_000,
-                events: true,
                 inside: 10,
                 beside: 30,
-                last_rests: false,
             },
         )?;
         println!(rt; "workers {workers} commits {}", made.commits)?;

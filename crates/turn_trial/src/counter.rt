@@ -18,8 +18,6 @@ pub struct Counter {
     pub history: History,
     pub commits: u64,
     pub stale: u64,
-    /// What the work of the calls came to.
-    pub sum: u64,
     /// Where its history lies.
     pub alloc: Global,
 }
@@ -33,8 +31,6 @@ pub struct Call {
     pub events: u32,
     pub committed: bool,
     pub stale: bool,
-    /// How many steps of arithmetic it makes.
-    pub work: u32,
 }
 
 /// What a counter answers.
@@ -59,7 +55,6 @@ impl Counter {
             history: History::new(alloc),
             commits: 0,
             stale: 0,
-            sum: 0,
             alloc,
         })
     }
@@ -69,17 +64,6 @@ impl Counter {
     {
         self.history.weight() >= self.job.fuel()
     }
-}
-
-/// What so many steps of arithmetic come to.
-pub fn work(steps: u32, from: u64) -> u64 {
-    let mut sum = from;
-    for step in 0..steps {
-        sum = sum
-            .wrapping_mul(6_364_136_223_846_793_005)
-            .wrapping_add(u64::from(step));
-    }
-    sum
 }
 
 impl Kept for Counter {
@@ -122,7 +106,6 @@ impl Kept for Counter {
     }
 
     fn serve(&mut self, _worker: u32, call: Call) -> Reply {
-        self.sum = work(call.work, self.sum);
         let fuel = self.job.fuel();
         let (first, count) = add_events(&mut self.history, fuel, call.worker, call.events);
         if call.committed {

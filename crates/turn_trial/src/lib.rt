@@ -1,4 +1,4 @@
-//! A counter of calls that workers serve in turns, for tests and measures of a floor.
+//! A counter of calls that workers serve in turns, for trials of a floor.
 #![tactic(auto)]
 
 mod counter;
@@ -6,5 +6,5 @@ mod counter;
 mod tests;
 mod workers;
 
-pub use counter::{Call, Counter, Reply, work};
+pub use counter::{Call, Counter, Reply};
 pub use workers::{Heard, Plan, Worker, parted, work_all};

@@ -28,9 +28,6 @@ fn plan(workers: u32, turns: u32) -> Plan
     Plan {
         workers,
         turns,
-        events: true,
-        inside: 0,
-        beside: 0,
         last_rests: false,
     }
 }

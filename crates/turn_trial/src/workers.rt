@@ -4,7 +4,7 @@ ghost use Rattle.turn_floor.specs.Parts.{AreAll};
 ghost use Rattle.turn_trial.specs.Calls.{IsSpent};
 ghost use Rattle.turn_trial.specs.Workers.{TakesCalls};
 
-use crate::counter::{Call, Reply, work};
+use crate::counter::{Call, Reply};
 use stab_base::NoMemory;
 use std::alloc::Global;
 use std::sync::Wait;
@@ -19,11 +19,6 @@ pub struct Plan {
     pub workers: u32,
     /// How many turns each takes, if the counter isn't spent sooner.
     pub turns: u32,
-    /// Zero, one and two events by turns; else none.
-    pub events: bool,
-    /// How many steps of arithmetic a turn makes, and how many its worker makes after it.
-    pub inside: u32,
-    pub beside: u32,
     /// The last worker looks and rests until the counter is spent.
     pub last_rests: bool,
 }
@@ -43,8 +38,6 @@ pub struct Heard {
 pub struct Worker<K: Kept, C: Ledger, S: Ledger> {
     pub pass: Pass<K, C, S>,
     pub heard: Heard,
-    /// What the work beside its turns came to.
-    pub sum: u64,
 }
 
 impl Heard {
@@ -74,16 +67,15 @@ impl Heard {
     }
 }
 
-// A worker's call at one of its turns: every second commits, and every fifth is stale.
-fn call(plan: Plan, worker: u32, turn: u32) -> Call
+// A worker's call at one of its turns: zero, one and two events by turns; every second call commits, and every fifth is stale.
+fn call(worker: u32, turn: u32) -> Call
     ensures { (result.worker ≡ worker) × (result.events ≤ 2) }
 {
     Call {
         worker,
-        events: if plan.events { turn % 3 } else { 0 },
+        events: turn % 3,
         committed: turn % 2 == 0,
         stale: turn % 5 == 0,
-        work: plan.inside,
     }
 }
 
@@ -103,9 +95,8 @@ fn take_turns<K: Kept<Ask = Call, Answer = Reply>, C: Ledger, S: Ledger, R: Wait
     ensures spent { IsTrue worker.new.heard.spent → IsSpent floor.now.start.job worker.new.pass.seen }
 {
     for turn in 0..plan.turns {
-        let call = call(plan, worker.pass.worker(), turn);
+        let call = call(worker.pass.worker(), turn);
         let reply = floor.with_turn(rt, &mut worker.pass, call);
-        worker.sum = work(plan.beside, worker.sum);
         if worker.heard.note(reply).is_err() || reply.spent {
             return;
         }
@@ -129,7 +120,6 @@ fn look_and_rest<K: Kept<Ask = Call, Answer = Reply>, C: Ledger, S: Ledger, R: W
         events: 0,
         committed: false,
         stale: false,
-        work: 0,
     };
     for _ in rt.forever() {
         let reply = floor.with_turn(rt, &mut worker.pass, look);
@@ -166,7 +156,6 @@ pub fn work_all<
         let mut worker = Worker {
             pass,
             heard: Heard::new(alloc),
-            sum: 1,
         };
         if plan.last_rests && worker.pass.worker() == plan.workers {
             look_and_rest(rt, floor, &mut worker);
