@@ -9,5 +9,11 @@ pub use event::{Event, Label, Numbered, Recorded, What};
 pub use history::History;
 pub use readers::{Own, Survivors};
 
+fn crosses_threads<T: Send + Sync>(_value: &T) {}
+
+fn history_crosses_threads(history: &History) {
+    crosses_threads(history);
+}
+
 #[cfg(test)]
 mod tests;
