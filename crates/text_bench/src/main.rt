@@ -1,7 +1,7 @@
-//! How long it takes to read the text of a program: its tokens, and then its syntax.
+//! How long it takes to read the text of a program: its tokens, its syntax, and what its names mean.
 //!
-//! With the word `counts` it prints how many tokens and forms short texts have; with the name of a kind of text, the times of
-//! that alone.
+//! With the word `counts` it prints how many tokens, forms and functions short texts have; with the name of a kind of text, the
+//! times of that alone.
 #![tactic(auto)]
 
 mod phases;

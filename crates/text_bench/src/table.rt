@@ -1,16 +1,23 @@
 //! What is printed.
 
-use crate::phases::{Took, counted, timed};
+use crate::phases::{Counts, Took, counted, timed};
 use crate::tenths::Tenths;
 use crate::texts::{HOSTILE, Hostile, KINDS, Kind};
 use std::io;
 use std::time::CpuClock;
 
+/// A kind of program, with the nanoseconds that one took.
+#[derive(Clone, Copy)]
+struct Slowest {
+    kind: Kind,
+    took: u64,
+}
+
 const FEW: usize = 3_500;
 
 const MANY: [usize; 3] = [10_000, 100_000, 1_000_000];
 
-/// The tokens and forms of short texts.
+/// The tokens, forms and functions of short texts.
 pub fn print_counts<R: AllocGlobal + Print>(rt: &R) -> io::Result<()> {
     for kind in KINDS {
         let text = kind.program(rt.alloc(), FEW)?;
@@ -25,7 +32,13 @@ pub fn print_counts<R: AllocGlobal + Print>(rt: &R) -> io::Result<()> {
 
 fn print_count<R: AllocGlobal + Print>(rt: &R, name: &str, text: &str) -> io::Result<()> {
     let counts = counted(rt.alloc(), text)?;
-    println!(rt; "{name} {} {} {}", text.len(), counts.tokens, counts.forms)
+    let bytes = text.len();
+    let Counts {
+        tokens,
+        forms,
+        functions,
+    } = counts;
+    println!(rt; "{name} {bytes} {tokens} {forms} {functions}")
 }
 
 /// The time of each phase for texts of three lengths, of all kinds or of one.
@@ -38,10 +51,8 @@ pub fn print_times<R: AllocGlobal + CpuClock + Print>(
             print_programs(rt, kind)?;
         }
     }
-    for hostile in HOSTILE {
-        if is_asked(only, hostile.name) {
-            print_refusals(rt, hostile)?;
-        }
+    for size in MANY {
+        print_refusals(rt, only, size)?;
     }
     Ok(())
 }
@@ -61,9 +72,19 @@ fn print_programs<R: AllocGlobal + CpuClock + Print>(rt: &R, kind: Kind) -> io::
     Ok(())
 }
 
-fn print_refusals<R: AllocGlobal + CpuClock + Print>(rt: &R, hostile: Hostile) -> io::Result<()> {
-    for size in MANY {
-        print_hostile(rt, hostile, size)?;
+fn print_refusals<R: AllocGlobal + CpuClock + Print>(
+    rt: &R,
+    only: Option<&str>,
+    size: usize,
+) -> io::Result<()> {
+    if !HOSTILE.iter().any(|hostile| is_asked(only, hostile.name)) {
+        return Ok(());
+    }
+    let slowest = slowest_program(rt, size)?;
+    for hostile in HOSTILE {
+        if is_asked(only, hostile.name) {
+            print_hostile(rt, hostile, size, slowest)?;
+        }
     }
     Ok(())
 }
@@ -77,36 +98,56 @@ fn print_program<R: AllocGlobal + CpuClock + Print>(
 ) -> io::Result<Took> {
     let text = kind.program(rt.alloc(), size)?;
     let took = timed(rt, text.as_str())?;
-    let (name, bytes) = (kind.name(), text.len());
-    let lex = Tenths::quotient(took.lex, bytes as u64);
-    let parse = Tenths::quotient(took.parse, bytes as u64);
-    let by_lex = Tenths::quotient(took.parse, took.lex);
-    print!(rt;
-        "{name} {bytes} bytes: lex {lex} ns a byte, parse {parse}, which is {by_lex} times lex"
-    )?;
+    print_phases(rt, kind.name(), text.len(), took)?;
     if let Some(shorter) = shorter {
         let lex = Tenths::quotient(took.lex, shorter.lex);
         let parse = Tenths::quotient(took.parse, shorter.parse);
-        print!(rt; "; by the shorter one lex {lex}, parse {parse}")?;
+        let scope = Tenths::quotient(took.scope, shorter.scope);
+        print!(rt; "; by the shorter one lex {lex}, parse {parse}, scope {scope}")?;
     }
     println!(rt;)?;
     Ok(took)
 }
 
-// How long it takes to refuse a text, beside a program that is as long.
+fn print_phases<R: Print>(rt: &R, name: &str, bytes: usize, took: Took) -> io::Result<()> {
+    let lex = Tenths::quotient(took.lex, bytes as u64);
+    let parse = Tenths::quotient(took.parse, bytes as u64);
+    let scope = Tenths::quotient(took.scope, bytes as u64);
+    let by_lex = Tenths::quotient(took.behind_tokens(), took.lex);
+    print!(rt;
+        "{name} {bytes} bytes: lex {lex} ns a byte, parse {parse}, scope {scope}, together {by_lex} times lex"
+    )
+}
+
+// How long it takes to refuse a text, beside the program of that length that takes the longest.
 fn print_hostile<R: AllocGlobal + CpuClock + Print>(
     rt: &R,
     hostile: Hostile,
     size: usize,
+    slowest: Slowest,
 ) -> io::Result<()> {
     let text = hostile.text(rt.alloc(), size)?;
     let refused = timed(rt, text.as_str())?.all();
-    let program = Kind::Functions.program(rt.alloc(), size)?;
-    let read = timed(rt, program.as_str())?.all();
-    let (name, bytes) = (hostile.name, text.len());
+    let (name, bytes, program) = (hostile.name, text.len(), slowest.kind.name());
     let a_byte = Tenths::quotient(refused, bytes as u64);
-    let by_program = Tenths::quotient(refused, read);
+    let by_program = Tenths::quotient(refused, slowest.took);
     println!(rt;
-        "{name} {bytes} bytes: refused in {a_byte} ns a byte, {by_program} times a program"
+        "{name} {bytes} bytes: refused in {a_byte} ns a byte, {by_program} times {program}"
     )
+}
+
+// The kind of program that takes the longest at a length.
+fn slowest_program<R: AllocGlobal + CpuClock>(rt: &R, size: usize) -> io::Result<Slowest> {
+    let mut slowest = Slowest {
+        kind: Kind::Functions,
+        took: 0,
+    };
+    for kind in KINDS {
+        let text = kind.program(rt.alloc(), size)?;
+        let took = timed(rt, text.as_str())?.all();
+        if took > slowest.took {
+            slowest = Slowest { kind, took };
+        }
+    }
+    Ok(slowest)
 }
