@@ -20,6 +20,11 @@ takes_right And (Some (frame.Operator And o left)) = true
 takes_right Or (Some (frame.Operator Or o left)) = true
 takes_right _ _ = false
 
+-- what stands left of an operator waits for what stands right of it
+abbrev pub is_operator : Option Frame → Bool
+is_operator (Some (frame.Operator l o left)) = true
+is_operator _ = false
+
 -- an if goes into one before an else
 abbrev pub takes_if : Option Frame → Bool
 takes_if (Some (frame.ElseIf i e)) = true

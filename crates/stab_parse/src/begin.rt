@@ -79,28 +79,18 @@ impl Reader {
     }
 
     /// A block opens.
-    pub(crate) fn block(
-        &mut self,
-        alloc: Global,
-        at: u32,
-        place: BlockPlace,
-    ) -> Result<Step, ParseFault>
+    pub(crate) fn block(&mut self, at: u32, place: BlockPlace) -> Result<Step, ParseFault>
         ensures ok { IfOk result (λ step. outcome step self.new
             ≡ outcome (Step.Opens Phase.InItems) (pushed (Frame.Items at [] 0 0 place) self.old)) }
         ensures fault { IfErr result (λ fault. fault ≡ ParseFault.NoMemory) }
     {
-        self.push(Frame::Items(at, Lets::new(alloc), 0, 0, place))?;
+        self.push(Frame::Items(at, Lets::new(), 0, 0, place))?;
         Ok(Step::Opens(Phase::InItems))
     }
 
     /// A token where a form is owed.
     #[inline(never)]
-    pub(crate) fn begins(
-        &mut self,
-        alloc: Global,
-        symbol: Symbol,
-        span: Span,
-    ) -> Result<Step, ParseFault>
+    pub(crate) fn begins(&mut self, symbol: Symbol, span: Span) -> Result<Step, ParseFault>
         requires { IsSmall symbol }
         ensures ok { IfOk result (λ step. outcome step self.new ≡ begins symbol span self.old) }
         ensures fault { IfErr result (λ fault. fault ≡ ParseFault.NoMemory) }
@@ -118,7 +108,7 @@ impl Reader {
             Symbol::Name => Ok(Step::Goes(Phase::Named(span))),
             Symbol::Call(word) => Ok(Step::Goes(Phase::WordRead(word, at))),
             Symbol::OpenParen => Ok(Step::Opens(Phase::Opened(at))),
-            Symbol::OpenBrace => self.block(alloc, at, BlockPlace::Form),
+            Symbol::OpenBrace => self.block(at, BlockPlace::Form),
             Symbol::WordIf => self.owed_in(Frame::Condition(at)),
             Symbol::WordChan => Ok(Step::Goes(Phase::ChanRead(at))),
             Symbol::ActOne(word) => Ok(Step::Goes(Phase::OneRead(word, at))),
@@ -130,13 +120,7 @@ impl Reader {
 
     /// A token behind a minus.
     #[inline(never)]
-    pub(crate) fn signed(
-        &mut self,
-        alloc: Global,
-        at: u32,
-        symbol: Symbol,
-        span: Span,
-    ) -> Result<Step, ParseFault>
+    pub(crate) fn signed(&mut self, at: u32, symbol: Symbol, span: Span) -> Result<Step, ParseFault>
         requires { IsSmall symbol }
         ensures ok { IfOk result (λ step. outcome step self.new ≡ signed at symbol span self.old) }
         ensures fault { IfErr result (λ fault. fault ≡ ParseFault.NoMemory) }
@@ -145,20 +129,14 @@ impl Reader {
             Some(value) => self.leaf(Head::Int(value), at),
             None => {
                 self.push(Frame::Negate(at))?;
-                self.begins(alloc, symbol, span)
+                self.begins(symbol, span)
             }
         }
     }
 
     /// A token behind a bracket that begins a form.
     #[inline(never)]
-    pub(crate) fn opened(
-        &mut self,
-        alloc: Global,
-        at: u32,
-        symbol: Symbol,
-        span: Span,
-    ) -> Result<Step, ParseFault>
+    pub(crate) fn opened(&mut self, at: u32, symbol: Symbol, span: Span) -> Result<Step, ParseFault>
         requires { IsSmall symbol }
         ensures ok { IfOk result (λ step. outcome step self.new ≡ opened at symbol span self.old) }
         ensures fault { IfErr result (λ fault. fault ≡ ParseFault.NoMemory) }
@@ -167,14 +145,13 @@ impl Reader {
             return self.leaf(Head::Unit, at);
         }
         self.push(Frame::Group(at))?;
-        self.begins(alloc, symbol, span)
+        self.begins(symbol, span)
     }
 
     /// A token behind the bracket of a call.
     #[inline(never)]
     pub(crate) fn call_open(
         &mut self,
-        alloc: Global,
         callee: Callee,
         symbol: Symbol,
         span: Span,
@@ -188,17 +165,12 @@ impl Reader {
             return Ok(Step::Goes(Phase::Has(seen)));
         }
         self.push(Frame::Args(callee, 0, 0))?;
-        self.begins(alloc, symbol, span)
+        self.begins(symbol, span)
     }
 
     /// A token where an item may begin.
     #[inline(never)]
-    pub(crate) fn in_items(
-        &mut self,
-        alloc: Global,
-        symbol: Symbol,
-        span: Span,
-    ) -> Result<Step, ParseFault>
+    pub(crate) fn in_items(&mut self, symbol: Symbol, span: Span) -> Result<Step, ParseFault>
         requires { IsSmall symbol }
         ensures ok { IfOk result (λ step. outcome step self.new ≡ in_items symbol span self.old) }
         ensures fault { IfErr result (λ fault. fault ≡ ParseFault.NoMemory) }
@@ -209,7 +181,7 @@ impl Reader {
         if closes_brace(symbol) {
             return self.end_items(span.start);
         }
-        self.begins(alloc, symbol, span)
+        self.begins(symbol, span)
     }
 
     /// A token behind a name.
@@ -256,7 +228,6 @@ impl Reader {
     #[inline(never)]
     pub(crate) fn else_read(
         &mut self,
-        alloc: Global,
         at: u32,
         depth: u8,
         symbol: Symbol,
@@ -266,7 +237,7 @@ impl Reader {
         ensures fault { IfErr result (λ fault. fault ≡ ParseFault.NoMemory) }
     {
         match symbol {
-            Symbol::OpenBrace => self.block(alloc, span.start, BlockPlace::Else(at, depth)),
+            Symbol::OpenBrace => self.block(span.start, BlockPlace::Else(at, depth)),
             Symbol::WordIf => {
                 self.push(Frame::ElseIf(at, depth))?;
                 self.push(Frame::Condition(span.start))?;

@@ -1,11 +1,12 @@
-//! What a token does behind an expression.
+//! What a token does behind an expression. What isn't done for most tokens isn't inlined, since each would then pay for the
+//! locals of all.
 ghost use Rattle.std.specs.Prelude.{◌≡◌, List, Option, IfOk, IfErr};
 ghost use Rattle.stab_parse.specs.Frames.{top_of};
 ghost use Rattle.stab_parse.specs.Moves.{behind, behind_top, block_done, block_in, call_done, close_brace, close_paren, comma, end_items, ends, first_of_call, head_of_call, item, item_in, open_brace, operator, outcome, owed_in, popped, relation_top, semicolon, settled, settled_outcome, whole_and, whole_expr, whole_sum};
 
 use crate::fault::ParseFault;
 use crate::frame::{BlockPlace, Callee, Frame, Level, Phase, Seen};
-use crate::reader::{Reader, Step, deepest, one_more, only, takes_right};
+use crate::reader::{Reader, Step, deepest, is_operator, one_more, only, takes_right};
 use crate::symbol::{Span, Symbol};
 use crate::tree::{Function, Head, Lets};
 use stab_code::Op;
@@ -58,6 +59,7 @@ impl Reader {
         self.complete(call_head(callee), arguments, call_place(callee), depth)
     }
 
+    #[inline(never)]
     fn close_paren(&mut self, top: Frame, seen: Seen) -> Result<Step, ParseFault>
         ensures ok { IfOk result (λ step. outcome step self.new ≡ close_paren top seen self.old) }
         ensures fault { IfErr result (λ fault. fault ≡ ParseFault.NoMemory) }
@@ -82,6 +84,7 @@ impl Reader {
         Ok(has(whole))
     }
 
+    #[inline(never)]
     fn comma(&mut self, top: Frame, seen: Seen) -> Result<Step, ParseFault>
         ensures ok { IfOk result (λ step. outcome step self.new ≡ comma top seen self.old) }
         ensures fault { IfErr result (λ fault. fault ≡ ParseFault.NoMemory) }
@@ -96,13 +99,20 @@ impl Reader {
         }
     }
 
-    fn item(&mut self, name: Option<Span>, top: Frame, seen: Seen) -> Result<Step, ParseFault>
+    #[inline(never)]
+    fn item(
+        &mut self,
+        alloc: Global,
+        name: Option<Span>,
+        top: Frame,
+        seen: Seen,
+    ) -> Result<Step, ParseFault>
         ensures ok { IfOk result (λ step. outcome step self.new ≡ item name top seen self.old) }
         ensures fault { IfErr result (λ fault. fault ≡ ParseFault.NoMemory) }
     {
         match top {
             Frame::Items(at, mut names, before, depth, place) => {
-                names.push(name)?;
+                names.push(alloc, name)?;
                 let depth = depth.max(seen.depth);
                 let items = one_more(before);
                 self.frames
@@ -113,27 +123,29 @@ impl Reader {
         }
     }
 
-    fn item_in(&mut self, name: Option<Span>, seen: Seen) -> Result<Step, ParseFault>
+    fn item_in(&mut self, alloc: Global, name: Option<Span>, seen: Seen) -> Result<Step, ParseFault>
         ensures ok { IfOk result (λ step. outcome step self.new
             ≡ item_in name (top_of self.old.frames) seen (popped self.old)) }
         ensures fault { IfErr result (λ fault. fault ≡ ParseFault.NoMemory) }
     {
         match self.frames.pop() {
-            Some(top) => self.item(name, top, seen),
+            Some(top) => self.item(alloc, name, top, seen),
             None => Ok(Step::Refused),
         }
     }
 
-    fn semicolon(&mut self, top: Frame, seen: Seen) -> Result<Step, ParseFault>
+    #[inline(never)]
+    fn semicolon(&mut self, alloc: Global, top: Frame, seen: Seen) -> Result<Step, ParseFault>
         ensures ok { IfOk result (λ step. outcome step self.new ≡ semicolon top seen self.old) }
         ensures fault { IfErr result (λ fault. fault ≡ ParseFault.NoMemory) }
     {
         match top {
-            Frame::Let(name) => self.item_in(Some(name), seen),
-            other => self.item(None, other, seen),
+            Frame::Let(name) => self.item_in(alloc, Some(name), seen),
+            other => self.item(alloc, None, other, seen),
         }
     }
 
+    #[inline(never)]
     fn block_in(&mut self, place: BlockPlace, seen: Seen) -> Result<Step, ParseFault>
         ensures ok { IfOk result (λ step. outcome step self.new ≡ block_in place seen self.old) }
         ensures fault { IfErr result (λ fault. fault ≡ ParseFault.NoMemory) }
@@ -158,6 +170,7 @@ impl Reader {
         }
     }
 
+    #[inline(never)]
     fn block_done(
         &mut self,
         at: u32,
@@ -183,6 +196,7 @@ impl Reader {
         self.block_in(place, seen)
     }
 
+    #[inline(never)]
     fn close_brace(&mut self, top: Frame, seen: Seen) -> Result<Step, ParseFault>
         ensures ok { IfOk result (λ step. outcome step self.new ≡ close_brace top seen self.old) }
         ensures fault { IfErr result (λ fault. fault ≡ ParseFault.NoMemory) }
@@ -211,13 +225,8 @@ impl Reader {
         }
     }
 
-    fn open_brace(
-        &mut self,
-        alloc: Global,
-        top: Frame,
-        seen: Seen,
-        at: u32,
-    ) -> Result<Step, ParseFault>
+    #[inline(never)]
+    fn open_brace(&mut self, top: Frame, seen: Seen, at: u32) -> Result<Step, ParseFault>
         ensures ok { IfOk result (λ step. outcome step self.new ≡ open_brace top seen at self.old) }
         ensures fault { IfErr result (λ fault. fault ≡ ParseFault.NoMemory) }
     {
@@ -225,7 +234,7 @@ impl Reader {
             Frame::Condition(first) => {
                 let place = BlockPlace::Then(first, seen.depth);
                 self.frames
-                    .push(Frame::Items(at, Lets::new(alloc), 0, 0, place))?;
+                    .push(Frame::Items(at, Lets::new(), 0, 0, place))?;
                 Ok(Step::Opens(Phase::InItems))
             }
             _ => Ok(Step::Refused),
@@ -246,9 +255,9 @@ impl Reader {
         match symbol {
             Symbol::CloseParen => self.close_paren(top, seen),
             Symbol::Comma => self.comma(top, seen),
-            Symbol::Semicolon => self.semicolon(top, seen),
+            Symbol::Semicolon => self.semicolon(alloc, top, seen),
             Symbol::CloseBrace => self.close_brace(top, seen),
-            Symbol::OpenBrace => self.open_brace(alloc, top, seen, span.start),
+            Symbol::OpenBrace => self.open_brace(top, seen, span.start),
             _ => Ok(Step::Refused),
         }
     }
@@ -277,6 +286,7 @@ impl Reader {
         self.join(Level::Sum, seen)
     }
 
+    #[inline(never)]
     fn whole_and(&mut self, seen: Seen) -> Result<Seen, ParseFault>
         ensures ok { IfOk result (λ whole. settled whole self.new ≡ whole_and seen self.old) }
         ensures fault { IfErr result (λ fault. fault ≡ ParseFault.NoMemory) }
@@ -286,10 +296,15 @@ impl Reader {
         self.join(Level::And, comparison)
     }
 
+    #[inline(never)]
+    #[tactic(auto, using(crate::proofs::Settling::stands_alone))]
     fn whole_expr(&mut self, seen: Seen) -> Result<Seen, ParseFault>
         ensures ok { IfOk result (λ whole. settled whole self.new ≡ whole_expr seen self.old) }
         ensures fault { IfErr result (λ fault. fault ≡ ParseFault.NoMemory) }
     {
+        if !is_operator(self.frames.top()) {
+            return Ok(seen);
+        }
         let and = self.whole_and(seen)?;
         self.join(Level::Or, and)
     }
@@ -301,6 +316,7 @@ impl Reader {
         self.owed_in(Frame::Operator(level, op, left))
     }
 
+    #[inline(never)]
     fn relation(&mut self, op: Op, left: Seen) -> Result<Step, ParseFault>
         ensures ok { IfOk result (λ step. outcome step self.new
             ≡ relation_top (top_of self.old.frames) op left (popped self.old)) }

@@ -159,7 +159,8 @@ impl Stack {
         ensures fault { IfErr result (λ fault. fault ≡ ParseFault.NoMemory) }
     {
         let more = opens(&frame);
-        self.frames.push(frame)?;
+        self.frames.reserve(1)?;
+        self.frames.push_reserved(frame);
         let _at_most = self.frames.len();
         self.open += more;
         Ok(())

@@ -12,14 +12,15 @@ use crate::tree::{Param, Params, ParsedType};
 use stab_code::TyForm;
 use std::alloc::Global;
 
-fn basic(word: BasicType) -> ParsedType
-    ensures { result ≡ basic_of word }
+fn basic(alloc: Global, word: BasicType) -> Result<ParsedType, ParseFault>
+    ensures ok { IfOk result (λ ty. ty ≡ basic_of word) }
+    ensures fault { IfErr result (λ fault. fault ≡ ParseFault.NoMemory) }
 {
     match word {
-        BasicType::Unit => ParsedType::new(TyForm::Unit),
-        BasicType::Bool => ParsedType::new(TyForm::Bool),
-        BasicType::Int => ParsedType::new(TyForm::Int),
-        BasicType::Text => ParsedType::new(TyForm::Text),
+        BasicType::Unit => ParsedType::new(alloc, TyForm::Unit),
+        BasicType::Bool => ParsedType::new(alloc, TyForm::Bool),
+        BasicType::Int => ParsedType::new(alloc, TyForm::Int),
+        BasicType::Text => ParsedType::new(alloc, TyForm::Text),
     }
 }
 
@@ -58,8 +59,14 @@ impl Reader {
         ensures fault { IfErr result (λ fault. fault ≡ ParseFault.NoMemory) }
     {
         match symbol {
-            Symbol::CloseParen => Ok(Step::Goes(Phase::ParamsClosed(function, Params::new(alloc)))),
-            Symbol::Name => Ok(Step::Goes(Phase::ParamNamed(function, Params::new(alloc), span))),
+            Symbol::CloseParen => {
+                let params = Params::new(alloc)?;
+                Ok(Step::Goes(Phase::ParamsClosed(function, params)))
+            }
+            Symbol::Name => {
+                let params = Params::new(alloc)?;
+                Ok(Step::Goes(Phase::ParamNamed(function, params, span)))
+            }
             _ => Ok(Step::Refused),
         }
     }
@@ -122,12 +129,12 @@ impl Reader {
 
     /// A token where a type is owed.
     #[inline(never)]
-    pub(crate) fn owes_type(&mut self, symbol: Symbol) -> Result<Step, ParseFault>
+    pub(crate) fn owes_type(&mut self, alloc: Global, symbol: Symbol) -> Result<Step, ParseFault>
         ensures ok { IfOk result (λ step. outcome step self.new ≡ owes_type symbol self.old) }
         ensures fault { IfErr result (λ fault. fault ≡ ParseFault.NoMemory) }
     {
         match symbol {
-            Symbol::Basic(word) => Ok(Step::Goes(Phase::HasType(basic(word)))),
+            Symbol::Basic(word) => Ok(Step::Goes(Phase::HasType(basic(alloc, word)?))),
             Symbol::WordChan => Ok(Step::Goes(Phase::ChanTypeRead)),
             Symbol::ActOne(ActWord::Ref) => Ok(Step::Goes(Phase::RefTypeRead)),
             Symbol::OpenParen => {
@@ -165,7 +172,6 @@ impl Reader {
 
     fn result_typed(
         &mut self,
-        alloc: Global,
         function: Span,
         params: Params,
         ty: ParsedType,
@@ -179,7 +185,7 @@ impl Reader {
         match symbol {
             Symbol::OpenBrace => {
                 let place = BlockPlace::Body(function, params, ty);
-                self.block(alloc, at, place)
+                self.block(at, place)
             }
             _ => Ok(Step::Refused),
         }
@@ -244,7 +250,7 @@ impl Reader {
                 self.param_typed(function, before, name, ty, symbol)
             }
             Frame::ResultType(function, params) => {
-                self.result_typed(alloc, function, params, ty, symbol, at)
+                self.result_typed(function, params, ty, symbol, at)
             }
             Frame::ChanType => self.bracket_typed(ty.chan(alloc)?, symbol),
             Frame::RefType => self.bracket_typed(ty.reference(alloc)?, symbol),

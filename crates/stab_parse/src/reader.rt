@@ -2,7 +2,7 @@
 ghost use Rattle.std.specs.Prelude.{◌≡◌, IfOk, IfErr};
 ghost use Rattle.stab_parse.specs.Frames.{top_of};
 ghost use Rattle.std.specs.Option.{option_copied};
-ghost use Rattle.stab_parse.specs.Takes.{takes_if, takes_operand, takes_right};
+ghost use Rattle.stab_parse.specs.Takes.{is_operator, takes_if, takes_operand, takes_right};
 ghost use Rattle.stab_parse.specs.Moves.{alone, both, complete, deeper, else_frame, else_top, formed, if_step, join_frame, join_top, joined, more, popped, seen_at, settle, settle_frame, settle_if, settle_step, settle_top, settled};
 
 use crate::fault::ParseFault;
@@ -65,6 +65,13 @@ fn takes_operand(top: Option<&Frame>) -> bool
     )
 }
 
+/// Whether the frame is an operator with what stands left of it.
+pub(crate) fn is_operator(top: Option<&Frame>) -> bool
+    ensures { result ≡ is_operator (option_copied top.entry) }
+{
+    matches!(top, Some(Frame::Operator(_, _, _)))
+}
+
 /// Whether the frame is an operator of this level, below products.
 pub(crate) fn takes_right(level: Level, top: Option<&Frame>) -> bool
     ensures { result ≡ takes_right level (option_copied top.entry) }
@@ -121,6 +128,7 @@ impl Reader {
         )
     }
 
+    #[inline(never)]
     fn settle_frame(&mut self, top: Frame, seen: Seen) -> Result<Option<Seen>, ParseFault>
         ensures ok { IfOk result (λ next. settle_step next self.new ≡ settle_frame top seen self.old) }
         ensures fault { IfErr result (λ fault. fault ≡ ParseFault.NoMemory) }
@@ -177,6 +185,7 @@ impl Reader {
         self.settle(seen)
     }
 
+    #[inline(never)]
     fn join_frame(&mut self, level: Level, top: Frame, seen: Seen) -> Result<Seen, ParseFault>
         ensures ok { IfOk result (λ whole. settled whole self.new ≡ join_frame level top seen self.old) }
         ensures fault { IfErr result (λ fault. fault ≡ ParseFault.NoMemory) }
@@ -241,6 +250,7 @@ impl Reader {
 
     /// An `if` is complete, and with it each one that it stands in behind an `else`: its place, and the depth of
     /// its parts.
+    #[inline(never)]
     pub(crate) fn settle_if(&mut self, at: u32, depth: u8) -> Result<Seen, ParseFault>
         ensures ok { IfOk result (λ seen. settled seen self.new ≡ settle_if at depth self.old) }
         ensures fault { IfErr result (λ fault. fault ≡ ParseFault.NoMemory) }

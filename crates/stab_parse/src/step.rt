@@ -57,15 +57,15 @@ impl Reader {
                 self.param_named(name, before, param, symbol)
             }
             Phase::ParamsClosed(name, params) => self.params_closed(name, params, symbol),
-            Phase::OwesType => self.owes_type(symbol),
+            Phase::OwesType => self.owes_type(alloc, symbol),
             Phase::ChanTypeRead => self.bracket(Frame::ChanType, symbol),
             Phase::RefTypeRead => self.bracket(Frame::RefType, symbol),
             Phase::HasType(ty) => self.has_type(alloc, ty, symbol, span.start),
-            Phase::Owes => self.begins(alloc, symbol, span),
-            Phase::Signed(at) => self.signed(alloc, at, symbol, span),
-            Phase::Opened(at) => self.opened(alloc, at, symbol, span),
+            Phase::Owes => self.begins(symbol, span),
+            Phase::Signed(at) => self.signed(at, symbol, span),
+            Phase::Opened(at) => self.opened(at, symbol, span),
             Phase::Named(name) => self.named(alloc, name, symbol, span),
-            Phase::CallOpen(callee) => self.call_open(alloc, callee, symbol, span),
+            Phase::CallOpen(callee) => self.call_open(callee, symbol, span),
             Phase::WordRead(word, at) => self.word_read(word, at, symbol, span),
             Phase::WordNamed(word, at, name) => {
                 self.paren(Phase::CallOpen(Callee::Started(word, at, name)), symbol)
@@ -77,12 +77,12 @@ impl Reader {
             Phase::ChanRead(at) => self.bracket(Frame::NewChan(at), symbol),
             Phase::ChanTyped(at, ty) => self.paren(Phase::ChanOpen(at, ty), symbol),
             Phase::ChanOpen(at, ty) => self.paren_end(Head::NewChan(ty), at, symbol),
-            Phase::InItems => self.in_items(alloc, symbol, span),
+            Phase::InItems => self.in_items(symbol, span),
             Phase::LetRead => self.let_read(symbol, span),
             Phase::LetNamed(name) => self.let_named(name, symbol),
             Phase::Has(seen) => self.ends(alloc, symbol, span, seen),
             Phase::ThenRead(at, depth) => self.then_read(alloc, at, depth, symbol, span),
-            Phase::ElseRead(at, depth) => self.else_read(alloc, at, depth, symbol, span),
+            Phase::ElseRead(at, depth) => self.else_read(at, depth, symbol, span),
         }
     }
 

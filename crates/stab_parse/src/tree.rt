@@ -9,57 +9,68 @@ use stab_code::{Op, TyForm};
 use std::alloc::Global;
 use std::marker::Model;
 
-/// The names of a block's items in the order of writing, none for an item without `let`. Contracts see them
-/// as a list.
+/// The names of a block's items in the order of writing, none for an item without `let`. A block without items takes no
+/// memory. Contracts see them as a list.
 #[derive(Drop)]
 pub struct Lets {
-    names: Vec<Option<Span>>,
+    names: Option<Box<Vec<Option<Span>>>>,
 }
 
 impl Model for Lets {
     ghost use Rattle.std.specs.Prelude.{List, Option};
     ghost use Rattle.stab_parse.specs.declared.symbol.Span.{Span};
+    ghost use Rattle.std.specs.Prelude.{[]};
+    ghost use Rattle.std.specs.Option.{option_map_or};
 
     ghost Value = { List (Option Span) };
 
-    ghost view = { λ lets. lets.names.items };
+    ghost view = { λ lets. option_map_or (λ names. names.value.items) lets.names [] };
 }
 
 impl Lets {
-    pub(crate) fn new(alloc: Global) -> Lets
+    pub(crate) fn new() -> Lets
         ensures { result ≡ [] }
     {
-        Lets {
-            names: Vec::new(alloc),
-        }
+        Lets { names: None }
     }
 
-    pub(crate) fn push(&mut self, name: Option<Span>) -> Result<(), ParseFault>
+    pub(crate) fn push(&mut self, alloc: Global, name: Option<Span>) -> Result<(), ParseFault>
         ensures ok { OnOk result (self.new ≡ self.old ++ name ∷ []) }
         ensures fault { IfErr result (λ fault. fault ≡ ParseFault.NoMemory) }
     {
-        self.names.push(name)?;
+        let mut names = match self.names.take() {
+            Some(names) => names,
+            None => Box::new(alloc, Vec::new(alloc))?,
+        };
+        names.push(name)?;
+        self.names = Some(names);
         Ok(())
     }
 
     pub(crate) fn is_empty(&self) -> bool
         ensures { IsTrue result ↔ (self.now ≡ []) }
     {
-        self.names.is_empty()
+        match &self.names {
+            Some(names) => names.is_empty(),
+            None => true,
+        }
     }
 
     /// The names in the order of writing.
     pub fn all(&self) -> &[Option<Span>]
         ensures { result.now ≡ self.now }
     {
-        self.names.as_slice()
+        match &self.names {
+            Some(names) => names.as_slice(),
+            None => &[],
+        }
     }
 }
 
 /// A type as it is written. Contracts see it as a `Written`.
 #[derive(Drop)]
 pub struct ParsedType {
-    form: TyForm,
+    form: Box<TyForm>,
 }
 
 impl Model for ParsedType {
@@ -71,14 +82,16 @@ impl Model for ParsedType {
 
     ghost coded = { coded_written };
 
-    ghost view = { λ t. written_by t.form };
+    ghost view = { λ t. written_by t.form.value };
 }
 
 impl ParsedType {
-    pub(crate) fn new(form: TyForm) -> ParsedType
-        ensures { result ≡ written_by form }
+    pub(crate) fn new(alloc: Global, form: TyForm) -> Result<ParsedType, ParseFault>
+        ensures ok { IfOk result (λ ty. ty ≡ written_by form) }
+        ensures fault { IfErr result (λ fault. fault ≡ ParseFault.NoMemory) }
     {
-        ParsedType { form }
+        let form = Box::new(alloc, form)?;
+        Ok(ParsedType { form })
     }
 
     pub(crate) fn chan(self, alloc: Global) -> Result<ParsedType, ParseFault>
@@ -86,7 +99,7 @@ impl ParsedType {
         ensures fault { IfErr result (λ fault. fault ≡ ParseFault.NoMemory) }
     {
         let ParsedType { form } = self;
-        Ok(ParsedType::new(TyForm::Chan(Box::new(alloc, form)?)))
+        ParsedType::new(alloc, TyForm::Chan(form))
     }
 
     pub(crate) fn reference(self, alloc: Global) -> Result<ParsedType, ParseFault>
@@ -94,7 +107,7 @@ impl ParsedType {
         ensures fault { IfErr result (λ fault. fault ≡ ParseFault.NoMemory) }
     {
         let ParsedType { form } = self;
-        Ok(ParsedType::new(TyForm::Ref(Box::new(alloc, form)?)))
+        ParsedType::new(alloc, TyForm::Ref(form))
     }
 
     pub(crate) fn pair(self, alloc: Global, second: ParsedType) -> Result<ParsedType, ParseFault>
@@ -103,9 +116,7 @@ impl ParsedType {
     {
         let ParsedType { form: left } = self;
         let ParsedType { form: right } = second;
-        let left = Box::new(alloc, left)?;
-        let right = Box::new(alloc, right)?;
-        Ok(ParsedType::new(TyForm::Pair(left, right)))
+        ParsedType::new(alloc, TyForm::Pair(left, right))
     }
 
     /// What the type is made of, to match on.
@@ -164,7 +175,7 @@ pub struct Param {
 /// The parameters of a function in the order of writing. Contracts see them as a list.
 #[derive(Drop)]
 pub struct Params {
-    params: Vec<Param>,
+    params: Box<Vec<Param>>,
 }
 
 impl Model for Params {
@@ -177,16 +188,16 @@ impl Model for Params {
 
     ghost coded = { Prim.hlevel (codes, coded_written) };
 
-    ghost view = { λ params. params.params.items };
+    ghost view = { λ params. params.params.value.items };
 }
 
 impl Params {
-    pub(crate) fn new(alloc: Global) -> Params
-        ensures { result ≡ [] }
+    pub(crate) fn new(alloc: Global) -> Result<Params, ParseFault>
+        ensures ok { IfOk result (λ params. params ≡ []) }
+        ensures fault { IfErr result (λ fault. fault ≡ ParseFault.NoMemory) }
     {
-        Params {
-            params: Vec::new(alloc),
-        }
+        let params = Box::new(alloc, Vec::new(alloc))?;
+        Ok(Params { params })
     }
 
     pub(crate) fn push(&mut self, param: Param) -> Result<(), ParseFault>
@@ -248,7 +259,8 @@ impl Forms {
         ensures ok { OnOk result (self.new ≡ form ∷ self.old) }
         ensures fault { IfErr result (λ fault. fault ≡ ParseFault.NoMemory) }
     {
-        self.forms.push(form)?;
+        self.forms.reserve(1)?;
+        self.forms.push_reserved(form);
         Ok(())
     }
 
