@@ -35,13 +35,14 @@ impl Model for PartLists {
 }
 
 impl PartLists {
-    fn new(alloc: Global) -> PartLists
-        ensures { result ≡ [] }
+    /// No lists yet, with room for so many, and for as many parts in all.
+    fn with_capacity(alloc: Global, lists: usize) -> Result<PartLists, ScopeFault>
+        ensures lists { IfOk result (λ lists. lists ≡ []) }
+        ensures fault { IfErr result (λ fault. fault ≡ ScopeFault.NoMemory) }
     {
-        PartLists {
-            among: Vec::new(alloc),
-            parts: Vec::new(alloc),
-        }
+        let among = Vec::with_capacity(alloc, lists)?;
+        let parts = Vec::with_capacity(alloc, lists)?;
+        Ok(PartLists { among, parts })
     }
 
     fn push(&mut self, parts: &[NodeId]) -> Result<(), ScopeFault>
@@ -71,7 +72,7 @@ pub(crate) fn part_lists(alloc: Global, forms: &[FormNode]) -> Result<PartLists,
     ensures lists { IfOk result (λ lists. lists ≡ parts_of_each 0 [] forms.now) }
     ensures fault { IfErr result (λ fault. fault ≡ ScopeFault.NoMemory) }
 {
-    let mut lists = PartLists::new(alloc);
+    let mut lists = PartLists::with_capacity(alloc, forms.len())?;
     let mut whole: Vec<NodeId> = Vec::new(alloc);
     for (i, form) in forms.iter().enumerate() {
         let first = whole.len().saturating_sub(form.parts);
