@@ -22,16 +22,19 @@ const MAX_LETS: usize = 200;
 const MAX_TEXTS: usize = 1000;
 
 impl Progress {
-    pub(crate) fn new(alloc: Global) -> Progress
-        ensures nodes { result.nodes ≡ [] }
-        ensures texts { texts_of result ≡ [] }
+    /// Nothing yet, with room for so many nodes.
+    pub(crate) fn with_room(alloc: Global, nodes: usize) -> Result<Progress, ScopeFault>
+        ensures nodes { IfOk result (λ progress. progress.nodes ≡ []) }
+        ensures texts { IfOk result (λ progress. texts_of progress ≡ []) }
+        ensures fault { IfErr result (λ fault. fault ≡ ScopeFault.NoMemory) }
     {
-        Progress {
-            nodes: Nodes::new(alloc),
+        let nodes = Nodes::with_capacity(alloc, nodes, nodes)?;
+        Ok(Progress {
+            nodes,
             texts: IndexSet::new(alloc),
             seen: Vec::new(alloc),
             lets: 0,
-        }
+        })
     }
 
     /// Begins a function with these parameters.

@@ -38,7 +38,7 @@ pub fn scope(alloc: Global, tree: &Tree, bytes: &[u8]) -> Result<Program, ScopeF
         parts,
     };
     let main = plan.main()?;
-    let mut progress = Progress::new(alloc);
+    let mut progress = Progress::with_room(alloc, forms.len())?;
     let made = plan.functions(&mut progress)?;
     let texts = texts_of(alloc, progress.texts)?;
     Ok(Program::new(made, progress.nodes, texts, main))

@@ -1,5 +1,5 @@
 //! The nodes of a program while it is made, and how they are kept.
-ghost use Rattle.std.specs.Prelude.{◌≡◌, ◌↔◌, ◌++◌, ◌∷◌, ◌+◌, ◌<◌, ◌≤◌, ◌^◌, [], Some, IsTrue, MatchResult, length, slice_get};
+ghost use Rattle.std.specs.Prelude.{◌≡◌, ◌↔◌, ◌++◌, ◌∷◌, ◌+◌, ◌<◌, ◌≤◌, ◌^◌, [], Some, IfOk, IsTrue, MatchResult, length, slice_get};
 ghost use Rattle.stab_code.specs.Nodes.{node_of};
 
 use crate::head::Head;
@@ -51,6 +51,15 @@ impl Nodes {
             stored: Vec::new(alloc),
             parts: Vec::new(alloc),
         }
+    }
+
+    /// No nodes yet, with room for so many, and for as many parts of all nodes.
+    pub fn with_capacity(alloc: Global, nodes: usize, parts: usize) -> Result<Nodes, NoMemory>
+        ensures { IfOk result (λ made. made ≡ []) }
+    {
+        let stored = Vec::with_capacity(alloc, nodes)?;
+        let parts = Vec::with_capacity(alloc, parts)?;
+        Ok(Nodes { stored, parts })
     }
 
     /// How many nodes there are, which is the number of the next.
