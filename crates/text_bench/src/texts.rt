@@ -9,19 +9,28 @@ pub enum Kind {
     Functions,
     /// One function, which prints long sums.
     Sums,
+    /// One function of long sums, with nearly as many tokens as bytes.
+    Packed,
     /// One function, with pairs and blocks in each other.
     Nested,
     /// Functions with many variables.
     Names,
 }
 
-pub const KINDS: [Kind; 4] = [Kind::Functions, Kind::Sums, Kind::Nested, Kind::Names];
+pub const KINDS: [Kind; 5] = [
+    Kind::Functions,
+    Kind::Sums,
+    Kind::Packed,
+    Kind::Nested,
+    Kind::Names,
+];
 
 impl Kind {
     pub fn name(self) -> &'static str {
         match self {
             Kind::Functions => "functions",
             Kind::Sums => "sums",
+            Kind::Packed => "packed",
             Kind::Nested => "nested",
             Kind::Names => "names",
         }
@@ -43,14 +52,14 @@ impl Kind {
     fn start(self) -> &'static str {
         match self {
             Kind::Functions | Kind::Names => "",
-            Kind::Sums | Kind::Nested => "fn main(): unit {\n",
+            Kind::Sums | Kind::Packed | Kind::Nested => "fn main(): unit {\n",
         }
     }
 
     fn end(self) -> &'static str {
         match self {
             Kind::Functions | Kind::Names => "fn main(): unit {}\n",
-            Kind::Sums | Kind::Nested => "}\n",
+            Kind::Sums | Kind::Packed | Kind::Nested => "}\n",
         }
     }
 
@@ -58,6 +67,7 @@ impl Kind {
         match self {
             Kind::Functions => function(text, i),
             Kind::Sums => sum(text, i),
+            Kind::Packed => packed(text),
             Kind::Nested => nest(text, i),
             Kind::Names => names(text, i),
         }
@@ -86,6 +96,17 @@ fn sum(text: &mut String, i: u32) -> Result<(), AllocError> {
         write!(text, " + 22 * 333 - {i} % 5")?;
     }
     text.push_str(");\n")
+}
+
+fn packed(text: &mut String) -> Result<(), AllocError> {
+    for _ in 0..4 {
+        text.push('1')?;
+        for _ in 0..125 {
+            text.push_str("+1")?;
+        }
+        text.push_str(";\n")?;
+    }
+    Ok(())
 }
 
 fn nest(text: &mut String, i: u32) -> Result<(), AllocError> {
