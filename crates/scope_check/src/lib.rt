@@ -14,8 +14,6 @@ mod plan;
 mod progress;
 mod scoping;
 mod seen;
-#[cfg(test)]
-mod tests;
 mod types;
 
 pub use fault::ScopeFault;

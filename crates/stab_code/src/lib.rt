@@ -12,8 +12,6 @@ mod nodes;
 mod program;
 mod same;
 mod samples;
-#[cfg(test)]
-mod tests;
 mod ty;
 
 pub use examples::{counts, depths, order_of_writing, where_lets_are_seen};

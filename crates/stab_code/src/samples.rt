@@ -1,4 +1,4 @@
-//! Small programs for tests.
+//! Small programs made by hand, which show that the condition of `Program::new` can be met.
 ghost use Rattle.std.specs.Prelude.{◌≡◌, IfOk};
 ghost use Rattle.stab_code.specs.declared.head.Head.TheVariants.{Block};
 

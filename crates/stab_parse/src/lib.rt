@@ -11,8 +11,6 @@ mod parser;
 mod reader;
 mod step;
 mod symbol;
-#[cfg(test)]
-mod tests;
 mod tree;
 
 pub use fault::ParseFault;

@@ -1,7 +1,9 @@
 //! How the tests read texts, and how they write forms.
 
-use crate::{FormNode, Head, Lets, ParseFault, Span, Tree, parse};
+use crate::read_program;
+use stab_code::Program;
 use stab_lex::lex;
+use stab_parse::{FormNode, Head, Lets, ParseFault, Span, Tree, parse};
 use std::alloc::{AllocError, Global};
 use std::process::Abort;
 use std::test::Fail;
@@ -18,6 +20,27 @@ pub(super) fn parsed(rt: &impl Abort, alloc: Global, text: &[u8]) -> Result<Tree
 /// The fault of a text, none where it is a program.
 pub(super) fn fault_of(rt: &impl Abort, alloc: Global, text: &[u8]) -> Option<ParseFault> {
     parsed(rt, alloc, text).err()
+}
+
+/// The program of a text.
+pub(super) fn program_of(rt: &impl Abort, alloc: Global, text: &str) -> Result<Program, Fail> {
+    assert!(rt; text.len() <= 1_048_576);
+    Ok(read_program(alloc, text.as_bytes())?)
+}
+
+/// The fault of a text, as a reason writes it, or `program`.
+pub(super) fn answer(rt: &impl Abort, alloc: Global, text: &str) -> Result<String, AllocError> {
+    assert!(rt; text.len() <= 1_048_576);
+    let Err(fault) = read_program(alloc, text.as_bytes()) else {
+        return String::from_str(alloc, "program");
+    };
+    let mut line = String::from_str(alloc, fault.name())?;
+    for number in [fault.place(), fault.length()] {
+        if let Some(number) = number {
+            line.push_str(format!(in alloc; " {number}")?.as_str())?;
+        }
+    }
+    Ok(line)
 }
 
 /// The forms of a tree in order, each as what it is, how many parts it has where its kind doesn't tell, and its first byte

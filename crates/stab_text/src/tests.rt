@@ -1,4 +1,7 @@
 mod hostile;
+mod limits;
 mod missing;
+mod nodes;
 mod productions;
+mod programs;
 mod read;

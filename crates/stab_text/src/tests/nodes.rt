@@ -1,33 +1,11 @@
-//! Programs whose nodes are written out, and each fault at its place.
-ghost use Rattle.std.specs.Prelude.{◌≤◌, length};
+//! Programs whose nodes are written out.
 
-use super::*;
+use super::read::program_of;
 use stab_base::{FnId, TextId};
 use stab_code::{NodeId, Program};
-use stab_lex::lex;
-use stab_parse::parse;
-use std::alloc::{AllocError, Global};
+use std::alloc::Global;
 use std::process::Abort;
 use std::test::Fail;
-
-fn scoped(rt: &impl Abort, alloc: Global, text: &str) -> Result<Program, ScopeFault> {
-    let bytes = text.as_bytes();
-    assert!(rt; bytes.len() <= 1_048_576);
-    let Ok(tokens) = lex(alloc, bytes) else {
-        panic!(rt; "the text has tokens");
-    };
-    let Ok(tree) = parse(alloc, &tokens, bytes) else {
-        panic!(rt; "the tokens are a syntax");
-    };
-    scope(alloc, &tree, bytes)
-}
-
-fn program_of(rt: &impl Abort, alloc: Global, text: &str) -> Program {
-    match scoped(rt, alloc, text) {
-        Ok(program) => program,
-        Err(_) => panic!(rt; "the text is a program"),
-    }
-}
 
 // The nodes of a program, each as its head and its parts.
 fn expect_nodes(
@@ -48,7 +26,7 @@ fn expect_nodes(
 }
 
 // A function's slots and its body.
-fn expect_function(
+pub(super) fn expect_function(
     rt: &impl Abort,
     program: &Program,
     f: u32,
@@ -68,7 +46,7 @@ fn expect_function(
 fn two_functions_and_a_missing_else(rt: HostRuntime) -> Result<(), Fail> {
     let text =
         "fn main(): unit { if plus(1, 2) == 3 { cut() } }\nfn plus(a: int, b: int): int { a + b }";
-    let program = program_of(&rt, rt.alloc(), text);
+    let program = program_of(&rt, rt.alloc(), text)?;
     assert_eq!(rt; program.main(), FnId(0));
     assert_eq!(rt; program.functions(), 2);
     assert_eq!(rt; program.arity(FnId(1)), Some(2));
@@ -99,7 +77,7 @@ fn two_functions_and_a_missing_else(rt: HostRuntime) -> Result<(), Fail> {
 fn nested_blocks_and_hidden_lets(rt: HostRuntime) -> Result<(), Fail> {
     let text =
         "fn f(x: int): int { let x = { let y = x; y; x }; let x = x; x } fn main(): int { f(1) }";
-    let program = program_of(&rt, rt.alloc(), text);
+    let program = program_of(&rt, rt.alloc(), text)?;
     expect_nodes(
         &rt,
         rt.alloc(),
@@ -125,7 +103,7 @@ fn nested_blocks_and_hidden_lets(rt: HostRuntime) -> Result<(), Fail> {
 #[test]
 fn texts_that_repeat(rt: HostRuntime) -> Result<(), Fail> {
     let text = "fn main(): unit { print(\"b\"); print(\"a\\\"\"); print(\"b\"); print(\"\") }";
-    let program = program_of(&rt, rt.alloc(), text);
+    let program = program_of(&rt, rt.alloc(), text)?;
     expect_nodes(
         &rt,
         rt.alloc(),
@@ -155,7 +133,7 @@ fn calls_and_values(rt: HostRuntime) -> Result<(), Fail> {
     let text =
         "fn main(): unit { spawn g(ref(1), get(chan[(int, ref[text])]())); stable g(true, ()); pin(); !(-main()) }
         fn g(a: int, b: int): int { (a, -3) }";
-    let program = program_of(&rt, rt.alloc(), text);
+    let program = program_of(&rt, rt.alloc(), text)?;
     expect_nodes(
         &rt,
         rt.alloc(),
@@ -185,7 +163,7 @@ fn calls_and_values(rt: HostRuntime) -> Result<(), Fail> {
 fn acts(rt: HostRuntime) -> Result<(), Fail> {
     let text =
         "fn main(): unit { set(fst(1), snd(2)); send(recv(1), pick(1, 2)); stabilize(); probe(); attempt() }";
-    let program = program_of(&rt, rt.alloc(), text);
+    let program = program_of(&rt, rt.alloc(), text)?;
     expect_nodes(
         &rt,
         rt.alloc(),
@@ -208,104 +186,4 @@ fn acts(rt: HostRuntime) -> Result<(), Fail> {
             "Block(Slots { slots: [None, None, None, None] }) [NodeId(4), NodeId(10), NodeId(11), NodeId(12), NodeId(13)]",
         ],
     )
-}
-
-#[test]
-fn faults(rt: HostRuntime) -> Result<(), Fail> {
-    for (text, fault) in [
-        ("", ScopeFault::NoMain),
-        ("fn f(): unit { x }", ScopeFault::NoMain),
-        ("fn main(x: int): unit { y }", ScopeFault::MainTakes),
-        (
-            "fn main(): unit { x } fn main(): unit {}",
-            ScopeFault::Twice(25, 4),
-        ),
-        (
-            "fn f(ab: int, ab: int): unit {} fn f(): unit {}",
-            ScopeFault::Twice(14, 2),
-        ),
-        (
-            "fn f(a: int, b: int, c: int, d: int, e: int, f: int, g: int, h: int, a: int): unit {}",
-            ScopeFault::TooMany(69),
-        ),
-        ("fn main(): unit { x }", ScopeFault::Unknown(18, 1)),
-        (
-            "fn main(): unit { let xy = xy; }",
-            ScopeFault::Unknown(27, 2),
-        ),
-        (
-            "fn main(): unit { { let x = 1; }; x }",
-            ScopeFault::Unknown(34, 1),
-        ),
-        ("fn main(): unit { main(x) }", ScopeFault::Arity(18)),
-        ("fn main(): unit { spawn main(1) }", ScopeFault::Arity(24)),
-        ("fn main(): unit { none(x) }", ScopeFault::Unknown(18, 4)),
-        (
-            "fn main(): unit { stable main(1); x }",
-            ScopeFault::Arity(25),
-        ),
-    ] {
-        let Err(found) = scoped(&rt, rt.alloc(), text) else {
-            panic!(rt; "the text is no program");
-        };
-        assert_eq!(rt; found, fault, "{text}");
-    }
-    Ok(())
-}
-
-// A body of so many items that are the same.
-fn repeated(alloc: Global, item: &str, times: u32) -> Result<String, AllocError> {
-    let mut text = String::new(alloc);
-    text.push_str("fn main(): unit { ")?;
-    for _ in 0..times {
-        text.push_str(item)?;
-    }
-    text.push_str("}")?;
-    Ok(text)
-}
-
-// A body with the texts from 1000 up to a number.
-fn distinct_texts(alloc: Global, end: u32) -> Result<String, AllocError> {
-    let mut text = String::new(alloc);
-    text.push_str("fn main(): unit { ")?;
-    for i in 1000..end {
-        text.push_str(format!(in alloc; "\"{i}\"; ")?.as_str())?;
-    }
-    text.push_str("}")?;
-    Ok(text)
-}
-
-// Functions with numbers in their names, from 1000 up to one.
-fn distinct_functions(alloc: Global, end: u32) -> Result<String, AllocError> {
-    let mut text = String::new(alloc);
-    for i in 1000..end {
-        text.push_str(format!(in alloc; "fn f{i}(): unit {{}} ")?.as_str())?;
-    }
-    Ok(text)
-}
-
-#[test]
-fn as_many_as_there_may_be(rt: HostRuntime) -> Result<(), Fail> {
-    let alloc = rt.alloc();
-    let lets = program_of(&rt, alloc, repeated(alloc, "let a = 1; ", 200)?.as_str());
-    expect_function(&rt, &lets, 0, 200, 201)?;
-    let one_more = scoped(&rt, alloc, repeated(alloc, "let a = 1; ", 201)?.as_str());
-    assert!(rt; matches!(one_more, Err(ScopeFault::TooMany(2222))));
-    let texts = program_of(&rt, alloc, distinct_texts(alloc, 2000)?.as_str());
-    assert_eq!(rt; texts.texts().len(), 1000);
-    let one_more = scoped(&rt, alloc, distinct_texts(alloc, 2001)?.as_str());
-    assert!(rt; matches!(one_more, Err(ScopeFault::TooMany(8018))));
-    let functions = scoped(&rt, alloc, distinct_functions(alloc, 2000)?.as_str());
-    assert!(rt; matches!(functions, Err(ScopeFault::NoMain)));
-    let one_more = scoped(&rt, alloc, distinct_functions(alloc, 2001)?.as_str());
-    assert!(rt; matches!(one_more, Err(ScopeFault::TooMany(20003))));
-    Ok(())
-}
-
-#[test]
-fn a_long_block(rt: HostRuntime) -> Result<(), Fail> {
-    let alloc = rt.alloc();
-    let program = program_of(&rt, alloc, repeated(alloc, "1; ", 100_000)?.as_str());
-    assert_eq!(rt; program.body(FnId(0)), Some(NodeId(100_001)));
-    Ok(())
 }

@@ -1,8 +1,8 @@
 //! Texts that nest as far as their length lets them, and long ones.
 
 use super::read::{fault_of, parsed};
-use crate::{ParseFault, parse};
 use stab_lex::{Kind, Token, lex};
+use stab_parse::{ParseFault, parse};
 use std::alloc::{AllocError, Global};
 use std::test::Fail;
 

@@ -1,7 +1,7 @@
 //! Each way of writing each rule of the grammar, with each of its tokens missing.
 
 use super::read::fault_of;
-use crate::ParseFault;
+use stab_parse::ParseFault;
 use std::alloc::Global;
 use std::process::Abort;
 use std::test::Fail;

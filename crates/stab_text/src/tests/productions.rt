@@ -1,7 +1,7 @@
 //! Each way of writing each rule of the grammar, with the forms that it is. A name that isn't a function's, and a number, have one reading.
 
 use super::read::{forms_text, parsed, spelled};
-use crate::Function;
+use stab_parse::Function;
 use std::alloc::{AllocError, Global};
 use std::process::Abort;
 use std::test::Fail;
