@@ -1,0 +1,14 @@
+pub mod Run
+pub mod Threads
+pub mod Channels
+pub mod References
+pub mod Generations
+pub mod Doing
+pub mod Offers
+pub mod Numbers
+pub mod Saved
+pub mod Graph
+pub mod Book
+pub mod Leases
+pub mod Coded
+pub mod Step
