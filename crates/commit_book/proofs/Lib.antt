@@ -1,0 +1,14 @@
+pub mod ThreadSteps
+pub mod Floors
+pub mod WriteSteps
+pub mod SavedSteps
+pub mod NodeSteps
+pub mod NumberSteps
+pub mod Unnamed
+pub mod EventSteps
+pub mod Requeued
+pub mod JournalSteps
+pub mod Named
+pub mod Waiting
+pub mod Meeting
+pub mod Resting
