@@ -12,3 +12,7 @@ pub mod Named
 pub mod Waiting
 pub mod Meeting
 pub mod Resting
+pub mod Starting
+pub mod Lending
+pub mod Choosing
+pub mod Telling

@@ -12,3 +12,8 @@ pub mod Book
 pub mod Leases
 pub mod Coded
 pub mod Step
+pub mod Counts
+pub mod Layout
+pub mod Started
+pub mod Restated
+pub mod Turns

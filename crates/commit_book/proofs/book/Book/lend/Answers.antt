@@ -1,0 +1,10 @@
+use Rattle.std.proofs.Common.{ap, ◌∙◌}
+use Rattle.commit_book.specs.Turns.{choice_of}
+use Rattle.commit_book.proofs.Lending.{kept_lent}
+use Rattle.commit_book.proofs.book.Book.lend.Goals as goal
+
+pub invariant_of-self-2 : goal.invariant_of-self-2
+invariant_of-self-2 c = kept_lent c.self.inside.job c.self.inside.parts c.lend.new.self c.args.t c.self.invariant (ap choice_of c.self.view_is ∙ c.requires.chosen) c.in_ok-lease.ensures.ok
+
+pub returns-clause-shown : goal.returns-clause-shown
+returns-clause-shown c = (kept_lent c.self.inside.job c.self.inside.parts c.lend.new.self c.args.t c.self.invariant (ap choice_of c.self.view_is ∙ c.requires.chosen) c.in_ok-lease.ensures.ok).shown

@@ -1,0 +1,16 @@
+use Rattle.std.proofs.Common.{subst, ◌∙◌}
+use Rattle.stab_code.specs.Program.{ProgramParts}
+use Rattle.commit_book.specs.Started.{IsStarted}
+use Rattle.commit_book.proofs.Starting.{start_kept, start_shown}
+use Rattle.commit_book.proofs.book.Book.new.Goals as goal
+
+pub invariant_of-result : goal.invariant_of-result
+invariant_of-result c = start_kept c.args.job c.in_ok-parts.parts (subst (λ (p : ProgramParts). IsStarted p c.in_ok-parts.parts) (c.deref.ensures ∙ c.program.ensures.value) c.in_ok-parts.ensures)
+
+pub returns-clause-shown : goal.returns-clause-shown
+returns-clause-shown c = (start_kept c.args.job c.in_ok-parts.parts (subst (λ (p : ProgramParts). IsStarted p c.in_ok-parts.parts) (c.deref.ensures ∙ c.program.ensures.value) c.in_ok-parts.ensures)).shown
+
+pub returns-clause-start : goal.returns-clause-start
+returns-clause-start c =
+    let started = subst (λ (p : ProgramParts). IsStarted p c.in_ok-parts.parts) (c.deref.ensures ∙ c.program.ensures.value) c.in_ok-parts.ensures in
+    record { events = started.events; shows = start_shown c.args.job c.in_ok-parts.parts started }

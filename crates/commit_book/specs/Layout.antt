@@ -1,0 +1,52 @@
+-- What callers see of a book, from what it keeps.
+use Rattle.std.specs.Prelude.{◌≡◌, ℕ, Bool, true, false, count_by, length, option_map}
+use Rattle.std.specs.Option.{option_map_or}
+use Rattle.std.specs.Ordering.{nat_cmp}
+use Rattle.std.specs.FinMap as map
+use Rattle.std.specs.FinMap.{FinMap}
+use Rattle.stab_code.specs.JobParts.{JobParts}
+use Rattle.stab_code.specs.Program.{ProgramParts}
+use Rattle.stab_code.specs.Valid.{IsValid}
+use Rattle.stab_journal.specs.Due.{final_prints, released}
+use Rattle.stab_journal.specs.Journal.{Journal, survivors}
+use Rattle.stab_journal.specs.Script.{probed}
+use Rattle.thread_slots.specs.Slot.{Slot}
+use Rattle.thread_slots.specs.Ready.{numbers}
+use Rattle.step_eval.specs.ControlView.{ControlView}
+use Rattle.commit_book.specs.declared.parts.Parts.{Parts}
+use Rattle.commit_book.specs.Book.{BookView, IsShown}
+use Rattle.commit_book.specs.Counts.{is_undo, faulted_in}
+
+-- a journal without the room that it has
+abbrev pub without_room : Journal → Journal
+without_room j = record j { spare = 0 }
+
+abbrev pub view_of : JobParts → Parts → BookView
+view_of job p = record {
+  job = job;
+  history = without_room p.history;
+  threads = p.slots.threads;
+  queue = p.slots.queue;
+  offers = p.offers;
+  last_cut = p.log.last_cut;
+  references = p.log.references;
+  saved = p.store.controls;
+  nodes = p.graph.nodes;
+  printed = p.printed.items;
+  next = record { thread = p.slots.next; chan = p.next_chan; ref = p.next_ref };
+  answered = record { commits = p.tallies.commits; stale = p.tallies.stale };
+}
+
+-- the counts that are kept are those that a walk over events or threads would find
+pub record AreTallied (p : ProgramParts) (parts : Parts) : Type 0 where
+  pub probes : parts.tallies.probes ≡ length (probed parts.history.events)
+  pub finals : parts.tallies.finals ≡ final_prints (survivors parts.history)
+  pub released : parts.tallies.released ≡ released parts.history.events
+  pub undos : parts.tallies.undos ≡ count_by is_undo parts.history.events
+  pub faulted : parts.tallies.faulted ≡ faulted_in p parts.slots.threads parts.slots.next
+
+-- what holds of what is kept
+pub record IsKept (job : JobParts) (parts : Parts) : Type 0 where
+  pub valid : IsValid job.program
+  pub shown : IsShown (view_of job parts)
+  pub tallied : AreTallied job.program parts

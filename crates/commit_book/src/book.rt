@@ -1,0 +1,202 @@
+//! The book itself.
+ghost use Rattle.std.specs.Prelude.{◌≡◌, ◌+◌, IfOk, OnErr};
+ghost use Rattle.stab_journal.specs.Due.{due};
+ghost use Rattle.stab_journal.specs.Event.{IsWorker};
+ghost use Rattle.commit_book.specs.Book.{IsShown, IsAtStart, fault_at};
+ghost use Rattle.commit_book.specs.Counts.{AreCounts};
+ghost use Rattle.commit_book.specs.Layout.{without_room};
+ghost use Rattle.commit_book.specs.Turns.{choice_of, IsTurn, IsWork, RestsIfQuiet, given_back, IsRecalled};
+ghost use Rattle.commit_book.specs.declared.turn.Choice.TheVariants as choice;
+
+use crate::counts::Counts;
+use crate::lease::Lease;
+use crate::parts::Parts;
+use crate::turn::{Choice, Turn};
+use stab_base::{Fault, NoMemory, ThreadId, Value};
+use stab_code::Job;
+use stab_journal::History;
+use std::alloc::Global;
+use std::marker::Model;
+use step_eval::Rest;
+use thread_slots::State;
+
+/// A job with its history, and the state to which the history leads: what is kept follows from these two.
+#[derive(Drop)]
+pub struct Book {
+    job: Job,
+    parts: Parts,
+}
+
+impl Model for Book {
+    ghost use Rattle.stab_code.specs.contracts.job.Job as jobs;
+    ghost use Rattle.stab_journal.specs.contracts.history.History as histories;
+    ghost use Rattle.step_eval.specs.contracts.control.Control as controls;
+    ghost use Rattle.thread_slots.specs.contracts.state.State as states;
+    ghost use Rattle.comm_graph.specs.contracts.node.NodeFor as kinds;
+    ghost use Rattle.commit_book.specs.Book.{BookView};
+    ghost use Rattle.commit_book.specs.Coded.{book_code};
+
+    ghost Value = { BookView };
+
+    ghost coded = { book_code jobs.the_row.coded histories.the_row.coded controls.the_row.coded states.the_row.coded kinds.the_row.coded };
+
+    ghost use Rattle.commit_book.specs.Layout.{view_of, IsKept};
+
+    ghost view = { λ b. view_of b.job b.parts };
+
+    ghost invariant = { λ b. IsKept b.job b.parts };
+}
+
+impl Book {
+    /// A book without events: thread 1 stands at the body of `main`.
+    pub fn new(alloc: Global, job: Job) -> Result<Book, NoMemory>
+        ensures shown { IfOk result IsShown }
+        ensures job { IfOk result (λ b. b.job ≡ job) }
+        ensures start { IfOk result IsAtStart }
+    {
+        let parts = Parts::start(alloc, job.program())?;
+        Ok(Book { job, parts })
+    }
+
+    /// What is run.
+    pub fn job(&self) -> &Job
+        ensures job { result.now ≡ self.now.job }
+        ensures shown { IsShown self.now }
+    {
+        &self.job
+    }
+
+    /// All that happened, in order.
+    pub fn history(&self) -> &History
+        ensures history { without_room result.now ≡ self.now.history }
+        ensures shown { IsShown self.now }
+    {
+        &self.parts.history
+    }
+
+    /// The printed values, in the order of their steps.
+    pub fn printed(&self) -> &[Value]
+        ensures printed { result.now ≡ self.now.printed }
+        ensures shown { IsShown self.now }
+    {
+        &self.parts.printed
+    }
+
+    /// The greatest number that a thread ever had.
+    pub fn last_thread(&self) -> ThreadId
+        ensures last { result.0 + 1 ≡ self.now.next.thread }
+        ensures shown { IsShown self.now }
+    {
+        ThreadId(self.parts.slots.next_thread().0 - 1)
+    }
+
+    /// The fault with which a thread has ended, if it did.
+    pub fn fault_of(&self, t: ThreadId) -> Option<Fault>
+        ensures fault { result ≡ fault_at self.now t.0 }
+        ensures shown { IsShown self.now }
+    {
+        match self.parts.slots.control(t)?.rest() {
+            Rest::Failed(fault) => Some(fault),
+            Rest::Going => None,
+            Rest::Done => None,
+        }
+    }
+
+    /// How many printed values are final and weren't released yet.
+    pub fn due(&self) -> u64
+        ensures due { result ≡ due self.now.history.events }
+        ensures shown { IsShown self.now }
+    {
+        self.parts
+            .tallies
+            .finals
+            .saturating_sub(self.parts.tallies.released)
+    }
+
+    /// How many threads do what, and how many commits were answered how.
+    pub fn counts(&self) -> Counts
+        ensures counts { AreCounts self.now result }
+        ensures shown { IsShown self.now }
+    {
+        let states = self.parts.slots.counts();
+        let tallies = self.parts.tallies;
+        Counts {
+            ended: states.ended - tallies.faulted,
+            faulted: tallies.faulted,
+            parked: states.parked,
+            ready: states.ready,
+            leased: states.leased,
+            commits: tallies.commits,
+            stale: tallies.stale,
+            undos: tallies.undos,
+        }
+    }
+
+    /// What a worker gets to do next.
+    pub fn lease(&mut self, worker: u32) -> Result<Turn, NoMemory>
+        requires { IsWorker worker }
+        ensures turn { IfOk result (IsTurn self.old self.new worker) }
+        ensures rests { IfOk result (RestsIfQuiet self.old) }
+        ensures err { OnErr result (self.new ≡ self.old) }
+        ensures shown { IsShown self.new }
+    {
+        match self.choice() {
+            Choice::Work(t) => self.lend(t, worker),
+            Choice::Idle => Ok(Turn::Idle),
+            Choice::Quiet => Ok(Turn::Quiet),
+            Choice::Spent => Ok(Turn::Spent),
+            Choice::Release => Ok(Turn::Release),
+        }
+    }
+
+    fn choice(&self) -> Choice
+        ensures choice { result ≡ choice_of self.now }
+        ensures shown { IsShown self.now }
+    {
+        if self.due() > 0 {
+            return Choice::Release;
+        }
+        let front = self.parts.slots.front();
+        if front.is_none() && self.parts.slots.counts().leased == 0 {
+            return Choice::Quiet;
+        }
+        if self.parts.history.weight() >= self.job.fuel() {
+            return Choice::Spent;
+        }
+        match front {
+            Some(t) => Choice::Work(t),
+            None => Choice::Idle,
+        }
+    }
+
+    fn lend(&mut self, t: ThreadId, worker: u32) -> Result<Turn, NoMemory>
+        requires worker { IsWorker worker }
+        requires chosen { choice_of self.old ≡ choice.Work t }
+        ensures turn { IfOk result (IsTurn self.old self.new worker) }
+        ensures work { IfOk result IsWork }
+        ensures err { OnErr result (self.new ≡ self.old) }
+        ensures shown { IsShown self.new }
+    {
+        let (lease, control) = self.parts.lend(t, worker)?;
+        Ok(Turn::Work(lease, control))
+    }
+
+    /// Ends a lease without a commit. Where the thread is still as it was lent, it is ready again.
+    pub fn give_back(&mut self, lease: Lease)
+        ensures given { self.new ≡ given_back self.old lease }
+        ensures shown { IsShown self.new }
+    {
+        let (t, generation) = lease.end();
+        if self.parts.is_lent(t, generation) {
+            self.parts.slots.set_state(t, State::Ready);
+        }
+    }
+
+    /// Lets each leased thread be ready again. The leases that are out are then judged as any other.
+    pub fn recall(&mut self)
+        ensures recalled { IsRecalled self.old self.new }
+        ensures shown { IsShown self.new }
+    {
+        self.parts.slots.recall();
+    }
+}
