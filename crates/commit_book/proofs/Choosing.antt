@@ -1,6 +1,6 @@
 -- Which turn comes next, from what a book keeps.
-use Rattle.std.proofs.Common.{◌≡◌, ℕ, zero, suc, ◌+◌, ◌-◌, ◌<◌, ◌≤◌, Bool, true, false, cond, ◌&&◌, nat_eq, List, [], ◌∷◌, ◌++◌, length, Option, Some, None, refl, sym, ap, subst, ◌∙◌, arith, length-append}
-use Rattle.std.specs.Prelude.{IfOk, Result, Ok, Err, IfSome, IsSome, is_some, nat_lt, nat_le, option_and_then, option_map, slice_get, if◌then◌else◌}
+use Rattle.std.proofs.Common.{◌≡◌, ℕ, zero, suc, ◌+◌, ◌-◌, ◌<◌, ◌≤◌, Bool, true, false, cond, ◌&&◌, nat_eq, List, [], ◌∷◌, length, Option, Some, None, refl, sym, ap, subst, ◌∙◌, arith, length-append}
+use Rattle.std.specs.Prelude.{IfOk, Result, Ok, Err, IfSome, is_some, nat_lt, nat_le, option_map, slice_get, if◌then◌else◌}
 use Rattle.std.specs.Option.{option_map_or}
 use Rattle.std.specs.Ordering.{nat_cmp}
 use Rattle.std.specs.FinMap as map
@@ -9,8 +9,7 @@ use Rattle.std.proofs.lemmas.Bool.{false≢true}
 use Rattle.std.proofs.lemmas.Bool.Decides.{nat_tests}
 use Rattle.stab_base.specs.declared.numbers.ThreadId.{ThreadId}
 use Rattle.stab_code.specs.JobParts.{JobParts}
-use Rattle.stab_code.specs.Program.{ProgramParts}
-use Rattle.stab_journal.specs.Due.{due, final_prints, released}
+use Rattle.stab_journal.specs.Due.{due, final_prints}
 use Rattle.stab_journal.specs.Event.{weight_of}
 use Rattle.stab_journal.specs.Journal.{survivors}
 use Rattle.stab_journal.specs.Surviving.{run_of}
@@ -18,8 +17,8 @@ use Rattle.linked_lists.specs.Lists.{is_listed}
 use Rattle.plain_language.specs.Expression.{Expr, failed}
 use Rattle.thread_slots.specs.declared.state.State.{State}
 use Rattle.thread_slots.specs.declared.state.State.TheVariants.{Ready, Leased, Ended}
-use Rattle.thread_slots.specs.Ready.{numbers, IsQueueOf}
-use Rattle.thread_slots.specs.Slot.{Slot, same_state, is_in, is_ready_at}
+use Rattle.thread_slots.specs.Ready.{numbers}
+use Rattle.thread_slots.specs.Slot.{Slot, same_state, is_in}
 use Rattle.thread_slots.proofs.Counted.{numbers-some}
 use Rattle.plain_language.specs.Plain.{PlainState, end_of, language_of}
 use Rattle.plain_language.specs.Quiet.{IsQuiet}
@@ -30,8 +29,7 @@ use Rattle.commit_book.specs.declared.parts.Parts.{Parts}
 use Rattle.stab_base.specs.declared.numbers.NoMemory.{NoMemory}
 use Rattle.commit_book.specs.declared.turn.Turn.{Turn}
 use Rattle.commit_book.specs.declared.turn.Turn.TheVariants as turn
-use Rattle.commit_book.specs.declared.turn.Choice.{Choice}
-use Rattle.commit_book.specs.declared.turn.Choice.TheVariants.{Work, Idle, Quiet, Spent, Release}
+use Rattle.commit_book.specs.declared.turn.Choice.TheVariants.{Work, Quiet, Spent, Release}
 use Rattle.commit_book.specs.Book.{BookView, IsShown, over, offered}
 use Rattle.commit_book.specs.Counts.{faulted_in, in_state, is_faulted_at}
 use Rattle.commit_book.specs.Doing.{IsDoing, is_failed, is_over}

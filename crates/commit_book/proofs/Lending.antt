@@ -1,12 +1,12 @@
 -- What a lease, its return and a recall leave of a book.
-use Rattle.std.proofs.Common.{◌≡◌, ℕ, Bool, true, false, cond, ◌&&◌, nat_eq, List, [], ◌∷◌, ◌++◌, length, Option, Some, None, refl, sym, ap, subst, ◌∙◌}
-use Rattle.std.specs.Prelude.{IfSome, option_map, slice_get, if◌then◌else◌}
+use Rattle.std.proofs.Common.{◌≡◌, ℕ, true, false, cond, ◌&&◌, nat_eq, List, [], ◌∷◌, ◌++◌, length, Option, Some, None, refl, sym, ap, subst, ◌∙◌}
+use Rattle.std.specs.Prelude.{option_map, if◌then◌else◌}
 use Rattle.std.specs.Option.{option_map_or}
 use Rattle.std.specs.Ordering.{nat_cmp}
 use Rattle.std.specs.FinMap as map
 use Rattle.std.specs.FinMap.{FinMap}
 use Rattle.std.proofs.lemmas.Bool.{false≢true, eqb-true, and_parts}
-use Rattle.linked_lists.specs.Lists.{is_listed, without}
+use Rattle.linked_lists.specs.Lists.{without}
 use Rattle.stab_base.specs.declared.numbers.ThreadId.{ThreadId}
 use Rattle.stab_code.specs.JobParts.{JobParts}
 use Rattle.stab_code.specs.Program.{ProgramParts}
@@ -23,7 +23,7 @@ use Rattle.commit_book.specs.declared.parts.Parts.{Parts}
 use Rattle.commit_book.specs.Book.{BookView, ShowsRun, over, offered}
 use Rattle.commit_book.specs.Counts.{is_faulted_at, faulted_in}
 use Rattle.commit_book.specs.Doing.{is_failed}
-use Rattle.commit_book.specs.Layout.{AreTallied, IsKept, view_of}
+use Rattle.commit_book.specs.Layout.{IsKept, view_of}
 use Rattle.commit_book.specs.declared.turn.Choice.TheVariants.{Work}
 use Rattle.commit_book.specs.Leases.{LeaseView}
 use Rattle.commit_book.specs.Restated.{IsRestated}

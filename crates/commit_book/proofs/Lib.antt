@@ -16,3 +16,5 @@ pub mod Starting
 pub mod Lending
 pub mod Choosing
 pub mod Telling
+pub mod Changed
+pub mod Fresh

@@ -1,5 +1,5 @@
 -- A book shows its start.
-use Rattle.std.proofs.Common.{◌≡◌, ◌⊎◌, inl, ℕ, zero, suc, ◌+◌, max, ◌≤◌, ℤ, Bool, true, false, cond, nat_eq, List, [], ◌∷◌, ◌++◌, length, Option, Some, None, refl, sym, ap, subst, ◌∙◌, arith}
+use Rattle.std.proofs.Common.{◌≡◌, inl, ℕ, zero, suc, ◌+◌, max, ℤ, Bool, true, false, cond, nat_eq, List, [], ◌∷◌, ◌++◌, length, Option, Some, None, refl, sym, ap, subst, ◌∙◌, arith}
 use Rattle.std.specs.Prelude.{IfSome, count_by, is_some, option_and_then, option_map, slice_get, unwrap_or, nat_lt, if◌then◌else◌}
 use Rattle.std.specs.List.{IsDistinct}
 use Rattle.std.specs.Option.{option_map_or}
@@ -12,29 +12,27 @@ use Rattle.stab_code.specs.Program.{ProgramParts}
 use Rattle.stab_journal.specs.declared.event.Event.{Event}
 use Rattle.stab_journal.specs.Generation.{generation}
 use Rattle.stab_journal.specs.Due.{final_prints, released}
-use Rattle.stab_journal.specs.Journal.{survivors, survivors_from}
+use Rattle.stab_journal.specs.Journal.{survivors_from}
 use Rattle.stab_journal.specs.Script.{FollowsScript, script_at, probed}
 use Rattle.thread_slots.specs.Slot.{Slot, started, same_state}
-use Rattle.thread_slots.specs.declared.state.State.TheVariants.{Parked, Ended, Ready}
+use Rattle.thread_slots.specs.declared.state.State.TheVariants.{Parked}
 use Rattle.thread_slots.specs.Ready.{numbers}
 use Rattle.rendezvous.specs.declared.offer.Offer.{Offer}
 use Rattle.rendezvous.specs.Line.{nobody, LineBacked}
 use Rattle.rendezvous.specs.Line as line
 use Rattle.ref_log.specs.Log.{last_of}
 use Rattle.checkpoint_store.specs.Saved.{place_cmp}
-use Rattle.plain_language.specs.Outcome.{called}
-use Rattle.plain_language.specs.Plain.{effect_of, start}
-use Rattle.plain_language.specs.Program.{body}
+use Rattle.plain_language.specs.Plain.{start}
 use Rattle.plain_language.specs.Standing.{StandsFor, nothing}
 use Rattle.plain_language.proofs.Applying.{get_inserted}
 use Rattle.step_eval.specs.ControlView.{ControlView, Fits, RedexIsFound, expr_of}
 use Rattle.commit_book.specs.declared.parts.Parts.{Parts}
 use Rattle.commit_book.specs.Book.{ShowsJournal, ShowsThreads, ShowsRun, over, offered}
-use Rattle.commit_book.specs.Counts.{is_faulted_at, faulted_in, is_undo}
+use Rattle.commit_book.specs.Counts.{faulted_in, is_undo}
 use Rattle.commit_book.specs.Doing.{IsDoing, is_over, is_failed, waits_with}
 use Rattle.commit_book.specs.Layout.{AreTallied, IsKept, view_of}
 use Rattle.commit_book.specs.Numbers.{greatest, threads_by, named_by, chans_in, refs_in}
-use Rattle.commit_book.specs.Started.{IsStarted, first_tallies}
+use Rattle.commit_book.specs.Started.{IsStarted}
 
 none_got : (script : List ℤ) (i : ℕ) → IfSome (slice_get [] i) (λ n. n ≡ script_at script i)
 none_got script zero = tt

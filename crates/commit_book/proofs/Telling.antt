@@ -6,7 +6,7 @@ use Rattle.stab_code.specs.Program.{ProgramParts}
 use Rattle.thread_slots.specs.Slot.{Slot}
 use Rattle.plain_language.specs.Expression.{Expr, value, failed}
 use Rattle.step_eval.specs.declared.rest.Rest.{Rest}
-use Rattle.step_eval.specs.declared.rest.Rest.TheVariants.{Going, Done, Failed}
+use Rattle.step_eval.specs.declared.rest.Rest.TheVariants.{Failed}
 use Rattle.step_eval.specs.ControlView.{ControlView, Fits, expr_of}
 use Rattle.step_eval.specs.Rests.{rest_of}
 use Rattle.journal_laws.proofs.Surviving.{some_is, some_none}

@@ -42,13 +42,13 @@ has-append (x ∷ xs) ys t h k =
     let parts = cond_false (nat_eq t x) (has xs t) h in
     ap (λ b. cond b true (has (xs ++ ys) t)) parts.0 ∙ has-append xs ys t parts.1 k
 
-left_part : (xs ys : List ℕ) (t : ℕ) → has (xs ++ ys) t ≡ false → has xs t ≡ false
+pub left_part : (xs ys : List ℕ) (t : ℕ) → has (xs ++ ys) t ≡ false → has xs t ≡ false
 left_part [] ys t h = refl
 left_part (x ∷ xs) ys t h =
     let parts = cond_false (nat_eq t x) (has (xs ++ ys) t) h in
     ap (λ b. cond b true (has xs t)) parts.0 ∙ left_part xs ys t parts.1
 
-right_part : (xs ys : List ℕ) (t : ℕ) → has (xs ++ ys) t ≡ false → has ys t ≡ false
+pub right_part : (xs ys : List ℕ) (t : ℕ) → has (xs ++ ys) t ≡ false → has ys t ≡ false
 right_part [] ys t h = h
 right_part (x ∷ xs) ys t h = right_part xs ys t (cond_false (nat_eq t x) (has (xs ++ ys) t) h).1
 
@@ -70,7 +70,7 @@ module _ (f : Label → List ℕ) (names : What → List ℕ) (steps : (l : Labe
   in_more [] n h k = ap (λ xs. has xs t) (append-nil (f n.label)) ∙ k
   in_more (j ∷ ns) n h k = has-append (f j.label) (named_in f (ns ++ n ∷ [])) t (left_part (f j.label) (named_in f ns) t h) (in_more ns n (right_part (f j.label) (named_in f ns) t h) k)
 
-  in_event : (q : ℕ) (w : What) (run : List Numbered) → has (named_in f run) t ≡ false → has (names w) t ≡ false → has (named_in f (after_event q w run)) t ≡ false
+  pub in_event : (q : ℕ) (w : What) (run : List Numbered) → has (named_in f run) t ≡ false → has (names w) t ≡ false → has (named_in f (after_event q w run)) t ≡ false
   in_event q (Step l) run h k = in_more run (record { seq = record { 0 = q }; label = l }) h (ap (λ xs. has xs t) (sym (steps l)) ∙ k)
   in_event q (Undo u m) run h k = in_rest (has (reached run m.0)) run h
   in_event q (Release c) run h k = ap (λ ns. has (named_in f ns) t) (append-nil run) ∙ h

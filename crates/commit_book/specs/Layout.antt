@@ -1,18 +1,11 @@
 -- What callers see of a book, from what it keeps.
-use Rattle.std.specs.Prelude.{◌≡◌, ℕ, Bool, true, false, count_by, length, option_map}
-use Rattle.std.specs.Option.{option_map_or}
-use Rattle.std.specs.Ordering.{nat_cmp}
-use Rattle.std.specs.FinMap as map
-use Rattle.std.specs.FinMap.{FinMap}
+use Rattle.std.specs.Prelude.{◌≡◌, count_by, length}
 use Rattle.stab_code.specs.JobParts.{JobParts}
 use Rattle.stab_code.specs.Program.{ProgramParts}
 use Rattle.stab_code.specs.Valid.{IsValid}
 use Rattle.stab_journal.specs.Due.{final_prints, released}
 use Rattle.stab_journal.specs.Journal.{Journal, survivors}
 use Rattle.stab_journal.specs.Script.{probed}
-use Rattle.thread_slots.specs.Slot.{Slot}
-use Rattle.thread_slots.specs.Ready.{numbers}
-use Rattle.step_eval.specs.ControlView.{ControlView}
 use Rattle.commit_book.specs.declared.parts.Parts.{Parts}
 use Rattle.commit_book.specs.Book.{BookView, IsShown}
 use Rattle.commit_book.specs.Counts.{is_undo, faulted_in}

@@ -1,4 +1,4 @@
-use Rattle.std.proofs.Common.{◌≤◌, ◌-◌, refl, subst, arith}
+use Rattle.std.proofs.Common.{◌-◌, refl, subst, arith}
 use Rattle.thread_slots.specs.declared.state.State.TheVariants.{Ready, Leased, Parked, Ended}
 use Rattle.commit_book.specs.Book.{BookView}
 use Rattle.commit_book.specs.Counts.{AreCounts}
