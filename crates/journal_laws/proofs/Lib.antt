@@ -8,6 +8,7 @@ pub mod Lines
 pub mod FirstLost
 pub mod Closed
 pub mod Passing
+pub mod Dividing
 pub mod Gone
 pub mod Numbers
 pub mod Occurring

@@ -8,7 +8,7 @@ use Rattle.stab_journal.specs.Names.{has, is_at, read}
 use Rattle.stab_journal.specs.Reached.{Lost, lose, keep, reads_of, depends, is_reached, reached_from, reached}
 use Rattle.journal_laws.proofs.Lawful.{or_is, and_is}
 
-depends_same : (l : Label) (x y : Lost) → ((t : ℕ) → x.threads t ≡ y.threads t) → ((r : ℕ) → x.references r ≡ y.references r) → depends l x ≡ depends l y
+pub depends_same : (l : Label) (x y : Lost) → ((t : ℕ) → x.threads t ≡ y.threads t) → ((r : ℕ) → x.references r ≡ y.references r) → depends l x ≡ depends l y
 depends_same l x y ht hr = ap (λ (p : ℕ → Bool). list_any p (actors l) || reads_of (read l) x.references) (λ i t. ht t i) ∙ ap (λ (p : ℕ → Bool). list_any y.threads (actors l) || reads_of (read l) p) (λ i r. hr r i)
 
 -- what is reached hangs on the threads and references alone

@@ -1,19 +1,27 @@
 //! The pass that finds what is reached.
 
-ghost use Rattle.std.specs.Prelude.{◌≡◌, ℕ, false, cond, ◌||◌, nat_eq, [], ◌∷◌, ◌++◌, IfOk, OnOk, map};
+ghost use Rattle.std.specs.Prelude.{◌≡◌, ℕ, false, cond, not, ◌||◌, nat_eq, [], ◌∷◌, ◌++◌, IfOk, OnOk, map};
 ghost use Rattle.std.specs.List.{list_any};
 ghost use Rattle.std.specs.Ordering.{nat_cmp};
 ghost use Rattle.std.specs.BTreeSet.{contains};
 ghost use Rattle.stab_journal.specs.Label.{actors, touched, written};
 ghost use Rattle.stab_journal.specs.declared.event.Numbered.{Numbered};
 ghost use Rattle.stab_journal.specs.Names.{has, is_at, read};
-ghost use Rattle.stab_journal.specs.Reached.{reached, reads_of, is_reached};
+ghost use Rattle.stab_journal.specs.Journal.{RiseFrom};
+ghost use Rattle.stab_journal.specs.Reached.{reached, reads_of, rest, is_reached, without_reached};
 ghost use Rattle.journal_laws.specs.Pass.{lost_in};
 
 use stab_base::{NoMemory, Seq};
 use stab_journal::{Label, Numbered};
 use std::alloc::Global;
 use std::collections::BTreeSet;
+
+/// A run in two parts: the steps that aren't reached from one of them, and those that are, each in order.
+#[derive(Drop)]
+pub struct Divided {
+    pub stays: Vec<Numbered>,
+    pub goes: Vec<Numbered>,
+}
 
 fn acts_among(threads: &BTreeSet<u32>, label: Label) -> bool
     ensures { result ≡ list_any (contains nat_cmp threads.now) (actors label) }
@@ -125,4 +133,33 @@ pub fn reached(alloc: Global, run: &[Numbered], m: Seq) -> Result<Vec<Seq>, NoMe
         write(&mut references, step.label, lost)?;
     }
     Ok(found)
+}
+
+/// Divides a run by what is reached from m.
+pub fn divide(alloc: Global, run: &[Numbered], m: Seq) -> Result<Divided, NoMemory>
+    requires { RiseFrom 1 run.now }
+    ensures stays { IfOk result (λ d. d.stays.items ≡ without_reached m.0 run.now) }
+    ensures goes { IfOk result (λ d. d.goes.items ≡ rest (λ q. not (has (reached run.now m.0) q)) run.now) }
+{
+    let mut threads = BTreeSet::new(alloc);
+    let mut references = BTreeSet::new(alloc);
+    let mut stays = Vec::new(alloc);
+    let mut goes = Vec::new(alloc);
+    for step in run {
+        let lost = is_hit(&threads, &references, *step, m);
+        put(&mut stays, *step, !lost)?;
+        put(&mut goes, *step, lost)?;
+        touch(&mut threads, step.label, lost)?;
+        write(&mut references, step.label, lost)?;
+    }
+    Ok(Divided { stays, goes })
+}
+
+fn put(part: &mut Vec<Numbered>, step: Numbered, here: bool) -> Result<(), NoMemory>
+    ensures { OnOk result (part.new.items ≡ part.old.items ++ cond here (step ∷ []) []) }
+{
+    if here {
+        part.push(step)?;
+    }
+    Ok(())
 }
