@@ -1,0 +1,115 @@
+-- Where the surviving steps lead.
+use Rattle.std.proofs.Common.{◌≡◌, ℕ, suc, ◌+◌, ◌<◌, ◌≤◌, true, List, [], ◌∷◌, ◌++◌, length, take, drop, get_or, add-one, drop-cons, refl, sym, ap, subst, ◌∙◌, arith, length-append}
+use Rattle.std.specs.Prelude.{Option, Some, None, IsSome}
+use Rattle.std.proofs.lemmas.Bool.{false≢true}
+use Rattle.std.proofs.lemmas.List.{take-append-drop, take-append-le}
+use Rattle.std.proofs.Math.Seq.{take-length}
+use Rattle.stab_code.specs.Program.{ProgramParts}
+use Rattle.stab_journal.specs.declared.event.Numbered.{Numbered}
+use Rattle.stab_journal.specs.Journal.{RiseFrom}
+use Rattle.stab_journal.specs.Names.{has}
+use Rattle.stab_journal.specs.Reached.{nothing_lost, reached, without_reached}
+use Rattle.stab_journal.specs.Dependence.{IsUpward}
+use Rattle.plain_language.specs.Held.{Held}
+use Rattle.plain_language.specs.Plain.{IsRun, PlainState, effect_of, end_of, plain_step, start}
+use Rattle.plain_language.specs.Steps.{State, Table, after_steps}
+use Rattle.journal_laws.proofs.Chains.{upward}
+use Rattle.journal_laws.proofs.Reaching.{reached_by}
+use Rattle.journal_laws.proofs.Runs.{steps_append, survivor}
+use Rattle.journal_laws.specs.Surviving.{Survives}
+use Rattle.trace_verify.specs.Parts.{AreBelow, IsFront}
+use Rattle.trace_verify.specs.Surviving.{LeadTo}
+
+-- no steps lead on from nowhere
+nowhere : {E : Type 0} (effect : Table E) (ns : List Numbered) → after_steps effect None ns ≡ None
+nowhere effect [] = refl
+nowhere effect (n ∷ ns) = nowhere effect ns
+
+-- the first steps of a run lead somewhere
+pub front_leads : {E : Type 0} (effect : Table E) (s : State E) (front back : List Numbered) (end : State E) → after_steps effect (Some s) (front ++ back) ≡ Some end → IsSome (after_steps effect (Some s) front)
+front_leads effect s front back end is =
+    elim (after_steps effect (Some s) front) as (λ o. after_steps effect o back ≡ Some end → IsSome o) [
+      | None ↦ λ at. absurd (let none : None ≡ Some end = sym (nowhere effect back) ∙ at in cc)
+      | (Some x) ↦ λ at. refl
+    ] (sym (steps_append effect front back (Some s)) ∙ is)
+
+reached_upward : (run : List Numbered) (m : ℕ) → RiseFrom 1 run → IsUpward (λ (n : Numbered). has (reached run m) n.seq.0 ≡ true) run
+reached_upward run m rise = upward m (has (reached run m)) nothing_lost run (reached_by m (has (reached run m)) run nothing_lost 1 rise (λ k le. refl))
+
+-- what is left of a run is one
+pub left_survives : (p : ProgramParts) (run : List Numbered) (m : ℕ) (s : PlainState) → IsRun p run s → Survives p (has (reached run m)) run s
+left_survives p run m s r = survivor p (has (reached run m)) run s (reached_upward run m r.rises) r
+
+-- the steps of a run behind some first ones lead somewhere from where these lead
+pub back_leads : (p : ProgramParts) (front back : List Numbered) (s end : PlainState) → end_of p front ≡ Some s → end_of p (front ++ back) ≡ Some end → after_steps (effect_of p) (Some s) back ≡ Some end
+back_leads p front back s end at is = ap (λ o. after_steps (effect_of p) o back) (sym at) ∙ sym (steps_append (effect_of p) front back (Some (start p))) ∙ is
+
+-- a step of the steps from a place on
+pub play_on : (p q : ProgramParts) (s s' : PlainState) (ns : List Numbered) (i : ℕ) (d : Numbered) (o : Option PlainState) → q ≡ p → i < length ns
+    → plain_step q s (get_or ns i d).seq.0 (get_or ns i d).label ≡ Some s' → after_steps (effect_of p) (Some s) (drop i ns) ≡ o → after_steps (effect_of p) (Some s') (drop (i + 1) ns) ≡ o
+play_on p q s s' ns i d o same lt step is =
+    ap (λ x. after_steps (effect_of p) x (drop (i + 1) ns)) (sym step)
+    ∙ ap (λ x. after_steps (effect_of p) (plain_step x s (get_or ns i d).seq.0 (get_or ns i d).label) (drop (i + 1) ns)) same
+    ∙ ap (λ k. after_steps (effect_of p) (plain_step p s (get_or ns i d).seq.0 (get_or ns i d).label) (drop k ns)) (add-one i)
+    ∙ ap (after_steps (effect_of p) (Some s)) (sym (drop-cons ns i d lt))
+    ∙ is
+
+-- steps that lead somewhere have a first one
+pub play_stuck : (p q : ProgramParts) (s : PlainState) (ns : List Numbered) (i : ℕ) (d : Numbered) (o : Option PlainState) → q ≡ p → i < length ns
+    → plain_step q s (get_or ns i d).seq.0 (get_or ns i d).label ≡ None → after_steps (effect_of p) (Some s) (drop i ns) ≡ o → IsSome o → ⊥
+play_stuck p q s ns i d o same lt none is some =
+    false≢true (subst IsSome (sym is ∙ ap (after_steps (effect_of p) (Some s)) (drop-cons ns i d lt)
+    ∙ ap (λ x. after_steps (effect_of p) (plain_step x s (get_or ns i d).seq.0 (get_or ns i d).label) (drop (suc i) ns)) (sym same)
+    ∙ ap (λ x. after_steps (effect_of p) x (drop (suc i) ns)) none ∙ nowhere (effect_of p) (drop (suc i) ns)) some)
+
+-- the steps ahead of some first ones lead to where all lead
+pub ahead_leads : (p q : ProgramParts) (b : ℕ) (ns ahead : List Numbered) (s : PlainState) → q ≡ p → end_of p (take b ns) ≡ Some s → ahead ≡ drop b ns → after_steps (effect_of q) (Some s) ahead ≡ end_of p ns
+ahead_leads p q b ns ahead s same at is =
+    ap (λ x. after_steps (effect_of x) (Some s) ahead) same
+    ∙ ap (after_steps (effect_of p) (Some s)) is
+    ∙ ap (λ o. after_steps (effect_of p) o (drop b ns)) (sym at)
+    ∙ sym (steps_append (effect_of p) (take b ns) (drop b ns) (Some (start p)))
+    ∙ ap (end_of p) (take-append-drop b ns)
+
+rise_last : (q : ℕ) (run : List Numbered) (n : Numbered) → RiseFrom q run → AreBelow n.seq.0 run → q ≤ n.seq.0 → RiseFrom q (run ++ n ∷ [])
+rise_last q [] n rise below le = (le, tt)
+rise_last q (k ∷ ks) n rise below le = (rise.0, rise_last (suc k.seq.0) ks n rise.1 below.1 below.0)
+
+-- a run goes on by a step
+pub run_on : (p : ProgramParts) (run : List Numbered) (n : Numbered) (s s' : PlainState) → IsRun p run s → AreBelow n.seq.0 run → 1 ≤ n.seq.0 → plain_step p s n.seq.0 n.label ≡ Some s' → IsRun p (run ++ n ∷ []) s'
+run_on p run n s s' r below some step = record {
+  rises = rise_last 1 run n r.rises below some;
+  ends = steps_append (effect_of p) run (n ∷ []) (Some (start p)) ∙ ap (λ o. after_steps (effect_of p) o (n ∷ [])) r.ends ∙ step;
+}
+
+-- what leads to a state still does where more is settled
+pub based_on : (p q : ProgramParts) (b : ℕ) (front whole : List Numbered) (base : Held) → q ≡ p → LeadTo p b front base → IsFront front whole → LeadTo q b whole base
+based_on p q b front whole base same h f = record {
+  program = h.program ∙ sym same;
+  based = subst (λ ns. b ≤ length ns) (sym f.is) (omega (arith, length-append front f.back, h.based));
+  base = ap (λ x. end_of x (take b whole)) same ∙ ap (λ ns. end_of p (take b ns)) f.is ∙ ap (end_of p) (take-append-le b front f.back h.based) ∙ h.base;
+}
+
+-- all settled steps lead to it
+pub all_based : (p : ProgramParts) (b : ℕ) (settled : List Numbered) (base : Held) → b ≡ length settled → base.program ≡ p → end_of p settled ≡ Some base.state → LeadTo p b settled base
+all_based p b settled base all same is = record {
+  program = same;
+  based = omega (arith, all);
+  base = ap (λ k. end_of p (take k settled)) all ∙ ap (end_of p) (take-length settled) ∙ is;
+}
+
+-- what is left behind the last cut leads on from there to where all that is left leads
+pub after_lose : (p q : ProgramParts) (run : List Numbered) (m : ℕ) (s : PlainState) (r : IsRun p run s) (front back ns : List Numbered) (cut : PlainState) → q ≡ p → front ++ back ≡ without_reached m run
+    → end_of p front ≡ Some cut → ns ≡ back → after_steps (effect_of q) (Some cut) ns ≡ Some (left_survives p run m s r).at
+after_lose p q run m s r front back ns cut same whole at is =
+    ap (λ x. after_steps (effect_of x) (Some cut) ns) same
+    ∙ ap (after_steps (effect_of p) (Some cut)) is
+    ∙ back_leads p front back cut (left_survives p run m s r).at at (ap (end_of p) whole ∙ (left_survives p run m s r).lawful.run)
+
+-- and that is a run
+pub left_is_run : (p q : ProgramParts) (run : List Numbered) (m : ℕ) (s : PlainState) (r : IsRun p run s) (front back : List Numbered) (cut end : PlainState) → q ≡ p → front ++ back ≡ without_reached m run
+    → end_of p front ≡ Some cut → after_steps (effect_of p) (Some cut) back ≡ Some end → IsRun q (front ++ back) end
+left_is_run p q run m s r front back cut end same whole at is = record {
+  rises = subst (RiseFrom 1) (sym whole) (left_survives p run m s r).rises;
+  ends = ap (λ x. end_of x (front ++ back)) same ∙ steps_append (effect_of p) front back (Some (start p)) ∙ ap (λ o. after_steps (effect_of p) o back) at ∙ is;
+}

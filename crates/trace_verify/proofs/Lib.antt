@@ -1,0 +1,9 @@
+pub mod Counting
+pub mod Events
+pub mod Following
+pub mod Fronts
+pub mod Judging
+pub mod Leading
+pub mod Parting
+pub mod Signing
+pub mod Undoing

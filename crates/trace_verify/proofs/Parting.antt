@@ -1,0 +1,226 @@
+-- How the two parts of the surviving steps change.
+use Rattle.std.proofs.Common.{◌≡◌, ℕ, suc, ◌+◌, ◌<◌, ◌≤◌, Bool, true, false, cond, not, ◌&&◌, ◌||◌, nat_eq, List, [], ◌∷◌, ◌++◌, length, refl, sym, ap, subst, ◌∙◌, arith, append_assoc}
+use Rattle.std.specs.Prelude.{count_by, nat_lt}
+use Rattle.std.specs.List.{AllByRecursion, list_any}
+use Rattle.std.proofs.lemmas.Bool.{false≢true}
+use Rattle.std.proofs.lemmas.Bool.Decides.{nat_tests}
+use Rattle.std.proofs.lemmas.List.Sums.{sum_by-append, count_by-le-length}
+use Rattle.stab_journal.specs.declared.event.Label.{Label}
+use Rattle.stab_journal.specs.declared.event.Label.TheVariants.{Cut}
+use Rattle.stab_journal.specs.declared.event.Numbered.{Numbered}
+use Rattle.stab_journal.specs.Due.{final_prints, is_print}
+use Rattle.stab_journal.specs.Floor.{floor, floor_from, is_cut, is_enter, is_pin, is_entered, has_pin, is_revocable}
+use Rattle.stab_journal.specs.Generation.{acts_in}
+use Rattle.stab_journal.specs.Journal.{RiseFrom}
+use Rattle.stab_journal.specs.Label.{actors}
+use Rattle.stab_journal.specs.Names.{has}
+use Rattle.stab_journal.specs.Reached.{reached, rest, without_reached}
+use Rattle.journal_laws.proofs.Held.{parts_of}
+use Rattle.trace_verify.specs.Parts.{AreBelow, AreParts, IsSettled, IsRecent}
+use Rattle.trace_verify.proofs.Fronts.{front_stays, reached_front, rest_front, entered_front, pin_front, acts_front, pin_goes, acts_goes}
+
+all_and : {X : Type 0} (P : X → Type 0) (xs ys : List X) → AllByRecursion P xs → AllByRecursion P ys → AllByRecursion P (xs ++ ys)
+all_and P [] ys h k = k
+all_and P (x ∷ xs) ys h k = (h.0, all_and P xs ys h.1 k)
+
+all_with : {X : Type 0} (P Q : X → Type 0) → ((x : X) → P x → Q x) → (xs : List X) → AllByRecursion P xs → AllByRecursion Q xs
+all_with P Q f [] h = tt
+all_with P Q f (x ∷ xs) h = (f x h.0, all_with P Q f xs h.1)
+
+all_front : {X : Type 0} (P : X → Type 0) (xs ys : List X) → AllByRecursion P (xs ++ ys) → AllByRecursion P xs
+all_front P [] ys h = tt
+all_front P (x ∷ xs) ys h = (h.0, all_front P xs ys h.1)
+
+pub all_rest : (P : Numbered → Type 0) (gone : ℕ → Bool) (ns : List Numbered) → AllByRecursion P ns → AllByRecursion P (rest gone ns)
+all_rest P gone [] h = tt
+all_rest P gone (n ∷ ns) h =
+    elim (gone n.seq.0) as (λ b. AllByRecursion P (cond b (rest gone ns) (n ∷ rest gone ns))) [
+      | true ↦ all_rest P gone ns h.1
+      | false ↦ (h.0, all_rest P gone ns h.1)
+    ]
+
+lower : (q k : ℕ) (ns : List Numbered) → k ≤ q → RiseFrom q ns → RiseFrom k ns
+lower q k [] le h = tt
+lower q k (n ∷ ns) le h = (omega (arith, h.0), h.1)
+
+-- numbers that rise rise behind
+pub rise_back : (q : ℕ) (front back : List Numbered) → RiseFrom q (front ++ back) → RiseFrom q back
+rise_back q [] back h = h
+rise_back q (n ∷ ns) back h = lower (suc n.seq.0) q back (omega (arith, h.0)) (rise_back (suc n.seq.0) ns back h.1)
+
+-- numbers that rise and are below q are fewer
+few : (k q : ℕ) (ns : List Numbered) → k ≤ q → RiseFrom k ns → AreBelow q ns → length ns + k ≤ q
+few k q [] le rise below = omega (arith, le)
+few k q (n ∷ ns) le rise below = omega (arith, rise.0, few (suc n.seq.0) q ns (omega (arith, below.0)) rise.1 below.1)
+
+floor_below : (g q : ℕ) (ns : List Numbered) → g < q → AreBelow q ns → floor_from g ns < q
+floor_below g q [] lt below = lt
+floor_below g q (n ∷ ns) lt below =
+    elim (is_cut n.label) as (λ b. floor_from (cond b n.seq.0 g) ns < q) [
+      | true ↦ floor_below n.seq.0 q ns below.0 below.1
+      | false ↦ floor_below g q ns lt below.1
+    ]
+
+floor_recent : (f g : ℕ) (ns : List Numbered) → AllByRecursion (IsRecent f) ns → floor_from g ns ≡ g
+floor_recent f g [] h = refl
+floor_recent f g (n ∷ ns) h = ap (λ b. floor_from (cond b n.seq.0 g) ns) h.0.1 ∙ floor_recent f g ns h.1
+
+floor_two : (g f : ℕ) (front back : List Numbered) → AllByRecursion (IsRecent f) back → floor_from g (front ++ back) ≡ floor_from g front
+floor_two g f [] back h = floor_recent f g back h
+floor_two g f (n ∷ ns) back h = floor_two (cond (is_cut n.label) n.seq.0 g) f ns back h
+
+floor_last : (g : ℕ) (ns : List Numbered) (n : Numbered) → is_cut n.label ≡ true → floor_from g (ns ++ n ∷ []) ≡ n.seq.0
+floor_last g [] n cut = ap (λ b. cond b n.seq.0 g) cut
+floor_last g (k ∷ ns) n cut = floor_last (cond (is_cut k.label) k.seq.0 g) ns n cut
+
+and_true : (a : Bool) → (a && true) ≡ a
+and_true true = refl
+and_true false = refl
+
+and_none : (a : Bool) → (a && false) ≡ false
+and_none true = refl
+and_none false = refl
+
+and_below : (b : Bool) (q f : ℕ) → (b ≡ true → q < f) → (b && nat_lt q f) ≡ b
+and_below true q f h = let lt = h refl in grind (arith, nat_tests)
+and_below false q f h = refl
+
+and_above : (b : Bool) (q f : ℕ) → f < q → (b && nat_lt q f) ≡ false
+and_above true q f h = grind (arith, nat_tests)
+and_above false q f h = refl
+
+count_and : (p : Numbered → Bool) (xs ys : List Numbered) → count_by p (xs ++ ys) ≡ count_by p xs + count_by p ys
+count_and p xs ys = sum_by-append (λ n. cond (p n) 1 0) xs ys
+
+count_cons : (p : Numbered → Bool) (n : Numbered) (ns : List Numbered) → count_by p (n ∷ ns) ≡ cond (p n) 1 0 + count_by p ns
+count_cons p n ns = omega (arith, count_and p (n ∷ []) ns)
+
+-- of the steps up to the last cut, those that print are the final ones
+prints_settled : (f : ℕ) (ns : List Numbered) → AllByRecursion (IsSettled f) ns → count_by (λ (n : Numbered). is_print n.label && nat_lt n.seq.0 f) ns ≡ count_by (λ (n : Numbered). is_print n.label) ns
+prints_settled f [] h = refl
+prints_settled f (n ∷ ns) h =
+    count_cons (λ k. is_print k.label && nat_lt k.seq.0 f) n ns
+    ∙ ap (λ b. cond b 1 0 + count_by (λ (k : Numbered). is_print k.label && nat_lt k.seq.0 f) ns) (and_below (is_print n.label) n.seq.0 f h.0.1)
+    ∙ ap (λ k. cond (is_print n.label) 1 0 + k) (prints_settled f ns h.1)
+    ∙ sym (count_cons (λ k. is_print k.label) n ns)
+
+prints_recent : (f : ℕ) (ns : List Numbered) → AllByRecursion (IsRecent f) ns → count_by (λ (n : Numbered). is_print n.label && nat_lt n.seq.0 f) ns ≡ 0
+prints_recent f [] h = refl
+prints_recent f (n ∷ ns) h =
+    count_cons (λ k. is_print k.label && nat_lt k.seq.0 f) n ns
+    ∙ ap (λ b. cond b 1 0 + count_by (λ (k : Numbered). is_print k.label && nat_lt k.seq.0 f) ns) (and_above (is_print n.label) n.seq.0 f h.0.0)
+    ∙ ap (λ k. 0 + k) (prints_recent f ns h.1)
+
+and_lower : (a : Bool) (f m : ℕ) (b : Bool) → f < m → (a && nat_lt f m && b) ≡ (a && b)
+and_lower a f m b lt = ap (λ x. a && x && b) (let is : nat_lt f m ≡ true = grind (arith, nat_tests) in is) ∙ ap (λ x. x && b) (and_true a)
+
+and_upper : (a : Bool) (f m : ℕ) (b : Bool) → m ≤ f → (a && nat_lt f m && b) ≡ false
+and_upper a f m b le = ap (λ x. a && x && b) (let is : nat_lt f m ≡ false = grind (arith, nat_tests) in is) ∙ ap (λ x. x && b) (and_none a)
+
+pub floor_is : (f k : ℕ) (front back : List Numbered) → AreParts f k front back → floor (front ++ back) ≡ f
+floor_is f k front back h = floor_two 0 f front back h.recent ∙ h.floor
+
+pub final_is : (f k : ℕ) (front back : List Numbered) → AreParts f k front back → k ≡ final_prints (front ++ back)
+final_is f k front back h =
+    h.prints
+    ∙ sym (prints_settled f front h.settled)
+    ∙ omega (arith, count_and (λ n. is_print n.label && nat_lt n.seq.0 f) front back, prints_recent f back h.recent)
+    ∙ ap (λ x. count_by (λ (n : Numbered). is_print n.label && nat_lt n.seq.0 x) (front ++ back)) (sym (floor_is f k front back h))
+
+all_settled_below : (f m : ℕ) (ns : List Numbered) → f < m → AllByRecursion (IsSettled f) ns → AreBelow m ns
+all_settled_below f m ns lt h = all_with (IsSettled f) (λ n. n.seq.0 < m) (λ n s. omega (arith, s.0, lt)) ns h
+
+-- a step that is no cut comes to the steps behind
+pub add_recent : (f k : ℕ) (front back : List Numbered) (n : Numbered) → AreParts f k front back → is_cut n.label ≡ false → 1 ≤ n.seq.0 → AreBelow n.seq.0 (front ++ back) → AreParts f k front (back ++ n ∷ [])
+add_recent f k front back n h other some below = record {
+  floor = h.floor;
+  settled = h.settled;
+  recent = all_and (IsRecent f) back (n ∷ []) h.recent ((subst (λ x. x < n.seq.0) (floor_is f k front back h) (floor_below 0 n.seq.0 (front ++ back) some below), other), tt);
+  prints = h.prints;
+}
+
+no_print_of : (l : Label) → is_cut l ≡ true → is_print l ≡ true → ⊥
+no_print_of (Cut t) cut print = false≢true print
+no_print_of l cut print = false≢true cut
+
+no_print : (n : Numbered) → is_cut n.label ≡ true → is_print n.label ≡ true → ⊥
+no_print n cut print = no_print_of n.label cut print
+
+-- a cut settles all steps
+pub add_cut : (f k : ℕ) (front back : List Numbered) (n : Numbered) → AreParts f k front back → is_cut n.label ≡ true → AreBelow n.seq.0 (front ++ back) → AreParts n.seq.0 (k + count_by (λ (n : Numbered). is_print n.label) (back ++ n ∷ [])) (front ++ (back ++ n ∷ [])) []
+add_cut f k front back n h cut below = record {
+  floor = ap floor (sym (append_assoc front back (n ∷ []))) ∙ floor_last 0 (front ++ back) n cut;
+  settled = subst (AllByRecursion (IsSettled n.seq.0)) (append_assoc front back (n ∷ []))
+      (all_and (IsSettled n.seq.0) (front ++ back) (n ∷ [])
+      (all_with (λ k. k.seq.0 < n.seq.0) (IsSettled n.seq.0) (λ k lt. (omega (arith, lt), λ _. lt)) (front ++ back) below)
+      ((omega arith, λ print. absurd (no_print n cut print)), tt));
+  recent = tt;
+  prints = omega (arith, h.prints, count_and (λ k. is_print k.label) front (back ++ n ∷ []));
+}
+
+-- so many prints fit
+pub few_prints : (f k : ℕ) (front back : List Numbered) (n : Numbered) → AreParts f k front back → RiseFrom 1 (front ++ back) → AreBelow n.seq.0 (front ++ back) → 1 ≤ n.seq.0 → k + count_by (λ (n : Numbered). is_print n.label) (back ++ n ∷ []) ≤ n.seq.0
+few_prints f k front back n h rise below some =
+    let all = few 1 n.seq.0 (front ++ back) some rise below in
+    omega (arith, h.prints, count_and (λ k. is_print k.label) front back, count_and (λ k. is_print k.label) back (n ∷ []), count_by-le-length (λ (k : Numbered). is_print k.label) (front ++ back), count_by-le-length (λ (k : Numbered). is_print k.label) (n ∷ []), all)
+
+-- whether what is reached can be taken back is seen behind
+pub revocable_is : (f k m : ℕ) (front back : List Numbered) → AreParts f k front back → RiseFrom 1 (front ++ back) → f < m → is_revocable (front ++ back) m ≡ (is_entered m back && not (has_pin (reached back m) back))
+revocable_is f k m front back h rise lt =
+    let below = all_settled_below f m front lt h.settled in
+    let stays = front_stays m front back (rise_back 1 front back rise) below in
+    ap (λ b. b && nat_lt (floor (front ++ back)) m && not (has_pin (reached (front ++ back) m) (front ++ back))) (entered_front m front back below)
+    ∙ ap (λ x. is_entered m back && nat_lt x m && not (has_pin (reached (front ++ back) m) (front ++ back))) (floor_is f k front back h)
+    ∙ ap (λ qs. is_entered m back && nat_lt f m && not (has_pin qs (front ++ back))) (reached_front m front back below)
+    ∙ ap (λ b. is_entered m back && nat_lt f m && not b) (pin_front (reached back m) front back stays)
+    ∙ and_lower (is_entered m back) f m (not (has_pin (reached back m) back)) lt
+
+pub not_above : (f k m : ℕ) (front back : List Numbered) → AreParts f k front back → m ≤ f → is_revocable (front ++ back) m ≡ false
+not_above f k m front back h le =
+    ap (λ x. is_entered m (front ++ back) && nat_lt x m && not (has_pin (reached (front ++ back) m) (front ++ back))) (floor_is f k front back h)
+    ∙ and_upper (is_entered m (front ++ back)) f m (not (has_pin (reached (front ++ back) m) (front ++ back))) le
+
+pub above_floor : (f k m : ℕ) (front back : List Numbered) → AreParts f k front back → is_revocable (front ++ back) m ≡ true → f < m
+above_floor f k m front back h is = subst (λ x. x < m) (floor_is f k front back h) (parts_of (front ++ back) m is).above
+
+-- what is left where what is reached from behind the last cut goes
+pub left_behind : (f k m : ℕ) (front back : List Numbered) → AreParts f k front back → RiseFrom 1 (front ++ back) → f < m → front ++ without_reached m back ≡ without_reached m (front ++ back)
+left_behind f k m front back h rise lt =
+    let below = all_settled_below f m front lt h.settled in
+    let stays = front_stays m front back (rise_back 1 front back rise) below in
+    sym (ap (λ qs. rest (has qs) (front ++ back)) (reached_front m front back below) ∙ rest_front (has (reached back m)) front back stays)
+
+pub acts_behind : (f k m t : ℕ) (front back : List Numbered) → AreParts f k front back → RiseFrom 1 (front ++ back) → f < m → acts_in (has (reached back m)) t back ≡ acts_in (has (reached (front ++ back) m)) t (front ++ back)
+acts_behind f k m t front back h rise lt =
+    let below = all_settled_below f m front lt h.settled in
+    let stays = front_stays m front back (rise_back 1 front back rise) below in
+    sym (ap (λ qs. acts_in (has qs) t (front ++ back)) (reached_front m front back below) ∙ acts_front (has (reached back m)) t front back stays)
+
+pub lose_recent : (f k : ℕ) (front back : List Numbered) (gone : ℕ → Bool) → AreParts f k front back → AreParts f k front (rest gone back)
+lose_recent f k front back gone h = record { floor = h.floor; settled = h.settled; recent = all_rest (IsRecent f) gone back h.recent; prints = h.prints }
+
+entered_any : (m : ℕ) (ns : List Numbered) → list_any (λ (n : Numbered). nat_eq m n.seq.0 && is_enter n.label) ns ≡ is_entered m ns
+entered_any m [] = refl
+entered_any m (n ∷ ns) = ap (λ b. (nat_eq m n.seq.0 && is_enter n.label) || b) (entered_any m ns)
+
+pub no_entry : (f k m : ℕ) (front back : List Numbered) → AreParts f k front back → RiseFrom 1 (front ++ back) → f < m → list_any (λ (n : Numbered). nat_eq m n.seq.0 && is_enter n.label) back ≡ false → false ≡ is_revocable (front ++ back) m
+no_entry f k m front back h rise lt no_one = sym (revocable_is f k m front back h rise lt ∙ ap (λ b. b && not (has_pin (reached back m) back)) (sym (entered_any m back) ∙ no_one))
+
+-- what is found where the section was entered behind the last cut
+pub entry_pins : (f k m : ℕ) (front back goes : List Numbered) → AreParts f k front back → RiseFrom 1 (front ++ back) → f < m → list_any (λ (n : Numbered). nat_eq m n.seq.0 && is_enter n.label) back ≡ true
+    → goes ≡ rest (λ q. not (has (reached back m) q)) back → not (list_any (λ (n : Numbered). is_pin n.label) goes) ≡ is_revocable (front ++ back) m
+entry_pins f k m front back goes h rise lt one is =
+    ap (λ ns. not (list_any (λ (n : Numbered). is_pin n.label) ns)) is
+    ∙ ap not (pin_goes (reached back m) back)
+    ∙ ap (λ b. b && not (has_pin (reached back m) back)) (sym (sym (entered_any m back) ∙ one))
+    ∙ sym (revocable_is f k m front back h rise lt)
+
+-- the threads that act in what goes
+pub lost_acts : (f k m t : ℕ) (front back goes : List Numbered) → AreParts f k front back → RiseFrom 1 (front ++ back) → f < m
+    → goes ≡ rest (λ q. not (has (reached back m) q)) back → list_any (λ (n : Numbered). has (actors n.label) t) goes ≡ acts_in (has (reached (front ++ back) m)) t (front ++ back)
+lost_acts f k m t front back goes h rise lt is =
+    ap (list_any (λ (n : Numbered). has (actors n.label) t)) is ∙ acts_goes (has (reached back m)) t back ∙ acts_behind f k m t front back h rise lt
+
+-- what goes of a list that is the steps behind the last cut
+pub goes_at : (m : ℕ) (ns back goes : List Numbered) → ns ≡ back → goes ≡ rest (λ q. not (has (reached ns m) q)) ns → goes ≡ rest (λ q. not (has (reached back m) q)) back
+goes_at m ns back goes at is = is ∙ ap (λ l. rest (λ q. not (has (reached l m) q)) l) at

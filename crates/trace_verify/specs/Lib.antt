@@ -1,0 +1,6 @@
+pub mod Generations
+pub mod Parts
+pub mod Replayed
+pub mod Signs
+pub mod Surviving
+pub mod Verdict
