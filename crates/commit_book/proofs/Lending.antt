@@ -57,7 +57,7 @@ shown_requeued b run s threads queue is once shown =
         doing = doing_requeued (over p) (offered p) b.threads threads is shown.threads.doing;
         queue = once;
         offers = offers_requeued (offered p) b.threads threads b.offers is shown.threads.offers;
-        found = parked_requeued (RedexIsFound p) b.threads threads is shown.threads.found;
+        found = parked_requeued RedexIsFound b.threads threads is shown.threads.found;
       };
     }
 

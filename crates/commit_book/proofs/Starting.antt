@@ -141,7 +141,7 @@ start_threads job parts is = let p = job.program in let over_main = is_over (exp
     };
     one_side = λ c. inl (ap (λ o. (unwrap_or o nobody).sends) (ap (λ m. map.get m c) is.lines ∙ get-empty nat_cmp c));
   };
-  found = λ t. subst (λ (m : FinMap nat_cmp (Slot ControlView)). IfSome (map.get m t) (λ s. same_state Parked s.state ≡ true → RedexIsFound p s.control)) (sym is.threads) (only (λ s. same_state Parked s.state ≡ true → RedexIsFound p s.control) slot (not_parked (RedexIsFound p) is.main over_main) t);
+  found = λ t. subst (λ (m : FinMap nat_cmp (Slot ControlView)). IfSome (map.get m t) (λ s. same_state Parked s.state ≡ true → RedexIsFound s.control)) (sym is.threads) (only (λ s. same_state Parked s.state ≡ true → RedexIsFound s.control) slot (not_parked RedexIsFound is.main over_main) t);
 }
 
 pub start_shown : (job : JobParts) (parts : Parts) → IsStarted job.program parts → ShowsRun (view_of job parts) [] (start job.program)

@@ -93,7 +93,7 @@ pub record ShowsThreads (b : BookView) (s : PlainState) : Type 0 where
   pub doing : AreDoing (over b.job.program) (offered b.job.program) b.threads
   pub queue : IsQueueOf (is_ready_at b.threads) b.queue
   pub offers : AreOffers (offered b.job.program) b.threads b.offers
-  pub found : AllParked (RedexIsFound b.job.program) b.threads
+  pub found : AllParked RedexIsFound b.threads
 
 -- the book shows its history, the run of its steps that no undo took away, and the state in which that run ends
 pub record ShowsRun (b : BookView) (run : List Numbered) (s : PlainState) : Type 0 where
