@@ -10,7 +10,6 @@ pub mod Redexes
 pub mod Scopes
 pub mod Searching
 pub mod Shares
-pub mod Small
 pub mod Standing
 pub mod Stepping
 pub mod Turning
