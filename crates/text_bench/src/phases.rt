@@ -38,6 +38,7 @@ pub struct Took {
 }
 
 impl Took {
+    /// The time of both phases.
     pub fn all(self) -> u64 {
         self.lex.saturating_add(self.behind_tokens())
     }
@@ -56,6 +57,7 @@ impl Took {
     }
 }
 
+/// What a text has, read once.
 pub fn counted(alloc: Global, text: &str) -> io::Result<Counts> {
     let mut counts = Counts {
         tokens: 0,

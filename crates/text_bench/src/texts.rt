@@ -26,6 +26,7 @@ pub const KINDS: [Kind; 5] = [
 ];
 
 impl Kind {
+    /// The word by which the kind is asked for.
     pub fn name(self) -> &'static str {
         match self {
             Kind::Functions => "functions",
