@@ -11,3 +11,9 @@ pub use book::Book;
 pub use counts::Counts;
 pub use lease::Lease;
 pub use turn::Turn;
+
+fn crosses_threads<T: Send + Sync>(_value: &T) {}
+
+fn book_crosses_threads(book: &Book) {
+    crosses_threads(book);
+}

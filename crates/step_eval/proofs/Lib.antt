@@ -1,3 +1,4 @@
+pub mod Crossing
 pub mod Answering
 pub mod Arriving
 pub mod Asking

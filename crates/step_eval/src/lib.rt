@@ -27,3 +27,13 @@ pub use frame::Frame;
 pub use progress::{AdvanceRefused, Progress, advance};
 pub use rest::Rest;
 pub use site::Site;
+
+fn crosses_threads<T: Send + Sync>(_value: &T) {}
+
+fn control_crosses_threads(control: &Control) {
+    crosses_threads(control);
+}
+
+fn progress_crosses_threads(progress: &Progress) {
+    crosses_threads(progress);
+}
