@@ -8,6 +8,7 @@ mod effects;
 mod expr;
 mod given;
 mod head;
+mod instead;
 mod laws;
 mod look;
 mod moves;
