@@ -5,8 +5,6 @@ mod book;
 mod counts;
 mod lease;
 mod parts;
-#[cfg(test)]
-mod tests;
 mod turn;
 
 pub use book::Book;

@@ -8,7 +8,6 @@ mod effects;
 mod expr;
 mod given;
 mod head;
-mod instead;
 mod laws;
 mod look;
 mod moves;

@@ -3,4 +3,3 @@ pub mod Pieces
 pub mod Place
 pub mod Readings
 pub mod Steps
-pub mod Limits

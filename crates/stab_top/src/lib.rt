@@ -10,8 +10,6 @@ mod reason_line;
 mod report;
 mod running;
 #[cfg(test)]
-mod step_tests;
-#[cfg(test)]
 mod tests;
 #[cfg(test)]
 mod text_tests;
