@@ -36,8 +36,8 @@ pub enum Verdict {
     No(Seq, Why),
 }
 
-/// Replays a history on the machine of the plain language and judges it. Each step is played once, and after an undo again those
-/// that stand behind the last cut.
+/// Replays a history on the machine of the plain language and judges it. Each step is played once, at an undo again those that
+/// stand behind the last cut, and those up to it once more at most.
 pub fn verify(alloc: Global, job: &Job, history: &History) -> Result<Verdict, NoMemory>
     ensures { IfOk result (IsVerdict job.now.program job.now.script history.now) }
 {
