@@ -2,7 +2,7 @@
 ghost use Rattle.std.specs.Prelude.{◌≡◌, ◌++◌, OnOk, OnErr, decimal};
 ghost use Rattle.stab_base.specs.Datum.{datum_of};
 ghost use Rattle.stab_base.specs.Gain.{GainsPrefix};
-ghost use Rattle.stab_base.specs.Printed.{HasTexts, printed};
+ghost use Rattle.stab_base.specs.Printed.{printed};
 
 use crate::numbers::NoMemory;
 use crate::shape::Shape;
@@ -10,7 +10,6 @@ use crate::texts::Texts;
 use itoa::{Buffer, Integer};
 
 pub(crate) fn put_shape(shape: &Shape, texts: &Texts, out: &mut Vec<u8>) -> Result<(), NoMemory>
-    requires { HasTexts texts.now (datum_of shape.now) }
     ensures ok { OnOk result (out.new.items ≡ out.old.items ++ printed texts.now (datum_of shape.now)) }
     ensures err { OnErr result (GainsPrefix out.old.items out.new.items (printed texts.now (datum_of shape.now))) }
 {
@@ -19,7 +18,7 @@ pub(crate) fn put_shape(shape: &Shape, texts: &Texts, out: &mut Vec<u8>) -> Resu
         Shape::Truth(true) => put(out, b"true"),
         Shape::Truth(false) => put(out, b"false"),
         Shape::Int(n) => put_number(out, *n),
-        Shape::Text(t) => put(out, texts.get(*t).unwrap()),
+        Shape::Text(t) => put(out, texts.get(*t).unwrap_or(&[])),
         Shape::Chan(c) => put_named(out, b"chan ", c.0),
         Shape::Ref(r) => put_named(out, b"ref ", r.0),
         Shape::Pair(a, b) => {

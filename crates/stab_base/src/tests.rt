@@ -1,14 +1,10 @@
 //! Values as a program makes, compares, takes apart and prints them.
-ghost use Rattle.stab_base.specs.Printed.{HasTexts};
-
 use crate::{ChanId, Fault, MAX_DEPTH, MAX_LEAVES, PairFault, RefId, Shape, TextId, Texts, Value};
 use std::alloc::Global;
 use std::process::Abort;
 use std::test::Fail;
 
-fn shown(alloc: Global, texts: &Texts, value: Value) -> Result<Vec<u8>, Fail>
-    requires { HasTexts texts.now value }
-{
+fn shown(alloc: Global, texts: &Texts, value: Value) -> Result<Vec<u8>, Fail> {
     let mut out = Vec::from_slice(alloc, b"> ")?;
     value.put_text(texts, &mut out)?;
     Ok(out)
@@ -37,6 +33,8 @@ fn prints_each_form(rt: HostRuntime) -> Result<(), Fail> {
             shown(alloc, &none, Value::reference(RefId(4000000000)))?,
             "> ref 4000000000",
         ),
+        // A text that isn't there.
+        (shown(alloc, &none, Value::text(TextId(0)))?, "> "),
     ];
     for (form, want) in shown_forms {
         assert_eq!(rt; form.as_slice(), want.as_bytes());

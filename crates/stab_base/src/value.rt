@@ -4,7 +4,7 @@ ghost use Rattle.stab_base.specs.Datum.{Datum, unit, truth, int, text as text_da
 ghost use Rattle.stab_base.specs.Gain.{GainsPrefix};
 ghost use Rattle.stab_base.specs.Limits.{is_within_limits};
 ghost use Rattle.stab_base.specs.PairFault.{IsPairFault};
-ghost use Rattle.stab_base.specs.Printed.{HasTexts, printed};
+ghost use Rattle.stab_base.specs.Printed.{printed};
 
 use crate::numbers::{ChanId, NoMemory, RefId, TextId};
 use crate::print;
@@ -189,9 +189,9 @@ impl Value {
         }
     }
 
-    /// Appends the value as it is printed. Where memory gives out, some of it may be there.
+    /// Appends the value as it is printed; a text that isn't there is printed as nothing. Where memory gives out, some
+    /// of it may be there.
     pub fn put_text(&self, texts: &Texts, out: &mut Vec<u8>) -> Result<(), NoMemory>
-        requires { HasTexts texts.now self.now }
         ensures ok { OnOk result (out.new.items ≡ out.old.items ++ printed texts.now self.now) }
         ensures err { OnErr result (GainsPrefix out.old.items out.new.items (printed texts.now self.now)) }
     {
