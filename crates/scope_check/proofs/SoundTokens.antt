@@ -6,6 +6,7 @@ use Rattle.std.proofs.lemmas.List.{length-map}
 use Rattle.stab_lex.specs.declared.kind.Kind.{Kind}
 use Rattle.stab_lex.specs.declared.kind.Kind.TheVariants as kind
 use Rattle.stab_lex.specs.declared.token.Token.{Token}
+use Rattle.stab_lex.specs.Limits.{max_text}
 use Rattle.stab_lex.specs.Pieces.{IsText}
 use Rattle.stab_lex.specs.Readings.{InOrder, IsSlice}
 use Rattle.stab_lex.proofs.TextTokens.{texts_are_quoted}
@@ -59,5 +60,5 @@ few-forms tokens p len order is =
     let count : length tokens ≡ length (pieces_of p) = sym (length-map tokens sign_of) ∙ ap length is ∙ length-map (pieces_of p) sign_of_piece in
     omega (arith, few-program p [], few-tokens 0 tokens len order)
 
-pub few-nodes : (p : Program) (bytes : List ℕ) → length bytes ≤ 1048576 → length (nodes_of_program p) ≤ 2 * length bytes → length (nodes_of_program p) < 2 ^ 32
+pub few-nodes : (p : Program) (bytes : List ℕ) → length bytes ≤ max_text → length (nodes_of_program p) ≤ 2 * length bytes → length (nodes_of_program p) < 2 ^ 32
 few-nodes p bytes small few = omega arith

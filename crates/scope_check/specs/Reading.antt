@@ -1,6 +1,7 @@
 -- A tree that was read from a text.
 use Rattle.std.specs.Prelude.{ℕ, ◌≤◌, List, length}
 use Rattle.stab_lex.specs.declared.token.Token.{Token}
+use Rattle.stab_lex.specs.Limits.{max_text}
 use Rattle.stab_lex.specs.Readings.{Reads}
 use Rattle.stab_parse.specs.declared.tree.Tree.{Tree}
 use Rattle.stab_parse.specs.Faults.{IsParsed}
@@ -9,7 +10,7 @@ use Rattle.stab_parse.specs.Grammar.{Program}
 
 -- the bytes, of which there are so many at most, are read as tokens whose syntax is the tree's
 pub record IsReadFrom (bytes : List ℕ) (tree : Tree) : Type 0 where
-  pub small : length bytes ≤ 1048576
+  pub small : length bytes ≤ max_text
   pub tokens : List Token
   pub syntax : Program
   pub reads : Reads bytes tokens

@@ -2,6 +2,7 @@
 ghost use Rattle.std.specs.Prelude.{◌≡◌, ℕ, ◌≤◌, List, length, IfOk, encode_utf8_all};
 ghost use Rattle.stab_code.specs.Valid.{IsValid};
 ghost use Rattle.stab_lex.specs.declared.token.Token.{Token};
+ghost use Rattle.stab_lex.specs.Limits.{max_text};
 ghost use Rattle.stab_lex.specs.Pieces.{IsTextOf};
 ghost use Rattle.stab_lex.specs.Readings.{Reads};
 ghost use Rattle.stab_parse.specs.declared.symbol.Span.{Span};
@@ -12,7 +13,7 @@ ghost use Rattle.scope_check.specs.Scope.{program_scoped};
 
 /// The program that the definition gives for a text is one that can be run.
 pub fn programs_are_valid()
-    ensures { (bytes : List ℕ) (tokens : List Token) (p : Program) → length bytes ≤ 1048576 → Reads bytes tokens → IsParsed tokens p
+    ensures { (bytes : List ℕ) (tokens : List Token) (p : Program) → length bytes ≤ max_text → Reads bytes tokens → IsParsed tokens p
         → IfOk (program_scoped bytes p) IsValid }
 {}
 

@@ -1,5 +1,7 @@
 //! What is known of a program before its bodies are gone through, and what a function's name is.
 ghost use Rattle.std.specs.Prelude.{◌≡◌, ◌<◌, ◌≤◌, ◌^◌, [], Ok, Err, IfOk, IfErr, map, length, slice_get};
+ghost use Rattle.stab_lex.specs.Limits.{max_text};
+ghost use Rattle.scope_check.specs.Limits.{max_functions};
 ghost use Rattle.scope_check.specs.Places.{part_lists};
 ghost use Rattle.scope_check.specs.Progress.{AreWithin};
 ghost use Rattle.scope_check.specs.Scope.{callee_of, function_named, has_arity, main_of, names_of};
@@ -22,9 +24,9 @@ pub struct Plan<'a> {
     pub forms: &'a [FormNode],
     pub parts: PartLists,
     ghost named: { map (λ name. name.now) names.keys ≡ names_of bytes.now functions.now },
-    ghost few: { length functions.now ≤ 1000 },
+    ghost few: { length functions.now ≤ max_functions },
     ghost within: { AreWithin (length forms.now) functions.now },
-    ghost small: { length bytes.now ≤ 1048576 },
+    ghost small: { length bytes.now ≤ max_text },
     ghost fewer: { length forms.now < 2 ^ 32 },
     ghost laid: { parts ≡ part_lists 0 [] forms.now },
 }

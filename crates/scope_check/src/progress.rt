@@ -1,5 +1,6 @@
 //! What was made and met so far, going through a program's bodies.
 ghost use Rattle.std.specs.Prelude.{◌≤◌, length};
+ghost use Rattle.scope_check.specs.Limits.{max_lets, max_texts};
 
 use crate::seen::Variable;
 use indexmap::IndexSet;
@@ -13,6 +14,6 @@ pub struct Progress {
     pub texts: IndexSet<Vec<u8>>,
     pub seen: Vec<Variable>,
     pub lets: usize,
-    ghost few_lets: { lets ≤ 200 },
-    ghost few_texts: { length texts.keys ≤ 1000 },
+    ghost few_lets: { lets ≤ max_lets },
+    ghost few_texts: { length texts.keys ≤ max_texts },
 }

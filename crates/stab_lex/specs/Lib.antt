@@ -3,3 +3,4 @@ pub mod Pieces
 pub mod Place
 pub mod Readings
 pub mod Steps
+pub mod Limits

@@ -1,5 +1,6 @@
 ghost use Rattle.std.specs.Prelude.{◌≡◌, ℕ, ◌<◌, ◌≤◌, List, [], ◌∷◌, ◌++◌, length, IfOk, IfErr, OnSome, MatchOption, encode_utf8_all};
 ghost use Rattle.std.specs.String.{string_bytes};
+ghost use Rattle.stab_lex.specs.Limits.{max_text};
 ghost use Rattle.stab_lex.specs.Pieces.{escaped, IsTextOf, IsText};
 
 use crate::cursor::Cursor;
@@ -9,7 +10,7 @@ use std::str;
 
 /// The characters that a text stands for, from its bytes in the source with both quotes.
 pub fn characters(alloc: Global, literal: &[u8]) -> Result<String, LexFault>
-    requires small { length literal.now ≤ 1048576 }
+    requires small { length literal.now ≤ max_text }
     requires text { IsText literal.now }
     ensures characters { IfOk result (λ text. (cs : List ℕ) → IsTextOf literal.now cs
         → string_bytes text ≡ encode_utf8_all cs) }

@@ -1,6 +1,7 @@
 ghost use Rattle.std.specs.Prelude.{◌≡◌, ◌≤◌, ◌^◌, ◌++◌, ◌⊎◌, length, IfOk, IfErr, OnOk};
 ghost use Rattle.std.specs.List.{AllByRecursion};
 ghost use Rattle.std.specs.Str.{IsUtf8};
+ghost use Rattle.stab_lex.specs.Limits.{max_text};
 ghost use Rattle.stab_lex.specs.Readings.{Reads, HasFault, InOrder, IsSlice, IsBlocked, token_of};
 
 use crate::cursor::Cursor;
@@ -12,7 +13,7 @@ use std::str;
 
 /// The tokens of a program's text, in order.
 pub fn lex(alloc: Global, bytes: &[u8]) -> Result<Vec<Token>, LexFault>
-    requires { length bytes.now ≤ 1048576 }
+    requires { length bytes.now ≤ max_text }
     ensures read { IfOk result (λ tokens. Reads bytes.now tokens.items) }
     ensures fault { IfErr result (λ fault. (fault ≡ LexFault.NoMemory) ⊎ HasFault bytes.now fault) }
 
@@ -27,7 +28,7 @@ pub fn lex(alloc: Global, bytes: &[u8]) -> Result<Vec<Token>, LexFault>
 }
 
 fn text_tokens(alloc: Global, text: &str) -> Result<Vec<Token>, LexFault>
-    requires { length text.now ≤ 1048576 }
+    requires { length text.now ≤ max_text }
     ensures read { IfOk result (λ tokens. Reads text.now tokens.items) }
     ensures fault { IfErr result (λ fault. (fault ≡ LexFault.NoMemory) ⊎ IsBlocked text.now fault) }
 {

@@ -3,6 +3,7 @@ use Rattle.std.proofs.Common.{◌≡◌, ◌≤◌, ◌⊎◌, inl, inr, ℕ, Li
 use Rattle.std.specs.Prelude.{Ok, Err}
 use Rattle.stab_code.specs.Program.{ProgramParts}
 use Rattle.stab_lex.specs.declared.token.Token.{Token}
+use Rattle.stab_lex.specs.Limits.{max_text}
 use Rattle.stab_lex.specs.Readings.{Reads}
 use Rattle.stab_parse.specs.declared.tree.Tree.{Tree}
 use Rattle.stab_parse.specs.Faults.{IsParsed}
@@ -16,7 +17,7 @@ use Rattle.stab_text.specs.declared.fault.TextFault.TheVariants.{Scope}
 use Rattle.stab_text.specs.Text.{HasFault, IsNoMemory, IsTextOf}
 
 -- the tree of the tokens of the bytes was read from the bytes
-pub read_from : (bytes : List ℕ) (tokens seen : List Token) (tree : Tree) → length bytes ≤ 1048576 → Reads bytes tokens → seen ≡ tokens → (p : Program) × IsParsed seen p × IsTreeOf tree p → IsReadFrom bytes tree
+pub read_from : (bytes : List ℕ) (tokens seen : List Token) (tree : Tree) → length bytes ≤ max_text → Reads bytes tokens → seen ≡ tokens → (p : Program) × IsParsed seen p × IsTreeOf tree p → IsReadFrom bytes tree
 read_from bytes tokens seen tree small reads same parsed =
     record { small = small; tokens = tokens; syntax = parsed.0; reads = reads; parsed = subst (λ ts. IsParsed ts parsed.0) same parsed.1; is_tree = parsed.2 }
 

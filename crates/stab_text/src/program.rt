@@ -1,5 +1,6 @@
 //! Reading programs.
 ghost use Rattle.std.specs.Prelude.{◌≤◌, ◌⊎◌, length, IfOk, IfErr};
+ghost use Rattle.stab_lex.specs.Limits.{max_text};
 ghost use Rattle.stab_text.specs.Text.{HasFault, IsNoMemory, IsTextOf};
 
 use crate::fault::TextFault;
@@ -13,7 +14,7 @@ use std::alloc::Global;
 /// mean nothing. It takes time that grows with the length of the text. Calls go as deep as forms and types stand in each other,
 /// at most 200, and else nothing of it recurses on the text.
 pub fn read_program(alloc: Global, bytes: &[u8]) -> Result<Program, TextFault>
-    requires { length bytes.now ≤ 1048576 }
+    requires { length bytes.now ≤ max_text }
     ensures program { IfOk result (IsTextOf bytes.now) }
     ensures fault { IfErr result (λ fault. IsNoMemory fault ⊎ HasFault bytes.now fault) }
 {
