@@ -1,6 +1,6 @@
 -- A book shows its start.
 use Rattle.std.proofs.Common.{◌≡◌, inl, ℕ, zero, suc, ◌+◌, max, ℤ, Bool, true, false, cond, nat_eq, List, [], ◌∷◌, ◌++◌, length, Option, Some, None, refl, sym, ap, subst, ◌∙◌, arith}
-use Rattle.std.specs.Prelude.{IfSome, count_by, is_some, option_and_then, option_map, slice_get, unwrap_or, nat_lt, if◌then◌else◌}
+use Rattle.std.specs.Prelude.{IfSome, IsSomeAnd, count_by, is_some, option_and_then, option_map, slice_get, unwrap_or, nat_lt, if◌then◌else◌}
 use Rattle.std.specs.List.{IsDistinct}
 use Rattle.std.specs.Option.{option_map_or}
 use Rattle.std.specs.Ordering.{nat_cmp}
@@ -146,6 +146,12 @@ start_threads job parts is = let p = job.program in let over_main = is_over (exp
 
 pub start_shown : (job : JobParts) (parts : Parts) → IsStarted job.program parts → ShowsRun (view_of job parts) [] (start job.program)
 start_shown job parts is = record { journal = start_journal job parts is; threads = start_threads job parts is }
+
+pub start_main : (job : JobParts) (parts : Parts) → IsStarted job.program parts → IsSomeAnd (map.get parts.slots.threads 1) (λ slot. slot ≡ started slot.control (over job.program slot.control))
+start_main job parts is =
+    let slot = started is.main (is_over (expr_of job.program is.main)) in
+    subst (λ (o : Option (Slot ControlView)). IsSomeAnd o (λ slot. slot ≡ started slot.control (over job.program slot.control)))
+        (sym (ap (λ m. map.get m 1) is.threads ∙ get_inserted map.empty 1 slot 1)) refl
 
 pub start_tallied : (p : ProgramParts) (parts : Parts) → IsStarted p parts → AreTallied p parts
 start_tallied p parts is = record {

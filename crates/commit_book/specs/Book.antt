@@ -1,5 +1,5 @@
 -- A book, and what it shows.
-use Rattle.std.specs.Prelude.{◌≡◌, ℕ, Bool, List, [], Option, Some, None, option_and_then}
+use Rattle.std.specs.Prelude.{◌≡◌, ℕ, Bool, List, [], Option, Some, None, IsSomeAnd, option_and_then}
 use Rattle.std.specs.Ordering.{nat_cmp}
 use Rattle.std.specs.FinMap as map
 use Rattle.std.specs.FinMap.{FinMap}
@@ -11,7 +11,7 @@ use Rattle.stab_code.specs.Program.{ProgramParts}
 use Rattle.stab_journal.specs.declared.event.Numbered.{Numbered}
 use Rattle.stab_journal.specs.Journal.{Journal}
 use Rattle.stab_journal.specs.Script.{FollowsScript}
-use Rattle.thread_slots.specs.Slot.{Slot, is_ready_at}
+use Rattle.thread_slots.specs.Slot.{Slot, started, is_ready_at}
 use Rattle.thread_slots.specs.Ready.{IsQueueOf}
 use Rattle.rendezvous.specs.declared.offer.Offer.{Offer}
 use Rattle.rendezvous.specs.Line.{Seen}
@@ -106,10 +106,12 @@ pub record IsShown (b : BookView) : Type 0 where
   pub state : PlainState
   pub shows : ShowsRun b run state
 
--- the book before its first event
+-- the book before its first event: thread 1 is as a new thread is, Ready, or Ended where its body is over
 pub record IsAtStart (b : BookView) : Type 0 where
   pub events : b.history.events ≡ []
   pub shows : ShowsRun b [] (start b.job.program)
+  pub main : IsSomeAnd (map.get b.threads 1) (λ slot. slot ≡ started slot.control (over b.job.program slot.control))
+  pub answered : b.answered ≡ record { commits = 0; stale = 0 }
 
 -- with which fault a thread has ended, if it is there and did so with one
 abbrev pub failed_with : Expr → Option Fault

@@ -39,6 +39,11 @@ choice_of b =
     else (if nat_le b.job.fuel (weight_of b.history.events) then choice.Spent
     else first_ready b.queue))
 
+-- whether a thread is to be lent
+abbrev pub Lends : Choice → Type 0
+Lends (choice.Work t) = Unit {0}
+Lends _ = ⊥
+
 -- the book once the thread t has another state and the queue is this one
 abbrev pub requeued : BookView → FinMap nat_cmp (Slot ControlView) → List ℕ → BookView
 requeued b threads queue = record b { threads = threads; queue = queue }

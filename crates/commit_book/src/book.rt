@@ -5,7 +5,7 @@ ghost use Rattle.stab_journal.specs.Event.{IsWorker};
 ghost use Rattle.commit_book.specs.Book.{IsShown, IsAtStart, fault_at};
 ghost use Rattle.commit_book.specs.Counts.{AreCounts};
 ghost use Rattle.commit_book.specs.Layout.{without_room};
-ghost use Rattle.commit_book.specs.Turns.{choice_of, IsTurn, IsWork, RestsIfQuiet, given_back, IsRecalled};
+ghost use Rattle.commit_book.specs.Turns.{choice_of, IsTurn, IsWork, Lends, RestsIfQuiet, given_back, IsRecalled};
 ghost use Rattle.commit_book.specs.declared.turn.Choice.TheVariants as choice;
 
 use crate::counts::Counts;
@@ -132,12 +132,13 @@ impl Book {
         }
     }
 
-    /// What a worker gets to do next.
+    /// What a worker gets to do next. Only to lend a thread takes memory.
     pub fn lease(&mut self, worker: u32) -> Result<Turn, NoMemory>
         requires { IsWorker worker }
         ensures turn { IfOk result (IsTurn self.old self.new worker) }
         ensures rests { IfOk result (RestsIfQuiet self.old) }
         ensures err { OnErr result (self.new ≡ self.old) }
+        ensures memory { OnErr result (Lends (choice_of self.old)) }
         ensures shown { IsShown self.new }
     {
         match self.choice() {

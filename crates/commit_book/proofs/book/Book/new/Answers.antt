@@ -1,7 +1,7 @@
-use Rattle.std.proofs.Common.{subst, ◌∙◌}
+use Rattle.std.proofs.Common.{ap, subst, ◌∙◌}
 use Rattle.stab_code.specs.Program.{ProgramParts}
 use Rattle.commit_book.specs.Started.{IsStarted}
-use Rattle.commit_book.proofs.Starting.{start_kept, start_shown}
+use Rattle.commit_book.proofs.Starting.{start_kept, start_main, start_shown}
 use Rattle.commit_book.proofs.book.Book.new.Goals as goal
 
 pub invariant_of-result : goal.invariant_of-result
@@ -13,4 +13,9 @@ returns-clause-shown c = (start_kept c.args.job c.in_ok-parts.parts (subst (λ (
 pub returns-clause-start : goal.returns-clause-start
 returns-clause-start c =
     let started = subst (λ (p : ProgramParts). IsStarted p c.in_ok-parts.parts) (c.deref.ensures ∙ c.program.ensures.value) c.in_ok-parts.ensures in
-    record { events = started.events; shows = start_shown c.args.job c.in_ok-parts.parts started }
+    record {
+      events = started.events;
+      shows = start_shown c.args.job c.in_ok-parts.parts started;
+      main = start_main c.args.job c.in_ok-parts.parts started;
+      answered = ap (λ t. record { commits = t.commits; stale = t.stale }) started.tallies;
+    }
