@@ -1,24 +1,21 @@
 -- What is left of a block, and the parts that wait.
-use Rattle.std.proofs.Common.{◌≡◌, ℕ, suc, Bool, true, false, cond, ◌&&◌, nat_eq, List, [], ◌∷◌, length, take, drop, get_or, Option, Some, refl, sym, ap, ◌∙◌, arith}
-use Rattle.std.proofs.lemmas.Bool.Decides.{nat_tests}
+use Rattle.std.proofs.Common.{◌≡◌, ℕ, Bool, true, false, cond, nat_eq, List, [], ◌∷◌, length, take, drop, get_or, Option, Some, refl, sym, ap, ◌∙◌, arith}
 use Rattle.std.specs.Prelude.{option_and_then}
 use Rattle.stab_base.specs.Datum.{Datum}
 use Rattle.stab_base.specs.declared.fault.Fault.TheVariants.{WrongKind}
-use Rattle.plain_language.specs.declared.head.Head.TheVariants.{Block}
 use Rattle.plain_language.specs.declared.given.Given.TheVariants.{Nothing}
-use Rattle.plain_language.specs.Expression.{Expr, value, variable, failed, form, Parts, parts_of, put, put_parts}
+use Rattle.plain_language.specs.declared.head.Head.TheVariants.{Block}
+use Rattle.plain_language.specs.Expression.{Expr, value, variable, failed, form, Parts, none, part, parts_of, put}
 use Rattle.plain_language.specs.Busy.{values_in, waiting_parts}
 use Rattle.plain_language.specs.Given.{given_to, value_of}
 use Rattle.plain_language.specs.Operands.{one_of, truth_of}
+use Rattle.plain_language.specs.Pures.{left_of}
 use Rattle.plain_language.specs.Outcome.{Outcome, becomes, fails, with_one, with_truth, after_item, block_of, branch_of, waiting_one}
 use Rattle.plain_language.proofs.Operands.{with_truth-some}
-use Rattle.plain_language.proofs.Putting.{put-nothing, put_parts-nothing}
+use Rattle.plain_language.proofs.Putting.{put-nothing}
 
 pub put-given_nothing : (e : Expr) → put (given_to Nothing) e ≡ e
 put-given_nothing e = put-nothing e
-
-pub put_parts-given_nothing : (ps : Parts) → put_parts (given_to Nothing) ps ≡ ps
-put_parts-given_nothing ps = put_parts-nothing ps
 
 pub waiting_two : (es : List Expr) (d : Expr) → length es ≡ 2 → becomes (get_or es 1 d) ≡ waiting_one (parts_of (drop 1 es))
 waiting_two [] d h = absurd (omega arith)
@@ -61,27 +58,25 @@ pub branched_wrong : (es : List Expr) (b : Bool) → Some b ≡ option_and_then 
 branched_wrong es b h size = not_three b es size ∙ sym (branch_by (values_in (take 1 es)) (λ c. branch_of c (parts_of (drop 1 es))) b h)
 
 -- what is left of a block
-one_is : (n : ℕ) → nat_eq (suc (suc n)) 1 ≡ true → ⊥
-one_is n h = grind (arith, nat_tests)
+pub block_of-left : (slots : List (Option ℕ)) (ps : Parts) → block_of slots ps ≡ becomes (left_of slots ps)
+block_of-left [] none = refl
+block_of-left [] (part e none) = refl
+block_of-left [] (part e (part x ps)) = refl
+block_of-left (s ∷ slots) ps = refl
 
-none_is : (n : ℕ) → nat_eq (suc n) 0 ≡ true → ⊥
-none_is n h = grind (arith, nat_tests)
+empty_is : (b : Bool) → b ≡ nat_eq 0 0 → b ≡ false → ⊥
+empty_is b is h = cc
 
-and_left : (a b : Bool) → (a && b) ≡ true → a ≡ true
-and_left true b h = refl
-and_left false b h = h
+-- more than the last part is left
+pub left_many : (slots : List (Option ℕ)) (ps : List Expr) → (length ps ≡ 1 → ⊥) → form (Block slots) (parts_of ps) ≡ left_of slots (parts_of ps)
+left_many [] [] h = refl
+left_many [] (e ∷ []) h = absurd (h refl)
+left_many [] (e ∷ x ∷ es) h = refl
+left_many (s ∷ slots) ps h = refl
 
-pub left_last : (f : ℕ → Option Datum) (slots : List (Option ℕ)) (es : List Expr) (d : Expr) → (nat_eq (length slots) 0 && nat_eq (length es) 1) ≡ true → becomes (put f (get_or es 0 d)) ≡ block_of slots (put_parts f (parts_of es))
-left_last f [] [] d h = absurd (cc)
-left_last f [] (e ∷ []) d h = refl
-left_last f [] (e ∷ x ∷ es) d h = absurd (one_is (length es) h)
-left_last f (s ∷ slots) es d h = absurd (none_is (length slots) (and_left _ _ h))
-
-pub left_more : (f : ℕ → Option Datum) (slots : List (Option ℕ)) (es : List Expr) → (nat_eq (length slots) 0 && nat_eq (length es) 1) ≡ false → becomes (form (Block slots) (put_parts f (parts_of es))) ≡ block_of slots (put_parts f (parts_of es))
-left_more f [] [] h = refl
-left_more f [] (e ∷ []) h = absurd (cc)
-left_more f [] (e ∷ x ∷ es) h = refl
-left_more f (s ∷ slots) es h = refl
+pub left_items : (slots : List (Option ℕ)) (ps : List Expr) (b : Bool) → b ≡ nat_eq (length slots) 0 → b ≡ false → form (Block slots) (parts_of ps) ≡ left_of slots (parts_of ps)
+left_items [] ps b is h = absurd (empty_is b is h)
+left_items (s ∷ slots) ps b is h = refl
 
 -- the first item, which has a value
 item_by : (w v : Datum) (slot : Option ℕ) (left : List (Option ℕ)) (rest : List Expr) → w ≡ v → with_one (values_in (take 1 (value w ∷ rest))) (λ u. after_item (slot ∷ left) u (parts_of rest)) ≡ after_item (slot ∷ left) v (parts_of rest)

@@ -3,9 +3,12 @@ use Rattle.std.proofs.Common.{◌≡◌, ℕ, ◌+◌, ◌<◌, Bool, true, fals
 use Rattle.std.specs.Prelude.{option_map, nat_lt, ◌-◌}
 use Rattle.std.proofs.lemmas.Bool.{false≢true}
 use Rattle.std.proofs.lemmas.Bool.Decides.{nat_tests}
+use Rattle.plain_language.specs.declared.instead.Instead.{Instead}
+use Rattle.plain_language.specs.declared.instead.Instead.TheVariants.{Put, Pass}
 use Rattle.plain_language.specs.declared.head.Head.{Head}
 use Rattle.plain_language.specs.Expression.{Expr, form, part, parts_of}
 use Rattle.plain_language.specs.Redex.{first_counts_alone, Frame, after_values, within, Redex, redex, frames_of, rebuild, section_or}
+use Rattle.plain_language.specs.Pures.{changed}
 use Rattle.plain_language.specs.Size.{size_of}
 use Rattle.plain_language.specs.Busy.{busy_at, IsRedexOf, passes, innermost_or, mark_or}
 use Rattle.plain_language.proofs.Finding.{some_is, deeper, frame_at, found, redex_busy}
@@ -57,6 +60,11 @@ not_zero n h = grind (arith, nat_tests)
 
 pub never_below : (n : ℕ) → nat_lt n 0 ≡ false
 never_below n = grind (arith, nat_tests)
+
+changed-deeper : (c : Instead) (fs : List Frame) (o : Option Redex) → changed c (option_map (deeper fs) o) ≡ changed c o
+changed-deeper (Put r) fs o = refl
+changed-deeper (Pass slots) fs None = refl
+changed-deeper (Pass slots) fs (Some r) = refl
 
 -- the redex of the whole is in this part
 pub record IsPart (whole : Expr) (h : Head) (es : List Expr) (i : ℕ) (inner : Expr) : Type 0 where
@@ -116,3 +124,7 @@ module _ {whole : Expr} {h : Head} {es : List Expr} {i : ℕ} {inner : Expr} (p 
 
   pub redex_inside : IsSome (redex whole) → IsSome (redex inner)
   redex_inside there = some_by (frame_at h es i) (redex inner) (subst (λ (o : Option Redex). IsSome o) inner_redex there)
+
+  -- what comes in place of the redex
+  pub changed_inside : (c : Instead) → changed c (redex inner) ≡ changed c (redex whole)
+  changed_inside c = sym (ap (changed c) inner_redex ∙ changed-deeper c (frame_at h es i ∷ []) (redex inner))

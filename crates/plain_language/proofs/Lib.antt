@@ -11,6 +11,7 @@ pub mod Maps
 pub mod Marking
 pub mod Onto
 pub mod Operands
+pub mod Progressing
 pub mod Putting
 pub mod Ranges
 pub mod Resting

@@ -19,6 +19,7 @@ pub mod Parts
 pub mod Plain
 pub mod Plays
 pub mod Program
+pub mod Progress
 pub mod Pures
 pub mod Quiet
 pub mod Redex

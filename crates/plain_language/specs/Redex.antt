@@ -68,9 +68,13 @@ rebuild e r = within (frames e) r
 abbrev pub spine : Expr → ℕ
 spine e = length (frames e)
 
--- an expression with more than 1,000 forms round its redex fails
+-- so many forms may stand round a redex
+abbrev pub max_spine : ℕ
+max_spine = 1000
+
+-- an expression with more forms round its redex fails
 abbrev pub cap : Expr → Expr
-cap e = if nat_lt 1000 (spine e) then failed TooDeep else e
+cap e = if nat_lt max_spine (spine e) then failed TooDeep else e
 
 abbrev pub section_or : Head → Option ℕ → Option ℕ
 section_or (Section m) outer = Some m.0

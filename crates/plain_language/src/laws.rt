@@ -12,6 +12,7 @@ ghost use Rattle.stab_journal.specs.declared.event.Label.{Label};
 ghost use Rattle.plain_language.specs.Expression.{Expr as Expression};
 ghost use Rattle.plain_language.specs.Frames.{AreFrames, IsRedexItself};
 ghost use Rattle.plain_language.specs.Plain.{PlainState, language_of, plain_step};
+ghost use Rattle.plain_language.specs.Progress.{HasRoom};
 ghost use Rattle.plain_language.specs.Quiet.{IsQuiet};
 ghost use Rattle.plain_language.specs.Redex.{Frame, Redex, redex, within};
 ghost use Rattle.plain_language.specs.Sample.{numbers, places, sample};
@@ -30,6 +31,11 @@ pub fn one_redex()
 /// A quiet state has no step, whatever its number and its label.
 pub fn quiet_states_rest()
     ensures { (p : ProgramParts) (s : PlainState) → IsQuiet (language_of p) s → (q : ℕ) (l : Label) → plain_step p s q l ≡ None }
+{}
+
+/// A state without a step is quiet, where its threads read and set references that are there and a number is free.
+pub fn states_without_steps_are_quiet()
+    ensures { (p : ProgramParts) (s : PlainState) (n : ℕ) → HasRoom (language_of p) s n → ((q : ℕ) (l : Label) → plain_step p s q l ≡ None) → IsQuiet (language_of p) s }
 {}
 
 /// A step changes nothing but what its label names.

@@ -8,6 +8,7 @@ mod effects;
 mod expr;
 mod given;
 mod head;
+mod instead;
 mod laws;
 mod look;
 mod moves;
@@ -26,7 +27,7 @@ pub use expr::Expr;
 pub use head::Head;
 pub use laws::{
     counts_of_a_history, one_redex, quiet_states_rest, shown_text_is_determined,
-    steps_change_what_they_name,
+    states_without_steps_are_quiet, steps_change_what_they_name,
 };
 pub use look::{ActKind, Look};
 pub use operators::{negated, number_of, operate};

@@ -5,7 +5,7 @@ ghost use Rattle.plain_language.specs.Acts.{HasValues, act_in, act_of};
 ghost use Rattle.plain_language.specs.Expression.{Expr as Expression, form, none, part};
 ghost use Rattle.plain_language.specs.Look.{answered, entered, language, look};
 ghost use Rattle.plain_language.specs.Next.{IsNext};
-ghost use Rattle.plain_language.specs.Pures.{made_of};
+ghost use Rattle.plain_language.specs.Pures.{made_in, waiting_in};
 ghost use Rattle.plain_language.specs.Program.{body};
 ghost use Rattle.plain_language.specs.Redex.{cap, redex};
 ghost use Rattle.plain_language.specs.Seen.{kind_of, seen};
@@ -14,7 +14,8 @@ ghost use Rattle.plain_language.specs.Table.{pure_of, pure_steps};
 use crate::act::{Act, act_at};
 use crate::expr::{Expr, Node};
 use crate::head::Head;
-use crate::pure::{Pure, pure_at};
+use crate::instead::Instead;
+use crate::pure::{Next, Pure, next_at};
 use stab_base::{Fault, NoMemory, Seq, Value};
 use stab_code::Program;
 use std::alloc::Global;
@@ -119,16 +120,16 @@ impl Expr {
     }
 
     /// What the redex makes, where there is one and it is no act.
-    fn next_pure(&self, alloc: Global, program: &Program) -> Result<Option<Pure>, NoMemory>
+    fn next_pure(&self, alloc: Global, program: &Program) -> Result<Option<Next>, NoMemory>
         ensures { IfOk result (λ o. MatchOption o (pure_of (language (body program.now)) (look (body program.now) self.now) ≡ None)
-            (λ p. IsNext (body program.now) self.now (made_of p))) }
+            (λ n. IsNext (body program.now) self.now (made_in (waiting_in (redex self.now)) n))) }
     {
         let Some((head, parts)) = self.redex() else {
             return Ok(None);
         };
         match act_at(head, parts) {
             Some(_act) => Ok(None),
-            None => Ok(Some(pure_at(alloc, program, head, parts)?)),
+            None => Ok(Some(next_at(alloc, program, head, parts)?)),
         }
     }
 
@@ -138,8 +139,9 @@ impl Expr {
     {
         match self.next_pure(alloc, program)? {
             None => Ok(None),
-            Some(Pure::Fails(k)) => Ok(Some(Expr::fault(k))),
-            Some(Pure::Becomes(r)) => Ok(Some(self.rebuilt(r).capped())),
+            Some(Next::Makes(Pure::Fails(k))) => Ok(Some(Expr::fault(k))),
+            Some(Next::Makes(Pure::Becomes(r))) => Ok(Some(self.rebuilt(Instead::Put(r)).capped())),
+            Some(Next::Passes(slots)) => Ok(Some(self.rebuilt(Instead::Pass(slots)).capped())),
         }
     }
 
@@ -168,7 +170,7 @@ impl Expr {
         ensures { IfOk result (λ e. e ≡ answered self.now v) }
     {
         let copy = self.copy(alloc)?;
-        Ok(copy.rebuilt(Expr::value(v)).capped())
+        Ok(copy.rebuilt(Instead::Put(Expr::value(v))).capped())
     }
 
     /// The expression with a body in place of its redex, in the section entered at a number.
@@ -177,7 +179,10 @@ impl Expr {
         ensures { IfOk result (λ e. e ≡ entered self.now m.0 body) }
     {
         let copy = self.copy(alloc)?;
-        Ok(copy.rebuilt(section(alloc, m, body)?).capped())
+        Ok(
+            copy.rebuilt(Instead::Put(section(alloc, m, body)?))
+                .capped(),
+        )
     }
 }
 

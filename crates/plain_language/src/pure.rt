@@ -10,13 +10,14 @@ ghost use Rattle.stab_code.specs.declared.head.Op.TheVariants.{Or, And};
 ghost use Rattle.plain_language.specs.Acts.{told};
 ghost use Rattle.plain_language.specs.Program.{body};
 ghost use Rattle.plain_language.specs.Redex.{first_counts_alone};
-ghost use Rattle.plain_language.specs.Pures.{made_of};
+ghost use Rattle.plain_language.specs.Pures.{made_in, made_of};
 
 use crate::act::{one, two};
 use crate::body::called;
 use crate::expr::{Expr, put_copies};
 use crate::given::Given;
 use crate::head::Head;
+use crate::instead::left;
 use crate::operators::{negated, number_of, operate};
 use stab_base::{Fault, NoMemory, PairFault, Shape, Value};
 use stab_code::{Op, Program, Slots};
@@ -27,6 +28,13 @@ use std::alloc::Global;
 pub(crate) enum Pure {
     Becomes(Expr),
     Fails(Fault),
+}
+
+/// What a redex that is no act makes, or that it is a block whose first item is passed, with the slots of the others.
+#[derive(Drop)]
+pub(crate) enum Next {
+    Makes(Pure),
+    Passes(Slots),
 }
 
 /// The truth value that a value is, if it is one.
@@ -55,47 +63,27 @@ fn wrong_kind() -> Pure
 }
 
 /// The next step of a block, whose first item is a value.
-fn item(alloc: Global, slots: &[Option<u32>], parts: &[Expr]) -> Result<Pure, NoMemory>
+fn item(alloc: Global, slots: &[Option<u32>], parts: &[Expr]) -> Result<Next, NoMemory>
     requires { busy_at true parts.now ≡ None }
-    ensures { IfOk result (λ p. made_of p ≡ with_one (counted true parts.now) (λ v. after_item slots.now v (waiting_parts true parts.now))) }
+    ensures { let waiting = waiting_parts true parts.now in IfOk result (λ n. made_in waiting n ≡ with_one (counted true parts.now) (λ v. after_item slots.now v waiting)) }
 {
     let Some((first, rest)) = parts.split_first() else {
-        return Ok(wrong_kind());
+        return Ok(Next::Makes(wrong_kind()));
     };
     let Some(v) = first.as_value() else {
-        return Ok(wrong_kind());
+        return Ok(Next::Makes(wrong_kind()));
     };
-    let Some((slot, left)) = slots.split_first() else {
-        return Ok(wrong_kind());
+    let Some((slot, others)) = slots.split_first() else {
+        return Ok(Next::Makes(wrong_kind()));
     };
+    let slots = Slots::new(Vec::from_slice(alloc, others)?);
     match slot {
-        Some(x) => left_of_block(alloc, left, rest, Given::One(*x, v)),
-        None => left_of_block(alloc, left, rest, Given::Nothing),
+        Some(x) => {
+            let parts = put_copies(alloc, rest, Given::One(*x, v))?;
+            Ok(Next::Makes(Pure::Becomes(left(slots, parts))))
+        }
+        None => Ok(Next::Passes(slots)),
     }
-}
-
-/// What is left of a block.
-fn left_of_block(
-    alloc: Global,
-    slots: &[Option<u32>],
-    parts: &[Expr],
-    given: Given<'_>,
-) -> Result<Pure, NoMemory>
-    ensures { IfOk result (λ p. made_of p ≡ block_of slots.now (put_parts (given_to given.entry) (parts_of parts.now))) }
-{
-    if is_last(slots, parts) {
-        Ok(Pure::Becomes(parts[0].put_copy(alloc, given)?))
-    } else {
-        let head = Head::Block(Slots::new(Vec::from_slice(alloc, slots)?));
-        Ok(Pure::Becomes(Expr::form(head, put_copies(alloc, parts, given)?)))
-    }
-}
-
-/// Whether the last expression of a block is all that is left.
-fn is_last(slots: &[Option<u32>], parts: &[Expr]) -> bool
-    ensures { result ≡ (nat_eq (length slots.now) 0 && nat_eq (length parts.now) 1) }
-{
-    slots.is_empty() && parts.len() == 1
 }
 
 /// The one part that waits.
@@ -239,30 +227,30 @@ fn left_section(alloc: Global, parts: &[Expr]) -> Result<Pure, NoMemory>
 }
 
 /// What a redex that is no act makes.
-pub(crate) fn pure_at(
+pub(crate) fn next_at(
     alloc: Global,
     program: &Program,
     head: &Head,
     parts: &[Expr],
-) -> Result<Pure, NoMemory>
+) -> Result<Next, NoMemory>
     requires settled { busy_at (first_counts_alone head.now) parts.now ≡ None }
     requires no_act { told (outcome (body program.now) head.now (counted (first_counts_alone head.now) parts.now) (waiting_parts (first_counts_alone head.now) parts.now)) ≡ None }
-    ensures { IfOk result (λ p. made_of p
-        ≡ outcome (body program.now) head.now (counted (first_counts_alone head.now) parts.now) (waiting_parts (first_counts_alone head.now) parts.now)) }
+    ensures { let waiting = waiting_parts (first_counts_alone head.now) parts.now in IfOk result (λ n. made_in waiting n
+        ≡ outcome (body program.now) head.now (counted (first_counts_alone head.now) parts.now) waiting) }
 {
     match head {
         Head::Block(slots) => item(alloc, slots.all(), parts),
-        Head::If => branch(alloc, parts),
-        Head::Two(Op::And) => both(alloc, parts),
-        Head::Two(Op::Or) => either(alloc, parts),
-        Head::Two(op) => Ok(operator(*op, parts)),
-        Head::Not => Ok(opposite(parts)),
-        Head::Neg => Ok(negation(parts)),
-        Head::Pair => pair(alloc, parts),
-        Head::Fst => part_of(alloc, parts, false),
-        Head::Snd => part_of(alloc, parts, true),
-        Head::Section(_) => left_section(alloc, parts),
-        Head::Call(f) => Ok(Pure::Becomes(called(alloc, program, *f, parts)?)),
-        _ => Ok(wrong_kind()),
+        Head::If => Ok(Next::Makes(branch(alloc, parts)?)),
+        Head::Two(Op::And) => Ok(Next::Makes(both(alloc, parts)?)),
+        Head::Two(Op::Or) => Ok(Next::Makes(either(alloc, parts)?)),
+        Head::Two(op) => Ok(Next::Makes(operator(*op, parts))),
+        Head::Not => Ok(Next::Makes(opposite(parts))),
+        Head::Neg => Ok(Next::Makes(negation(parts))),
+        Head::Pair => Ok(Next::Makes(pair(alloc, parts)?)),
+        Head::Fst => Ok(Next::Makes(part_of(alloc, parts, false)?)),
+        Head::Snd => Ok(Next::Makes(part_of(alloc, parts, true)?)),
+        Head::Section(_) => Ok(Next::Makes(left_section(alloc, parts)?)),
+        Head::Call(f) => Ok(Next::Makes(Pure::Becomes(called(alloc, program, *f, parts)?))),
+        _ => Ok(Next::Makes(wrong_kind())),
     }
 }

@@ -4,9 +4,11 @@ ghost use Rattle.std.specs.List.{position};
 ghost use Rattle.plain_language.specs.Busy.{is_value, busy_at, IsRedexOf, mark_or, passes};
 ghost use Rattle.plain_language.specs.Expression.{form, parts_of};
 ghost use Rattle.plain_language.specs.Redex.{first_counts_alone, rebuild, redex, section_or};
+ghost use Rattle.plain_language.specs.Pures.{changed};
 
 use crate::expr::{Expr, Node};
 use crate::head::Head;
+use crate::instead::Instead;
 use stab_base::{Fault, Seq};
 use stab_code::Op;
 use std::mem;
@@ -96,30 +98,30 @@ impl Expr {
         }
     }
 
-    /// The expression with another one in place of its redex.
+    /// The expression with something in place of its redex.
     #[cycle(rebuilt)]
-    pub(crate) fn rebuilt(self, r: Expr) -> Expr
+    pub(crate) fn rebuilt(self, instead: Instead) -> Expr
         requires { IsSome (redex self) }
-        ensures { result ≡ rebuild self r }
+        ensures { result ≡ rebuild self (changed instead (redex self)) }
     {
         match self.node {
-            Node::Form(head, parts) => rebuilt_form(head, parts, r),
-            _ => r,
+            Node::Form(head, parts) => rebuilt_form(head, parts, instead),
+            _ => instead.alone(),
         }
     }
 }
 
 #[cycle(rebuilt)]
-fn rebuilt_form(head: Head, mut parts: Vec<Expr>, r: Expr) -> Expr
+fn rebuilt_form(head: Head, mut parts: Vec<Expr>, instead: Instead) -> Expr
     requires { IsSome (redex (form head (parts_of parts.items))) }
-    ensures { result ≡ rebuild (form head (parts_of parts.items)) r }
+    ensures { let e = form head (parts_of parts.items) in result ≡ rebuild e (changed instead (redex e)) }
 {
     match busy_part(&head, &parts) {
         Some(i) => {
             let part = mem::replace(&mut parts[i], Expr::fault(Fault::WrongKind));
-            parts[i] = part.rebuilt(r);
+            parts[i] = part.rebuilt(instead);
             Expr::form(head, parts)
         }
-        None => r,
+        None => instead.at(&head, parts),
     }
 }
