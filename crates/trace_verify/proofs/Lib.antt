@@ -4,6 +4,8 @@ pub mod Following
 pub mod Fronts
 pub mod Judging
 pub mod Leading
+pub mod OneVerdict
 pub mod Parting
+pub mod Prefixes
 pub mod Signing
 pub mod Undoing

@@ -1,13 +1,21 @@
 //! Whether a history is one that a run of its job can have: a judge that knows the plain language and the history alone.
 #![tactic(auto)]
 
+#[cfg(test)]
+mod cascade_tests;
 mod generations;
+mod laws;
 mod parts;
+#[cfg(test)]
+mod random_tests;
 mod replay;
 mod signs;
 mod surviving;
 #[cfg(test)]
 mod tests;
+#[cfg(test)]
+mod trial;
 mod verdict;
 
+pub use laws::one_verdict;
 pub use verdict::{Verdict, Why, verify};

@@ -1,0 +1,5 @@
+use Rattle.trace_verify.proofs.OneVerdict.{one_verdict}
+use Rattle.trace_verify.proofs.laws.one_verdict.Goals as goal
+
+pub returns : goal.returns
+returns c = one_verdict
