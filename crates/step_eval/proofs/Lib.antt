@@ -6,6 +6,7 @@ pub mod Blocks
 pub mod Calls
 pub mod Ending
 pub mod Forms
+pub mod Marking
 pub mod Nodes
 pub mod Redexes
 pub mod Scopes

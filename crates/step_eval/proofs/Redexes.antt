@@ -110,26 +110,13 @@ module _ (p : ProgramParts) where
   innermost_is mk [] fit = ap (option_map (λ m. m.0)) (sym fit)
   innermost_is mk (f ∷ fs) fit = by_site f.site mk (innermost (map (frame_at p) fs)) fit.1 (innermost_is (outside mk f.site) fs fit.2)
 
-  mark_within : (mk : Option Seq) (fs : List FrameView) (h : FrameView) → FramesFit p mk fs → IsSettled p h → option_map (λ m. m.0) mk ≡ mark (within_forms p fs (form_at p h))
+  -- the mark of a settled form
+  pub mark_within : (mk : Option Seq) (fs : List FrameView) (h : FrameView) → FramesFit p mk fs → IsSettled p h → option_map (λ m. m.0) mk ≡ mark (within_forms p fs (form_at p h))
   mark_within mk fs h fit settled = sym (ap (λ o. innermost (frames_of o)) (redex-settled mk fs h fit settled) ∙ innermost_is mk fs fit)
 
-  none_left : (mk : Option Seq) (round : List FrameView) → FramesFit p mk round → round ≡ [] → mk ≡ None
+  pub none_left : (mk : Option Seq) (round : List FrameView) → FramesFit p mk round → round ≡ [] → mk ≡ None
   none_left mk [] fit is = fit
   none_left mk (f ∷ fs) fit is = cc
-
-  mark_by : (f : Focus) (h : FrameView) (round : List FrameView) (mk : Option Seq) → Fits p (record { focus = focus_view f h; round = round; mark = mk }) → RedexIsFound (record { focus = focus_view f h; round = round; mark = mk }) → option_map (λ m. m.0) mk ≡ mark (within_forms p round (focus_expr p (focus_view f h)))
-  mark_by (focus.Begun n) h round mk fits is = elim is [ ]
-  mark_by focus.Form h round mk fits is = mark_within mk round h fits.frames fits.focus.0
-  mark_by (focus.Act a) h round mk fits is = mark_within mk round h fits.frames fits.focus.0
-  mark_by (focus.Value v) h round mk fits is = ap (option_map (λ m. m.0)) (none_left mk round fits.frames is) ∙ sym (ap (λ fs. mark (within_forms p fs (focus_expr p (focus_view (focus.Value v) h)))) is)
-  mark_by (focus.Fault k) h round mk fits is = ap (option_map (λ m. m.0)) (none_left mk round fits.frames fits.focus) ∙ sym (ap (λ fs. mark (within_forms p fs (focus_expr p (focus_view (focus.Fault k) h)))) fits.focus)
-
-  -- the mark of a control is that of its expression
-  pub mark_is : (v : ControlView) (m : Machine) → v ≡ view_of m → Fits p v → RedexIsFound v → option_map (λ q. q.0) m.mark ≡ mark (expr_in p v)
-  mark_is v m is fits found =
-      let P : ControlView → Type 0 = λ (x : ControlView). Fits p x in
-      let Q : ControlView → Type 0 = λ (x : ControlView). RedexIsFound x in
-      mark_by m.focus (here_of m) (round_of m) m.mark (subst P is fits) (subst Q is found) ∙ sym (ap (λ (x : ControlView). mark (expr_in p x)) is)
 
   pub spine_within : (mk : Option Seq) (fs : List FrameView) (h : FrameView) → FramesFit p mk fs → IsSettled p h → spine (within_forms p fs (form_at p h)) ≡ length fs
   spine_within mk fs h fit settled = ap (λ o. length (frames_of o)) (redex-settled mk fs h fit settled) ∙ length-map fs (frame_at p)

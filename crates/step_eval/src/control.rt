@@ -167,9 +167,12 @@ impl Control {
 
     /// The number of the innermost section round the redex, if there is one.
     pub fn mark(&self) -> Option<Seq>
-        ensures { (p : ProgramParts) → Fits p self.now → RedexIsFound self.now → option_map (λ m. m.0) result ≡ mark (expr_of p self.now) }
+        ensures { (p : ProgramParts) → IsValid p → Fits p self.now → option_map (λ m. m.0) result ≡ mark (expr_of p self.now) }
     {
-        self.machine.mark
+        match &self.machine.focus {
+            Focus::Value(_v) => self.machine.mark_round_value(),
+            _ => self.machine.mark,
+        }
     }
 
     /// Whether two controls are equal.

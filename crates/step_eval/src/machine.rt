@@ -4,6 +4,8 @@ ghost use Rattle.std.specs.Bool.{OnFalse, OnTrue};
 ghost use Rattle.std.specs.Arc.{arc_value};
 ghost use Rattle.step_eval.specs.ControlView.{view_of};
 ghost use Rattle.step_eval.specs.Entries.{entered};
+ghost use Rattle.step_eval.specs.FrameView.{FrameView};
+ghost use Rattle.step_eval.specs.Fits.{outside};
 ghost use Rattle.step_eval.specs.View.{here_of, round_of};
 ghost use Rattle.step_eval.specs.declared.machine.Focus.TheVariants as Focus;
 ghost use Rattle.step_eval.specs.declared.rest.Rest.TheVariants.{Done, Going};
@@ -127,6 +129,21 @@ impl Machine {
             Rest::Done
         } else {
             Rest::Going
+        }
+    }
+
+    /// The number of the innermost section round what a value leaves: a section ends with its value.
+    pub(crate) fn mark_round_value(&self) -> Option<Seq>
+        ensures alone { round_of self.now ≡ [] → result ≡ self.now.mark }
+        ensures within { (f : FrameView) → slice_get (round_of self.now) 0 ≡ Some f → result ≡ outside self.now.mark f.site }
+    {
+        if self.is_alone() {
+            return self.mark;
+        }
+        let frame = self.frame(0);
+        match frame.site {
+            Site::Section(_m, outer) => outer,
+            Site::Form(_n, _from) => self.mark,
         }
     }
 
