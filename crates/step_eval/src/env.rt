@@ -1,8 +1,8 @@
 //! Environments: the values of variables by their slots.
-ghost use Rattle.std.specs.Prelude.{◌≡◌, ◌≤◌, [], length, IfOk, OnOk};
+ghost use Rattle.std.specs.Prelude.{◌≡◌, ◌≤◌, ◌++◌, [], length, IfOk, OnOk};
 ghost use Rattle.step_eval.specs.Scoped.{bound};
 
-use stab_base::{NoMemory, Value};
+use stab_base::{NoMemory, Shape, Value};
 use std::alloc::Global;
 use std::marker::Model;
 use std::mem;
@@ -80,13 +80,35 @@ impl Env {
     }
 }
 
+/// An equal value. A number, which most values are, is copied at once.
+pub(crate) fn twin(alloc: Global, v: &Value) -> Result<Value, NoMemory>
+    ensures { IfOk result (λ w. w ≡ v.now) }
+{
+    match v.shape() {
+        Shape::Int(n) => Ok(Value::int(*n)),
+        _ => v.copy(alloc),
+    }
+}
+
+/// Puts equal values behind those that are there.
+pub(crate) fn add_copies(
+    alloc: Global,
+    values: &[Value],
+    all: &mut Vec<Value>,
+) -> Result<(), NoMemory>
+    ensures { OnOk result (all.new.items ≡ all.old.items ++ values.now) }
+{
+    for v in values {
+        all.push(twin(alloc, v)?)?;
+    }
+    Ok(())
+}
+
 /// Equal values.
 pub(crate) fn copied(alloc: Global, values: &[Value]) -> Result<Vec<Value>, NoMemory>
     ensures { IfOk result (λ all. all.items ≡ values.now) }
 {
     let mut all = Vec::with_capacity(alloc, values.len())?;
-    for v in values {
-        all.push(v.copy(alloc)?)?;
-    }
+    add_copies(alloc, values, &mut all)?;
     Ok(all)
 }

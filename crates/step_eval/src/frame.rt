@@ -53,3 +53,10 @@ impl Frame {
         self.equal(*self.done.allocator())
     }
 }
+
+/// A frame that was the innermost: the machine's own, or one that others share.
+#[derive(Drop)]
+pub(crate) enum Popped {
+    Own(Frame),
+    Shared(Arc<Frame>),
+}

@@ -8,6 +8,7 @@ ghost use Rattle.step_eval.specs.Ready.{IsLeaf};
 ghost use Rattle.step_eval.specs.Scoped.{IsScoped};
 ghost use Rattle.step_eval.specs.Turns.{Takes};
 
+use crate::env::twin;
 use stab_base::{FnId, NoMemory, Value};
 use stab_code::{Head, Node, NodeId, Program};
 use std::alloc::Global;
@@ -62,7 +63,7 @@ pub(crate) fn leaf(
         Head::Truth(b) => Ok(Some(Value::truth(*b))),
         Head::Int(k) => Ok(Some(Value::int(*k))),
         Head::Text(t) => Ok(Some(Value::text(*t))),
-        Head::Var(slot) => Ok(Some(value_at(values, *slot).copy(alloc)?)),
+        Head::Var(slot) => Ok(Some(twin(alloc, value_at(values, *slot))?)),
         _ => Ok(None),
     }
 }

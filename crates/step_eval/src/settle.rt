@@ -8,6 +8,7 @@ ghost use Rattle.plain_language.specs.Program.{body, expr_of};
 ghost use Rattle.step_eval.specs.Acts.{act_of};
 ghost use Rattle.step_eval.specs.Arrival.{Arrives, form_focus};
 ghost use Rattle.step_eval.specs.ControlView.{view_of};
+ghost use Rattle.step_eval.specs.Popped.{popped_view};
 ghost use Rattle.step_eval.specs.Fits.{FormFits, FramesFit};
 ghost use Rattle.step_eval.specs.Meaning.{at_form, at_start, form_at, strict_at, with_value, within_forms};
 ghost use Rattle.step_eval.specs.Operands.{HasOperands};
@@ -18,7 +19,8 @@ ghost use Rattle.step_eval.specs.View.{here_of, round_of};
 ghost use Rattle.step_eval.specs.declared.site.Site.TheVariants.{Form};
 
 use crate::act::{Act, act_at};
-use crate::frame::Frame;
+use crate::env::add_copies;
+use crate::frame::{Frame, Popped};
 use crate::machine::{Focus, Machine};
 use crate::node::{item_of, leaf, node_at};
 use crate::site::Site;
@@ -27,6 +29,16 @@ use stab_code::{NodeId, Program};
 use std::alloc::Global;
 use std::mem;
 use std::sync::Arc;
+
+/// Room for so many values, and for two at least, in a list that has none yet.
+fn make_room(values: &mut Vec<Value>, many: usize) -> Result<(), NoMemory>
+    ensures { values.new.items ≡ values.old.items }
+{
+    if values.capacity() == 0 {
+        values.reserve_exact(many.max(2))?;
+    }
+    Ok(())
+}
 
 /// Puts the values of the next parts behind those so far, as long as they are literals or variables. Answers
 /// the first part that has to be a value and isn't, if there is one.
@@ -46,6 +58,7 @@ fn take_leaves(
     let node = node_at(p, n);
     let parts = node.parts();
     let strict = node.strict();
+    make_room(done, strict)?;
     'leaves: while done.len() < strict {
         let part = item_of(parts, from + done.len());
         match leaf(alloc, p, part, values)? {
@@ -57,17 +70,32 @@ fn take_leaves(
 }
 
 impl Machine {
+    /// The values so far, which are then gone. Where there are none, the room for them stays.
+    fn take_done(&mut self) -> Vec<Value>
+        ensures done { result.items ≡ self.old.done.items }
+        ensures none { self.new.done.items ≡ [] }
+        ensures site { self.new.site ≡ self.old.site }
+        ensures env { arc_value self.new.env ≡ arc_value self.old.env }
+        ensures round { round_of self.new ≡ round_of self.old }
+        ensures mark { self.new.mark ≡ self.old.mark }
+    {
+        if self.done.is_empty() {
+            return Vec::new(self.alloc);
+        }
+        let mut spare = mem::replace(&mut self.spare, Vec::new(self.alloc));
+        spare.clear();
+        mem::replace(&mut self.done, spare)
+    }
+
     /// The form at hand becomes the innermost frame, and a part's form is at hand.
     fn go_in(&mut self, part: NodeId) -> Result<(), NoMemory>
         ensures round { OnOk result (round_of self.new ≡ here_of self.old ∷ round_of self.old) }
         ensures here { OnOk result (here_of self.new ≡ at_start part (arc_value self.old.env)) }
         ensures mark { self.new.mark ≡ self.old.mark }
     {
-        let mut spare = mem::replace(&mut self.spare, Vec::new(self.alloc));
-        spare.clear();
         let frame = Frame {
             site: self.site,
-            done: mem::replace(&mut self.done, spare),
+            done: self.take_done(),
             env: Arc::try_clone(&self.env)?,
         };
         self.site = Site::Form(part, 0);
@@ -145,33 +173,71 @@ impl Machine {
     }
 
     /// The innermost frame, which stands round the focus no more.
-    fn pop_frame(&mut self) -> Result<Option<Frame>, NoMemory>
-        ensures round { IfOk result (λ f. round_of self.old ≡ option_to_list f ++ round_of self.new) }
-        ensures last { IfOk result (λ f. IfNone f (round_of self.new ≡ [])) }
+    fn pop_frame(&mut self) -> Option<Popped>
+        ensures round { round_of self.old ≡ option_to_list (option_map popped_view result) ++ round_of self.new }
+        ensures last { IfNone result (round_of self.new ≡ []) }
         ensures mark { self.new.mark ≡ self.old.mark }
     {
         if let Some(frame) = self.top.take() {
-            return Ok(Some(frame));
+            return Some(Popped::Own(frame));
         }
-        match self.frames.pop() {
-            None => Ok(None),
-            Some(shared) => match Arc::try_unwrap(shared) {
-                Ok(frame) => Ok(Some(frame)),
-                Err(shared) => Ok(Some(shared.equal(self.alloc)?)),
-            },
+        let shared = self.frames.pop()?;
+        match Arc::try_unwrap(shared) {
+            Ok(frame) => Some(Popped::Own(frame)),
+            Err(shared) => Some(Popped::Shared(shared)),
         }
     }
 
-    /// A frame's form is at hand, and has one value more.
-    fn open(&mut self, frame: Frame, v: Value) -> Result<(), NoMemory>
-        ensures here { OnOk result (here_of self.new ≡ with_value frame v) }
+    /// The values of a frame's parts are those at hand.
+    fn put_done(&mut self, done: Vec<Value>)
+        ensures done { self.new.done.items ≡ done.items }
+        ensures site { self.new.site ≡ self.old.site }
+        ensures env { arc_value self.new.env ≡ arc_value self.old.env }
+        ensures round { round_of self.new ≡ round_of self.old }
+        ensures mark { self.new.mark ≡ self.old.mark }
+    {
+        if done.is_empty() {
+            self.done.clear();
+        } else {
+            self.spare = mem::replace(&mut self.done, done);
+        }
+    }
+
+    /// A frame's form is at hand again.
+    fn open_own(&mut self, frame: Frame)
+        ensures here { here_of self.new ≡ frame }
         ensures round { round_of self.new ≡ round_of self.old }
         ensures mark { self.new.mark ≡ self.old.mark }
     {
         let Frame { site, done, env } = frame;
         self.site = site;
         self.env = env;
-        self.spare = mem::replace(&mut self.done, done);
+        self.put_done(done);
+    }
+
+    /// The form of a frame that others share is at hand again.
+    fn open_shared(&mut self, frame: &Frame) -> Result<(), NoMemory>
+        ensures here { OnOk result (here_of self.new ≡ frame.now) }
+        ensures round { round_of self.new ≡ round_of self.old }
+        ensures mark { self.new.mark ≡ self.old.mark }
+    {
+        self.site = frame.site;
+        self.env = Arc::try_clone(&frame.env)?;
+        self.done.clear();
+        add_copies(self.alloc, frame.done.as_slice(), &mut self.done)
+    }
+
+    /// A frame's form is at hand, and has one value more.
+    fn open(&mut self, frame: Popped, v: Value) -> Result<(), NoMemory>
+        ensures here { OnOk result (here_of self.new ≡ with_value (popped_view frame) v) }
+        ensures round { round_of self.new ≡ round_of self.old }
+        ensures mark { self.new.mark ≡ self.old.mark }
+    {
+        match frame {
+            Popped::Own(frame) => self.open_own(frame),
+            Popped::Shared(frame) => self.open_shared(&frame)?,
+        }
+        make_room(&mut self.done, 1)?;
         self.done.push(v)?;
         Ok(())
     }
@@ -181,7 +247,7 @@ impl Machine {
         requires { FramesFit p.now self.old.mark (round_of self.old) }
         ensures { OnOk result (Arrives p.now (view_of self.new) (within_forms p.now (round_of self.old) (value v))) }
     {
-        let Some(frame) = self.pop_frame()? else {
+        let Some(frame) = self.pop_frame() else {
             self.focus = Focus::Value(v);
             return Ok(());
         };

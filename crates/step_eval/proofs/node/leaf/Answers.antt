@@ -28,6 +28,6 @@ returns-in-Text-clause-value c =
     let e : c.text.result ≡ text c.in-Text.t.0 = search rules in
     leaf-value c.args.p.now c.node_at.ensures.valid c.args.n c.requires.there c.args.values.now c.text.result (λ ps. ap (λ h. form_of h ps) (head-is c.args.p.now c.args.n _ _ _ c.node_at.ensures.node c.head.ensures c.in-Text.is) ∙ ap value (sym e))
 
-pub returns-in_ok-copy-in-Var-clause-value : goal.returns-in_ok-copy-in-Var-clause-value
-returns-in_ok-copy-in-Var-clause-value c =
-    leaf-variable c.args.p.now c.node_at.ensures.valid c.args.n c.requires.there c.args.values.now c.in-Var.slot _ (head-is c.args.p.now c.args.n _ _ _ c.node_at.ensures.node c.head.ensures c.in-Var.is) (c.value_at.ensures ∙ ap Some (sym c.in_ok-copy-in-Var.ensures))
+pub returns-in_ok-twin-in-Var-clause-value : goal.returns-in_ok-twin-in-Var-clause-value
+returns-in_ok-twin-in-Var-clause-value c =
+    leaf-variable c.args.p.now c.node_at.ensures.valid c.args.n c.requires.there c.args.values.now c.in-Var.slot _ (head-is c.args.p.now c.args.n _ _ _ c.node_at.ensures.node c.head.ensures c.in-Var.is) (c.value_at.ensures ∙ ap Some (sym c.in_ok-twin-in-Var.ensures))
