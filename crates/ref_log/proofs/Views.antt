@@ -3,7 +3,7 @@ use Rattle.std.proofs.Common.{◌≡◌, ◌≢◌, ℕ, zero, suc, ◌+◌, ◌
 use Rattle.std.specs.List.{AllByRecursion, last_or}
 use Rattle.std.specs.Ordering.{nat_cmp}
 use Rattle.std.specs.Cmp.{nat_cmp_total, unsigned_tied}
-use Rattle.std.specs.FinMap.{FinMap, get, get-empty, get-insert}
+use Rattle.std.specs.FinMap.{FinMap, get, get-empty, get-insert, nat_cmp-IsAntisymmetric, same_map}
 use Rattle.std.proofs.lemmas.Bool.Decides.{nat_tests}
 use Rattle.std.proofs.lemmas.List.Elements.{filter-append}
 use Rattle.std.proofs.lemmas.Option.{slice_get_past}
@@ -91,6 +91,19 @@ some_never (Some x) ws e = never_empty (settled_writes x.settled ++ ws) e
 -- a reference that is there has a write
 pub has-writes : {Z : Type 0} (n : ℕ) (xs : List Reference) (recent : Vec Recent Z) (r : ℕ) → get (log_of n xs recent).references r ≢ Some []
 has-writes n xs recent r e = some_never (slice_get xs r) (of_reference r recent.items) (sym (get_is xs recent.items r) ∙ e)
+
+any_or : (o : Option (List Write)) → o ≢ Some [] → o ≡ if_any (unwrap_or o [])
+any_or None some = refl
+any_or (Some []) some = absurd (some refl)
+any_or (Some (w ∷ ws)) some = refl
+
+-- logs with the same writes have the same references
+pub same-references : {Z : Type 0} (n m : ℕ) (xs ys : List Reference) (recent new : Vec Recent Z) → ((r : ℕ) → writes_of (log_of m ys new) r ≡ writes_of (log_of n xs recent) r) → (log_of m ys new).references ≡ (log_of n xs recent).references
+same-references n m xs ys recent new same =
+    same_map nat_cmp_total nat_cmp-IsAntisymmetric (log_of m ys new).references (log_of n xs recent).references (λ r.
+    any_or (get (log_of m ys new).references r) (has-writes m ys new r)
+    ∙ ap if_any (same r)
+    ∙ sym (any_or (get (log_of n xs recent).references r) (has-writes n xs recent r)))
 
 -- what a call leaves of what is kept it leaves of the log
 pub after-held : {Z : Type 0} (call : Call) (n m : ℕ) (xs ys : List Reference) (recent new : Vec Recent Z) → IsLinked xs recent.items → IsLinked ys new.items → m ≡ cut_after call n → ((r : ℕ) → held ys new.items r ≡ after_call call r (held xs recent.items r)) → IsAfter call (log_of n xs recent) (log_of m ys new)

@@ -55,6 +55,7 @@ impl RefLog {
         ensures ok { OnOk result ((1 ≤ self.new.spare) × (r.0 < self.new.places)) }
         ensures enough { 1 ≤ self.old.spare → r.0 < self.old.places → IsOk result }
         ensures writes { (s : ℕ) → writes_of self.new s ≡ writes_of self.old s }
+        ensures references { self.new.references ≡ self.old.references }
         ensures last_cut { self.new.last_cut ≡ self.old.last_cut }
         ensures no_less { (self.old.spare ≤ self.new.spare) × (self.old.places ≤ self.new.places) }
     {

@@ -1,7 +1,7 @@
 use Rattle.std.proofs.Common.{◌≡◌, ◌++◌, ℕ, sym, ap, subst, ◌∙◌}
-use Rattle.ref_log.specs.Log.{writes_of}
+use Rattle.ref_log.specs.Log.{Log, writes_of}
 use Rattle.ref_log.specs.Layout.{held, settled_at, of_reference, IsLinked}
-use Rattle.ref_log.proofs.Views.{writes-held, kept-same}
+use Rattle.ref_log.proofs.Views.{writes-held, kept-same, same-references}
 use Rattle.ref_log.proofs.Links.{linked-same}
 use Rattle.ref_log.proofs.log.RefLog.reserve.Goals as goal
 
@@ -24,3 +24,10 @@ pub returns-clause-writes : goal.returns-clause-writes
 returns-clause-writes c = λ s.
     let a = c.self.inside in
     writes-held a.last_cut.0 c.make_place.new.references.items c.reserve.new.self s (linked c) ∙ writes c s ∙ sym (writes-held a.last_cut.0 a.references.items a.recent s c.self.invariant.linked) ∙ ap (λ l. writes_of l s) c.self.view_is
+
+pub returns-clause-references : goal.returns-clause-references
+returns-clause-references c =
+    let a = c.self.inside in
+    same-references a.last_cut.0 a.last_cut.0 a.references.items c.make_place.new.references.items a.recent c.reserve.new.self
+    (λ s. writes-held a.last_cut.0 c.make_place.new.references.items c.reserve.new.self s (linked c) ∙ writes c s ∙ sym (writes-held a.last_cut.0 a.references.items a.recent s c.self.invariant.linked))
+    ∙ ap (λ (l : Log). l.references) c.self.view_is
