@@ -6,7 +6,9 @@ pub mod Blocks
 pub mod Calls
 pub mod Ending
 pub mod Forms
+pub mod Settling
 pub mod Marking
+pub mod Whole
 pub mod Nodes
 pub mod Redexes
 pub mod Scopes
