@@ -27,6 +27,23 @@ pub fn print_counts<R: AllocGlobal + Print>(rt: &R) -> io::Result<()> {
     Ok(())
 }
 
+/// How many steps a loop makes that goes round so often as the word says, or once, and what it comes to.
+pub fn print_loop<R: AllocGlobal + Print>(rt: &R, rounds: Option<String>) -> io::Result<()> {
+    let rounds = match rounds {
+        Some(word) => word.as_str().parse().unwrap_or(1),
+        None => 1,
+    };
+    let text = Kind::Loop.text(rt.alloc(), rounds, DEPTH)?;
+    let program = program_of(rt.alloc(), text.as_str())?;
+    let made = run(rt.alloc(), &program)?;
+    println!(rt;
+        "{} {} steps, {}",
+        Kind::Loop.name(),
+        made.steps,
+        made.value
+    )
+}
+
 fn nanos<R: CpuClock>(rt: &R, start: Duration) -> io::Result<u64> {
     let taken = rt.thread_cpu_time()?.saturating_sub(start).as_nanos();
     Ok(u64::try_from(taken).unwrap_or(u64::MAX))
