@@ -11,7 +11,7 @@ use Rattle.stab_code.specs.declared.head.Op.TheVariants.{Or, And, Eq, Ne, Lt, Le
 use Rattle.plain_language.specs.declared.head.Head.{Head}
 use Rattle.plain_language.specs.declared.head.Head.TheVariants.{Section, Block, If, Two, Not, Neg, Pair, Fst, Snd, Call, Spawn, Stable, NewChan, NewRef, Get, Set, Send, Recv, Pick, Stabilize, Cut, Pin, Print, Probe, Attempt}
 use Rattle.plain_language.specs.Expression.{Expr, value, variable, failed, form, Parts, none, part, put_value, put, put_parts, only}
-use Rattle.plain_language.specs.Redex.{first_counts_alone, Frame, after_values, within, Redex, redex_of, redex_in, redex, frames_of, frames, rebuild, spine, cap}
+use Rattle.plain_language.specs.Redex.{first_counts_alone, Frame, after_values, within, Redex, redex_of, redex_in, redex, frames_of, frames, rebuild, spine, max_spine, cap}
 use Rattle.plain_language.specs.Numbers.{fits_word}
 use Rattle.plain_language.specs.Outcome.{Outcome, becomes, fails, acts, with_one, with_two, with_truth, with_number, with_chan, with_reference, with_pair, with_numbers, number, divided, by_operator, waiting_one, two_of, block_of, after_item, branch_of, pair_of, called, outcome}
 use Rattle.plain_language.specs.Look.{look_by, look_at, look, answered}
@@ -103,7 +103,7 @@ module _ (k : Contents) where
   frames_of_in (Some r) i = i.round
 
   cap_in : (e : Expr) → IsExprIn k e → IsExprIn k (cap e)
-  cap_in e i = elim (nat_lt 1000 (spine e)) as (λ b. IsExprIn k (if b then failed TooDeep else e)) [ true ↦ tt | false ↦ i ]
+  cap_in e i = elim (nat_lt max_spine (spine e)) as (λ b. IsExprIn k (if b then failed TooDeep else e)) [ true ↦ tt | false ↦ i ]
 
   -- the answer to an act
   pub answered_in : (e : Expr) (v : Datum) → IsExprIn k e → k.datum v → IsExprIn k (answered e v)

@@ -53,3 +53,15 @@ CommitSays Taken old new =
     × AddsCommit old.job.program old.job.quantum old.history.events old.state new.history.events new.state
 CommitSays Quiet old new = IsQuiet (language_of old.job.program) old.state × AddsNothing old.history.events old.state new.history.events new.state
 CommitSays Spent old new = IsSpent old old.state × AddsNothing old.history.events old.state new.history.events new.state
+
+-- commits that were taken, one after another
+pub data Commits : Book → Book → Type 0 where
+  none : {book : Book} → Commits book book
+  one_more : {old between new : Book} → Commits old between → CommitSays Taken between new → new.job ≡ between.job → Commits old new
+
+-- commits that were taken, and then one that found the run over
+pub record Runs (old new : Book) : Type 0 where
+  pub before : Book
+  pub commits : Commits old before
+  pub last : CommitSays Quiet before new ⊎ CommitSays Spent before new
+  pub job : new.job ≡ before.job

@@ -8,7 +8,7 @@ ghost use Rattle.plain_language.specs.Shown.{shown};
 ghost use Rattle.stab_code.specs.Valid.{IsValid};
 ghost use Rattle.plain_run.specs.Alone.{IsAlone};
 ghost use Rattle.plain_run.specs.Book.{AllDone, IsBook, IsOver, SomeFaulted};
-ghost use Rattle.plain_run.specs.Commit.{CommitSays};
+ghost use Rattle.plain_run.specs.Commit.{CommitSays, Runs};
 ghost use Rattle.plain_run.specs.Ending.{is_done, is_end};
 ghost use Rattle.plain_run.specs.Sequential.{IsSequential};
 
@@ -150,6 +150,7 @@ impl Book {
     /// Commits until the run is over.
     pub fn run(&mut self, alloc: Global) -> Result<(), NoMemory>
         ensures job { self.new.job ≡ self.old.job }
+        ensures runs { OnOk result (Runs self.old self.new) }
         ensures over { OnOk result (IsOver self.new self.new.state) }
     {
         while let Commit::Taken = self.commit(alloc)? {}
