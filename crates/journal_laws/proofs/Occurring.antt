@@ -12,7 +12,7 @@ use Rattle.stab_code.specs.Program.{ProgramParts, FunctionParts, body_of}
 use Rattle.plain_language.specs.declared.head.Head.{Head}
 use Rattle.plain_language.specs.declared.head.Head.TheVariants.{Section}
 use Rattle.plain_language.specs.Expression.{Expr, value, variable, failed, form, Parts, none, part, put_value, put, put_parts, only}
-use Rattle.plain_language.specs.Redex.{first_counts_alone, Frame, after_values, within, Redex, redex_of, redex_in, redex, frames_of, frames, rebuild, spine, cap}
+use Rattle.plain_language.specs.Redex.{first_counts_alone, Frame, after_values, within, Redex, redex_of, redex_in, redex, frames_of, frames, rebuild, spine, max_spine, cap}
 use Rattle.plain_language.specs.Program.{form_of, expr_of, exprs_of, body_by, body}
 use Rattle.plain_language.specs.Numbers.{fits_word}
 use Rattle.plain_language.specs.declared.head.Head.TheVariants.{Block, If, Two, Not, Neg, Pair, Fst, Snd, Call, Spawn, Stable, NewChan, NewRef, Get, Set, Send, Recv, Pick, Stabilize, Cut, Pin, Print, Probe, Attempt}
@@ -117,7 +117,7 @@ module _ (k : Known) where
   frames_of_in (Some r) i = i.round
 
   cap_in : (e : Expr) → IsExprIn k e → IsExprIn k (cap e)
-  cap_in e i = elim (nat_lt 1000 (spine e)) as (λ b. IsExprIn k (if b then failed TooDeep else e)) [ true ↦ tt | false ↦ i ]
+  cap_in e i = elim (nat_lt max_spine (spine e)) as (λ b. IsExprIn k (if b then failed TooDeep else e)) [ true ↦ tt | false ↦ i ]
 
   rebuild_in : (e r : Expr) → IsExprIn k e → IsExprIn k r → IsExprIn k (cap (rebuild e r))
   rebuild_in e r i j = cap_in (rebuild e r) (within_in (frames e) r (frames_of_in (redex e) (redex_of_in e [] tt i)) j)

@@ -2,6 +2,8 @@
 #![tactic(auto)]
 
 #[cfg(test)]
+mod language_tests;
+#[cfg(test)]
 mod law_calls;
 mod laws;
 mod pass;

@@ -14,7 +14,7 @@ fn number_of(v: &Value) -> Option<i64> {
 }
 
 // What is next for each thread, what each reference holds, the channels, and what was printed, all of them numbers.
-fn end_of(alloc: Global, state: &PlainState) -> Result<String, Fail> {
+pub(crate) fn end_of(alloc: Global, state: &PlainState) -> Result<String, Fail> {
     let mut end = String::new(alloc);
     for t in 1..=state.threads().min(9) {
         let look = state.look(ThreadId(t)).ok_or("a thread")?;

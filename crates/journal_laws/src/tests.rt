@@ -45,7 +45,7 @@ fn number(word: Option<&str>) -> u32 {
 }
 
 // A step as a trace writes it: its number, its name, and the numbers of its threads and of what it works on.
-fn step_of(line: &str) -> Option<Numbered> {
+pub(crate) fn step_of(line: &str) -> Option<Numbered> {
     let mut words = line.split_whitespace();
     let seq = Seq(u64::from(number(words.next())));
     let name = words.next()?;
@@ -61,11 +61,12 @@ fn step_of(line: &str) -> Option<Numbered> {
         "get" => Label::Get(t, RefId(n)),
         "set" => Label::Set(t, RefId(n)),
         "enter" => Label::Enter(t),
+        "cut" => Label::Cut(t),
         "print" => Label::Print(t),
         "probe" => Label::Probe(t, word?.parse().ok()?),
         "refuse" => Label::Refuse(t),
         "pin" => Label::Pin(t),
-        "attempt" => Label::Attempt(t, u64::from(n)),
+        "attempt" => Label::Attempt(t, word?.parse().ok()?),
         _ => return None,
     };
     Some(Numbered { seq, label })

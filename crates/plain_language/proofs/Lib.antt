@@ -17,6 +17,5 @@ pub mod Ranges
 pub mod Resting
 pub mod Showing
 pub mod Staying
-pub mod ThirdAttempt
 pub mod Touching
 pub mod Unique

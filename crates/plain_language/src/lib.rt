@@ -19,8 +19,6 @@ mod play;
 mod pure;
 mod redex;
 mod state;
-#[cfg(test)]
-mod tests;
 
 pub use act::{as_chan, as_reference};
 pub use expr::Expr;

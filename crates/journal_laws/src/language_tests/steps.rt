@@ -1,0 +1,291 @@
+//! The table of pure steps, row by row, what acts give, and what is next.
+
+use super::{at, place};
+use crate::tests::run_of;
+use stab_base::{Seq, ThreadId};
+use stab_journal::Label;
+use std::alloc::{AllocError, Global};
+use std::process::Abort;
+use std::test::Fail;
+
+// A form, and what it is after one pure step.
+const PURE: &str = "\
+7; idle() -> idle()
+7; 8; idle() -> 8; idle()
+let x = 7; !x -> !7
+let x = 7; 8; x -> 8; 7
+if true { idle() } else { 1 } -> idle()
+if false { 1 } else { idle() } -> idle()
+if 1 { 1 } else { 2 } -> fault WrongKind
+if () { 1 } else { 2 } -> fault WrongKind
+false && idle() -> false
+true && idle() -> idle()
+true && 7 -> 7
+1 && true -> fault WrongKind
+true || idle() -> true
+false || idle() -> idle()
+false || 7 -> 7
+() || true -> fault WrongKind
+!true -> false
+!false -> true
+!0 -> fault WrongKind
+-(7) -> -7
+-(-9223372036854775807) -> 9223372036854775807
+-(-9223372036854775808) -> fault Overflow
+-(true) -> fault WrongKind
+3 + 4 -> 7
+9223372036854775807 + 1 -> fault Overflow
+-9223372036854775808 + -1 -> fault Overflow
+3 - 4 -> -1
+-9223372036854775808 - 1 -> fault Overflow
+-3 * 4 -> -12
+-9223372036854775808 * -1 -> fault Overflow
+-7 / 2 -> -3
+7 / -2 -> -3
+1 / 0 -> fault ZeroDivisor
+-9223372036854775808 / -1 -> fault Overflow
+-7 % 2 -> -1
+7 % -2 -> 1
+1 % 0 -> fault ZeroDivisor
+-9223372036854775808 % -1 -> fault Overflow
+1 < 1 -> false
+1 < 2 -> true
+1 <= 1 -> true
+2 <= 1 -> false
+2 > 1 -> true
+1 > 1 -> false
+1 >= 2 -> false
+1 >= 1 -> true
+2 == 2 -> true
+2 == 3 -> false
+2 != 2 -> false
+() == false -> false
+() == () -> true
+true != 1 -> true
+false != true -> true
+\"a\" == \"a\" -> true
+\"a\" != \"b\" -> true
+c == c -> true
+c == d -> false
+c == r -> false
+1 == c -> false
+fst(1) -> fault WrongKind
+snd(()) -> fault WrongKind
+sum(1, 2) -> 1 + 2
+(1 + 2) - (1 / 0) -> 3 - (1 / 0)
+sum(1 + 2, 1 / 0) -> sum(3, 1 / 0)
+get(c) -> fault WrongKind
+set(1, 2) -> fault WrongKind
+send(r, 2) -> fault WrongKind
+recv(1) -> fault WrongKind
+pick((), c) -> fault WrongKind
+pick(c, true) -> fault WrongKind";
+
+// A form, the labels of steps, and what it is after them.
+const STEPS: &str = "\
+let x = 7; let y = x + 1; (y, x) | 20 local 1 3 | (8, 7)
+let x = 7; let x = x < 8; !x | 20 local 1 3 | !true
+let x = 7; { let y = x; y == x } | 20 local 1 2 | 7 == 7
+fst((1, 2)) | 20 local 1 2 | 1
+snd((1, 2)) | 20 local 1 2 | 2
+(1, 2) == (1, 2) | 20 local 1 3 | true
+(1, 2) == (1, 3) | 20 local 1 3 | false
+spawn idle() | 20 spawn 1 8 | ()
+chan[int]() == c | 20 newchan 1 5; 21 local 1 1 | false
+ref(7) == r | 20 newref 1 5; 21 local 1 1 | false
+get(ref(7)) | 20 newref 1 5; 21 get 1 5 | 7
+get(r) | 20 get 1 1 | 1
+set(r, 2); get(r) | 20 set 1 1; 21 local 1 1; 22 get 1 1 | 2
+send(c, 7) | 20 comm 1 2 1 | ()
+recv(d) | 20 comm 3 1 2 | 7
+fst(pick(d, c)) | 20 comm 3 1 2; 21 local 1 1 | 0
+fst(pick(c, d)) | 20 comm 3 1 2; 21 local 1 1 | 1
+fst(pick(d, d)) | 20 comm 3 1 2; 21 local 1 1 | 0
+snd(pick(c, d)) | 20 comm 3 1 2; 21 local 1 1 | 7
+stable sum(1, 2) | 20 enter 1; 21 local 1 2 | 3
+cut() | 20 cut 1 | ()
+pin() | 20 pin 1 | ()
+print(7) | 20 print 1 | ()
+probe() | 20 probe 1 -5 | -5
+attempt() | 20 attempt 1 3 | 3
+stabilize() | 20 refuse 1 | fault NoSection";
+
+// A form, and what is next for its thread.
+const LOOKS: &str = "\
+() | Done
+1 + 2 | Pure
+((), 1 + 2) | Pure
+(idle(), recv(c)) | Pure
+send(1, 2) | Pure
+((), send(c, 5)) | Act(Send)
+spawn idle() | Act(Spawn)
+chan[int]() | Act(NewChan)
+ref(7) | Act(NewRef)
+get(r) | Act(Get)
+set(r, 7) | Act(Set)
+send(c, 7) | Act(Send)
+recv(c) | Act(Recv)
+pick(c, d) | Act(Pick)
+stable idle() | Act(Enter)
+stabilize() | Act(Stabilize)
+cut() | Act(Cut)
+pin() | Act(Pin)
+print(7) | Act(Print)
+probe() | Act(Probe)
+attempt() | Act(Attempt)";
+
+// Pure steps of a form, and what is next after them. Each call leaves 37 forms, so with `deep` itself 1,000 stand round the last
+// `n - 1`, at step 107, and 1,001 where there is one form more.
+const DEPTHS: [(&str, u32, &str); 4] = [
+    ("deep(27)", 107, "Some(Pure)"),
+    ("deep(27)", 1110, "Some(Done)"),
+    ("!deep(27)", 106, "Some(Pure)"),
+    ("!deep(27)", 107, "Some(Failed(TooDeep))"),
+];
+
+const T: ThreadId = ThreadId(1);
+
+// The form is another one after the steps, or has failed.
+fn expect(
+    rt: &impl Abort,
+    alloc: Global,
+    form: &str,
+    labels: &str,
+    wanted: &str,
+) -> Result<(), Fail> {
+    let mut state = at(alloc, form)?;
+    for step in &run_of(alloc, &[labels])? {
+        let made = state.play(alloc, step.seq, &step.label).is_ok();
+        assert!(rt; made, "{form}");
+    }
+    let (found, wanted) = match wanted.strip_prefix("fault ") {
+        Some(fault) => (
+            format!(in alloc; "{:?}", state.look(T))?,
+            format!(in alloc; "Some(Failed({fault}))")?,
+        ),
+        None => (
+            place(alloc, &state, 1)?,
+            place(alloc, &at(alloc, wanted)?, 1)?,
+        ),
+    };
+    assert_eq!(rt; found.as_str(), wanted.as_str(), "{form}");
+    Ok(())
+}
+
+// The same as the right part of a pair, the whole of which fails where the form does.
+fn expect_both(
+    rt: &impl Abort,
+    alloc: Global,
+    form: &str,
+    labels: &str,
+    wanted: &str,
+) -> Result<(), Fail> {
+    expect(rt, alloc, form, labels, wanted)?;
+    let within = format!(in alloc; "(9, {{ {form} }})")?;
+    if wanted.starts_with("fault ") {
+        return expect(rt, alloc, within.as_str(), labels, wanted);
+    }
+    let wanted = format!(in alloc; "(9, {{ {wanted} }})")?;
+    expect(rt, alloc, within.as_str(), labels, wanted.as_str())
+}
+
+#[test]
+fn pure_steps(rt: HostRuntime) -> Result<(), Fail> {
+    for row in PURE.lines() {
+        let (form, wanted) = row.split_once(" -> ").ok_or("an arrow")?;
+        expect_both(&rt, rt.alloc(), form, "20 local 1 1", wanted)?;
+    }
+    Ok(())
+}
+
+#[test]
+fn steps_and_acts(rt: HostRuntime) -> Result<(), Fail> {
+    for row in STEPS.lines() {
+        let (form, rest) = row.split_once(" | ").ok_or("labels")?;
+        let (labels, wanted) = rest.split_once(" | ").ok_or("an end")?;
+        expect_both(&rt, rt.alloc(), form, labels, wanted)?;
+    }
+    Ok(())
+}
+
+#[test]
+fn what_is_next(rt: HostRuntime) -> Result<(), Fail> {
+    let alloc = rt.alloc();
+    for row in LOOKS.lines() {
+        let (form, wanted) = row.split_once(" | ").ok_or("what is next")?;
+        let found = at(alloc, form)?.look(T).ok_or("a thread")?;
+        let found = format!(in alloc; "{found:?}")?;
+        assert_eq!(rt; found.as_str(), wanted, "{form}");
+    }
+    Ok(())
+}
+
+#[test]
+fn forms_round_a_redex(rt: HostRuntime) -> Result<(), Fail> {
+    let alloc = rt.alloc();
+    for (form, steps, wanted) in DEPTHS {
+        let mut state = at(alloc, form)?;
+        assert!(rt;
+            state.play(alloc, Seq(20), &Label::Local(T, steps)).is_ok(),
+            "{form}"
+        );
+        let found = format!(in alloc; "{:?}", state.look(T))?;
+        assert_eq!(rt; found.as_str(), wanted, "{form}");
+    }
+    Ok(())
+}
+
+// `(1, ` so many times round a value.
+fn pairs(alloc: Global, times: u32) -> Result<String, AllocError> {
+    let mut text = String::new(alloc);
+    for _ in 0..times {
+        text.push_str("(1, ")?;
+    }
+    text.push_str("()")?;
+    for _ in 0..times {
+        text.push(')')?;
+    }
+    Ok(text)
+}
+
+#[test]
+fn deep_pairs(rt: HostRuntime) -> Result<(), Fail> {
+    let alloc = rt.alloc();
+    for (times, wanted) in [
+        (1, "Some(Done)"),
+        (64, "Some(Done)"),
+        (65, "Some(Failed(DeepValue))"),
+    ] {
+        let mut state = at(alloc, pairs(alloc, times)?.as_str())?;
+        assert!(rt;
+            state.play(alloc, Seq(20), &Label::Local(T, times)).is_ok(),
+            "{times}"
+        );
+        let found = format!(in alloc; "{:?}", state.look(T))?;
+        assert_eq!(rt; found.as_str(), wanted, "{times}");
+    }
+    Ok(())
+}
+
+// The sections entered at 20 and, within it, at 30.
+#[test]
+fn the_inner_section_is_the_mark(rt: HostRuntime) -> Result<(), Fail> {
+    let alloc = rt.alloc();
+    let steps = [
+        ("20 enter 1", 20),
+        ("30 enter 1", 30),
+        ("40 probe 1 5; 41 local 1 1", 20),
+    ];
+    let mut state = at(alloc, "stable outer()")?;
+    assert_eq!(rt; state.mark(T), None);
+    for (labels, mark) in steps {
+        for step in &run_of(alloc, &[labels])? {
+            assert!(rt;
+                state.play(alloc, step.seq, &step.label).is_ok(),
+                "{labels}"
+            );
+        }
+        assert_eq!(rt; state.mark(T), Some(Seq(mark)), "{labels}");
+    }
+    Ok(())
+}
