@@ -1,0 +1,4 @@
+pub mod Ordered
+pub mod Finding
+pub mod Carried
+pub mod Marked

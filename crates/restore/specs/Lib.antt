@@ -1,0 +1,4 @@
+pub mod Line
+pub mod Noted
+pub mod Found
+pub mod Left
