@@ -18,3 +18,7 @@ pub mod Choosing
 pub mod Telling
 pub mod Changed
 pub mod Fresh
+pub mod UndoneParts
+pub mod Undone
+pub mod UndoneNodes
+pub mod Cutting

@@ -30,7 +30,7 @@ use Rattle.commit_book.specs.Step.{wrote_after}
 use Rattle.commit_book.proofs.Floors.{floor_snoc, less_is}
 use Rattle.commit_book.proofs.WriteSteps.{kept_last}
 
-nodes_snoc : (w : ℕ → ℕ) (run : List Numbered) (n : Numbered) → nodes_from w (run ++ n ∷ []) ≡ nodes_from w run ++ node_of (wrote_after w run) n.seq.0 n.label
+pub nodes_snoc : (w : ℕ → ℕ) (run : List Numbered) (n : Numbered) → nodes_from w (run ++ n ∷ []) ≡ nodes_from w run ++ node_of (wrote_after w run) n.seq.0 n.label
 nodes_snoc w [] n = append-nil (node_of w n.seq.0 n.label)
 nodes_snoc w (k ∷ run) n =
     ap (λ ks. node_of w k.seq.0 k.label ++ ks) (nodes_snoc (wrote_by k.seq.0 k.label w) run n)
@@ -116,7 +116,7 @@ joined : (P : Node → Type 0) (xs ys : List Node) → AllByRecursion P xs → A
 joined P [] ys a b = b
 joined P (x ∷ xs) ys a b = (a.0, joined P xs ys a.1 b)
 
-nodes_below : (w : ℕ → ℕ) (p : ℕ) (run : List Numbered) (n : Numbered) → RiseFrom p (run ++ n ∷ []) → AllByRecursion (λ (k : Node). k.number < n.seq.0) (nodes_from w run)
+pub nodes_below : (w : ℕ → ℕ) (p : ℕ) (run : List Numbered) (n : Numbered) → RiseFrom p (run ++ n ∷ []) → AllByRecursion (λ (k : Node). k.number < n.seq.0) (nodes_from w run)
 nodes_below w p [] n rise = tt
 nodes_below w p (k ∷ run) n rise =
     joined _ (node_of w k.seq.0 k.label) (nodes_from (wrote_by k.seq.0 k.label w) run)
