@@ -22,3 +22,6 @@ pub mod UndoneParts
 pub mod Undone
 pub mod UndoneNodes
 pub mod Cutting
+pub mod UndoneJournal
+pub mod CuttingJournal
+pub mod UndoneThreads
