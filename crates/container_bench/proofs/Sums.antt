@@ -1,5 +1,5 @@
 -- The program that prints sums is laid out item by item, and is valid.
-use Rattle.std.proofs.Common.{◌≡◌, ℕ, zero, suc, ◌+◌, ◌*◌, ◌<◌, ◌≤◌, List, [], ◌∷◌, ◌++◌, Some, None, IfSome, Option, length, replicate, max, refl, sym, ap, subst, ◌∙◌, arith, append_assoc, append-nil, lit<, lit≤}
+use Rattle.std.proofs.Common.{◌≡◌, ℕ, zero, suc, ◌+◌, ◌*◌, ◌<◌, ◌≤◌, [], ◌∷◌, ◌++◌, Some, None, IfSome, Option, length, replicate, refl, sym, ap, ◌∙◌, arith, append_assoc, append-nil, lit<, lit≤}
 use Rattle.std.specs.List.{All, range_with_len}
 use Rattle.std.proofs.lemmas.List.{length-replicate}
 use Rattle.std.proofs.lemmas.List.Elements.{All-from_recursion, All-nil, All-same}
@@ -9,10 +9,10 @@ use Rattle.stab_code.specs.Forms.{leaf}
 use Rattle.stab_code.specs.Heads.{text_of}
 use Rattle.stab_code.specs.Layout.{nodes_of, nodes_of_all, own_nodes, size_of_all}
 use Rattle.stab_code.specs.Limits.{max_form_depth}
-use Rattle.stab_code.specs.Nodes.{NodeParts, node_of, id}
-use Rattle.stab_code.specs.Program.{FunctionParts, function_of, arity_of, body_of, bodies_of, trees_at}
-use Rattle.stab_code.specs.Syntax.{deepest, depth_from, depth_of, lets_from, lets_of, left_open, open_from, open_in, with_own}
-use Rattle.stab_code.specs.Trees.{Tree, Trees, tree, none, more, fold_all}
+use Rattle.stab_code.specs.Nodes.{node_of, id}
+use Rattle.stab_code.specs.Program.{FunctionParts, function_of, arity_of, body_of, bodies_of}
+use Rattle.stab_code.specs.Syntax.{deepest, depth_from, depth_of, lets_of, open_in}
+use Rattle.stab_code.specs.Trees.{Tree, Trees, none, more, fold_all}
 use Rattle.stab_code.specs.Valid.{HasItem, IsValid, parts_of}
 use Rattle.stab_code.specs.Written.{unit_type}
 use Rattle.stab_code.proofs.AllForms.{AllForms, AllFormsIn, HoldsOf, count_of, nodes_of_all-forms}

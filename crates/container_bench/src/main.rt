@@ -1,10 +1,11 @@
-//! How long the containers of a run take with many entries, the lexer with long texts, and a program of many nodes.
+//! How long the containers and the graph of a run take with many entries, the lexer with long texts, and a program of many nodes.
 //!
 //! With the word `counts` it prints, for few entries, how many calls found what they were for; with `bytes` and
 //! the name of a container, how many bytes that takes for an entry.
 #![tactic(auto)]
 
 mod events;
+mod graphs;
 mod offers;
 mod programs;
 mod saved;

@@ -14,7 +14,9 @@ pub fn calls(n: u32) -> u64 {
 }
 
 /// How many controls were taken out: those under even numbers.
-pub fn run(alloc: Global, n: u32) -> Result<u32, NoMemory> {
+pub fn run(alloc: Global, n: u32) -> Result<u32, NoMemory>
+    requires { n ≤ 1000000 }
+{
     let mut store = Store::new(alloc);
     save_all(&mut store, n)?;
     let taken = take_half(&mut store, n);
@@ -24,19 +26,22 @@ pub fn run(alloc: Global, n: u32) -> Result<u32, NoMemory> {
 }
 
 fn save_all(store: &mut Store<u32>, n: u32) -> Result<(), NoMemory>
-    requires { (q : Seq) (t : ThreadId) → saved_at store.old q t ≡ None }
+    requires few { n ≤ 1000000 }
+    requires fresh { (q : Seq) (t : ThreadId) → saved_at store.old q t ≡ None }
 {
-    for q in 0..n {
+    for q in 1..n + 1 {
         store.reserve(1)?;
         store.save(Seq(u64::from(q)), ThreadId(1), q);
     }
     Ok(())
 }
 
-fn take_half(store: &mut Store<u32>, n: u32) -> u32 {
+fn take_half(store: &mut Store<u32>, n: u32) -> u32
+    requires { n ≤ 1000000 }
+{
     let mut taken = 0u32;
     for i in 0..n {
-        let q = scattered(i, n);
+        let q = scattered(i, n) + 1;
         if q % 2 == 0 && store.take(Seq(u64::from(q)), ThreadId(1)).is_some() {
             taken = taken.saturating_add(1);
         }

@@ -1,7 +1,8 @@
 //! What is printed.
 ghost use Rattle.std.specs.Prelude.{◌<◌, ◌≤◌, ◌+◌};
 
-use crate::{events, offers, programs, saved, threads, tokens, writes};
+use crate::graphs::Work;
+use crate::{events, graphs, offers, programs, saved, threads, tokens, writes};
 use stab_base::NoMemory;
 use std::alloc::Global;
 use std::rt::{Clock, Files};
@@ -15,16 +16,22 @@ enum Container {
     RefLog,
     CheckpointStore,
     StabJournal,
+    CommGraph(Work),
     StabLex,
     StabCode,
 }
 
-const ALL: [Container; 7] = [
+const ALL: [Container; 12] = [
     Container::ThreadSlots,
     Container::Rendezvous,
     Container::RefLog,
     Container::CheckpointStore,
     Container::StabJournal,
+    Container::CommGraph(Work::Add),
+    Container::CommGraph(Work::Out),
+    Container::CommGraph(Work::ReachChain),
+    Container::CommGraph(Work::ReachFan),
+    Container::CommGraph(Work::Cut),
     Container::StabLex,
     Container::StabCode,
 ];
@@ -44,6 +51,7 @@ impl Container {
             Container::RefLog => "ref_log",
             Container::CheckpointStore => "checkpoint_store",
             Container::StabJournal => "stab_journal",
+            Container::CommGraph(work) => work.name(),
             Container::StabLex => "stab_lex",
             Container::StabCode => "stab_code",
         }
@@ -57,6 +65,7 @@ impl Container {
             Container::RefLog => writes::calls(n),
             Container::CheckpointStore => saved::calls(n),
             Container::StabJournal => events::calls(n),
+            Container::CommGraph(work) => work.calls(n),
             Container::StabLex => tokens::calls(n),
             Container::StabCode => programs::calls(n),
         }
@@ -71,6 +80,7 @@ impl Container {
             Container::RefLog => writes::run(alloc, n),
             Container::CheckpointStore => saved::run(alloc, n),
             Container::StabJournal => events::run(alloc, n),
+            Container::CommGraph(work) => graphs::run(work, alloc, n),
             Container::StabLex => tokens::run(alloc, n),
             Container::StabCode => programs::run(alloc, n),
         }
@@ -81,10 +91,7 @@ impl Container {
 fn count<R: AllocGlobal>(rt: &R, container: Container, n: u32) -> io::Result<u32>
     requires { n ≤ 1000000 }
 {
-    match container.run(rt.alloc(), n) {
-        Ok(count) => Ok(count),
-        Err(NoMemory) => Err(io::Error::from(io::ErrorKind::OutOfMemory)),
-    }
+    container.run(rt.alloc(), n).map_err(out_of_memory)
 }
 
 // The least time of five runs of this size.
@@ -102,10 +109,28 @@ fn nanos<R: AllocGlobal + Clock>(rt: &R, container: Container, n: u32) -> io::Re
 fn nanos_of_one<R: AllocGlobal + Clock>(rt: &R, container: Container, n: u32) -> io::Result<u64>
     requires { n ≤ 1000000 }
 {
+    if let Container::CommGraph(work) = container {
+        return nanos_of_work(rt, work, n);
+    }
     let start = Instant::now(rt)?;
     let _count = count(rt, container, n)?;
     let taken = start.elapsed(rt)?;
     Ok(u64::try_from(taken.as_nanos()).unwrap_or(u64::MAX))
+}
+
+// The same, without the time in which the graph is built.
+fn nanos_of_work<R: AllocGlobal + Clock>(rt: &R, work: Work, n: u32) -> io::Result<u64>
+    requires { n ≤ 1000000 }
+{
+    let mut graph = work.graph(rt.alloc(), n).map_err(out_of_memory)?;
+    let start = Instant::now(rt)?;
+    let _count = work.make(rt.alloc(), &mut graph, n).map_err(out_of_memory)?;
+    let taken = start.elapsed(rt)?;
+    Ok(u64::try_from(taken.as_nanos()).unwrap_or(u64::MAX))
+}
+
+fn out_of_memory(_: NoMemory) -> io::Error {
+    io::Error::from(io::ErrorKind::OutOfMemory)
 }
 
 /// The counts at three small sizes, which are the same at each run.

@@ -1,8 +1,7 @@
 -- The nodes that were made are those of the program that prints sums.
 use Rattle.std.proofs.Common.{◌≡◌, ◌+◌, ◌*◌, ◌++◌, [], ◌∷◌, None, replicate, refl, sym, ap, subst, ◌∙◌, arith}
-use Rattle.stab_code.specs.declared.head.Head.TheVariants.{Block, Unit}
 use Rattle.stab_code.specs.Layout.{nodes_of, nodes_of_all, own_nodes}
-use Rattle.stab_code.specs.Nodes.{node_of, id}
+use Rattle.stab_code.specs.Nodes.{id}
 use Rattle.stab_code.specs.Program.{program_of}
 use Rattle.stab_code.specs.Trees.{none}
 use Rattle.stab_code.specs.Valid.{IsValid}

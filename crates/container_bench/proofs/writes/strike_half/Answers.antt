@@ -1,4 +1,4 @@
-use Rattle.std.proofs.Common.{◌+◌, ◌-◌, ◌∙◌, ap, arith}
+use Rattle.std.proofs.Common.{◌∙◌, ap, arith}
 use Rattle.ref_log.specs.Log.{writes_of, has_write}
 use Rattle.container_bench.proofs.Numbers.{has-other}
 use Rattle.container_bench.proofs.writes.strike_half.Goals as goal
