@@ -25,3 +25,4 @@ pub mod Cutting
 pub mod UndoneJournal
 pub mod CuttingJournal
 pub mod UndoneThreads
+pub mod UndoneOffers
