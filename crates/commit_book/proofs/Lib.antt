@@ -26,3 +26,4 @@ pub mod UndoneJournal
 pub mod CuttingJournal
 pub mod UndoneThreads
 pub mod UndoneOffers
+pub mod UndoneMarks
