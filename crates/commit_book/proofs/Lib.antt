@@ -27,3 +27,4 @@ pub mod CuttingJournal
 pub mod UndoneThreads
 pub mod UndoneOffers
 pub mod UndoneMarks
+pub mod UndoneEdges

@@ -37,7 +37,7 @@ nodes_snoc w (k ∷ run) n =
     ∙ sym (append_assoc (node_of w k.seq.0 k.label) (nodes_from (wrote_by k.seq.0 k.label w) run) (node_of (wrote_after (wrote_by k.seq.0 k.label w) run) n.seq.0 n.label))
 
 -- the node of a step has its number
-above_floor : (f q : ℕ) (w : ℕ → ℕ) (l : Label) → nat_lt f q ≡ true → filter (λ (k : Node). nat_lt f k.number) (node_of w q l) ≡ node_of w q l
+pub above_floor : (f q : ℕ) (w : ℕ → ℕ) (l : Label) → nat_lt f q ≡ true → filter (λ (k : Node). nat_lt f k.number) (node_of w q l) ≡ node_of w q l
 above_floor f q w (Enter t) high = ap (λ b. cond b (node_of w q (Enter t)) []) high
 above_floor f q w (Spawn t u) high = ap (λ b. cond b (node_of w q (Spawn t u)) []) high
 above_floor f q w (Comm s r c) high = ap (λ b. cond b (node_of w q (Comm s r c)) []) high

@@ -22,6 +22,7 @@ use Rattle.comm_graph.specs.Node.{Node, acts, is_write, reads}
 use Rattle.comm_graph.specs.Edge.{next_of, readers_of, from_number}
 use Rattle.journal_laws.specs.Lines.{is_node, has_node}
 use Rattle.journal_laws.proofs.Applying.{or_false}
+use Rattle.journal_laws.proofs.Chains.{or_right}
 use Rattle.journal_laws.proofs.Numbers.{rise_front}
 use Rattle.commit_book.specs.Graph.{node_of, one_node, wrote_by, nodes_from}
 use Rattle.commit_book.specs.Step.{wrote_after}
@@ -161,6 +162,16 @@ reader_step p q w (n ∷ ns) h =
   where
     deeper : (n : Numbered) (ns : List Numbered) → IsRead p (wrote_by n.seq.0 n.label w) ns q → IsRead p w (n ∷ ns) q
     deeper n ns k = record { before = n ∷ k.before; f = k.f; after = k.after; is = ap (λ l. n ∷ l) k.is; number = k.number; reads = k.reads }
+
+pub reader_is : (p : ℕ) (w : ℕ → ℕ) (before : List Numbered) (f : Numbered) (after : List Numbered) → reads_of (read f.label) (λ r. nat_eq p (wrote_after w before r)) ≡ true
+    → list_any (nat_eq f.seq.0) (readers_of p (nodes_from w (before ++ f ∷ after))) ≡ true
+reader_is p w [] f after is =
+    ap (list_any (nat_eq f.seq.0)) (readers-append p (node_of w f.seq.0 f.label) (nodes_from (wrote_by f.seq.0 f.label w) after) ∙ ap (λ l. l ++ readers_of p (nodes_from (wrote_by f.seq.0 f.label w) after)) (one_reader p w f.seq.0 f.label ∙ ap (λ b. cond b (f.seq.0 ∷ []) []) is))
+    ∙ ap (λ b. b || list_any (nat_eq f.seq.0) (readers_of p (nodes_from (wrote_by f.seq.0 f.label w) after))) (nat_eq_equiv.refl f.seq.0)
+reader_is p w (n ∷ before) f after is =
+    ap (list_any (nat_eq f.seq.0)) (readers-append p (node_of w n.seq.0 n.label) (nodes_from (wrote_by n.seq.0 n.label w) (before ++ f ∷ after)))
+    ∙ list_any-append (nat_eq f.seq.0) (readers_of p (node_of w n.seq.0 n.label)) (readers_of p (nodes_from (wrote_by n.seq.0 n.label w) (before ++ f ∷ after)))
+    ∙ or_right (list_any (nat_eq f.seq.0) (readers_of p (node_of w n.seq.0 n.label))) _ (reader_is p (wrote_by n.seq.0 n.label w) before f after is)
 
 -- ---- the number of the last write
 
