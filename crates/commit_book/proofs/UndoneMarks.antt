@@ -150,8 +150,8 @@ reader_step p q w [] h = absurd (false≢true h)
 reader_step p q w (n ∷ ns) h =
     let more = nodes_from (wrote_by n.seq.0 n.label w) ns in
     let split : (list_any (nat_eq q) (cond (reads_of (read n.label) (λ r. nat_eq p (w r))) (n.seq.0 ∷ []) []) || list_any (nat_eq q) (readers_of p more)) ≡ true =
-        sym (list_any-append (nat_eq q) (cond (reads_of (read n.label) (λ r. nat_eq p (w r))) (n.seq.0 ∷ []) []) (readers_of p more))
-        ∙ ap (list_any (nat_eq q)) (sym (readers-append p (node_of w n.seq.0 n.label) more ∙ ap (λ l. l ++ readers_of p more) (one_reader p w n.seq.0 n.label))) ∙ h in
+    sym (list_any-append (nat_eq q) (cond (reads_of (read n.label) (λ r. nat_eq p (w r))) (n.seq.0 ∷ []) []) (readers_of p more))
+    ∙ ap (list_any (nat_eq q)) (sym (readers-append p (node_of w n.seq.0 n.label) more ∙ ap (λ l. l ++ readers_of p more) (one_reader p w n.seq.0 n.label))) ∙ h in
     elim (reads_of (read n.label) (λ r. nat_eq p (w r))) as (λ b. reads_of (read n.label) (λ r. nat_eq p (w r)) ≡ b → (list_any (nat_eq q) (cond b (n.seq.0 ∷ []) []) || list_any (nat_eq q) (readers_of p more)) ≡ true → IsRead p w (n ∷ ns) q) [
       | true ↦ λ here h. elim (nat_eq q n.seq.0) as (λ b. nat_eq q n.seq.0 ≡ b → ((b || false) || list_any (nat_eq q) (readers_of p more)) ≡ true → IsRead p w (n ∷ ns) q) [
         | true ↦ λ e h. record { before = []; f = n; after = ns; is = refl; number = sym (eqb-true q n.seq.0 e); reads = here }
