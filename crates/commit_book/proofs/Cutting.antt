@@ -1,5 +1,5 @@
 -- The kept writes, the saved controls and the nodes after a cut.
-use Rattle.std.proofs.Common.{◌≡◌, ℕ, suc, ◌<◌, ◌≤◌, Bool, true, false, cond, ◌&&◌, ◌||◌, nat_eq, List, [], ◌∷◌, ◌++◌, Option, Some, None, refl, sym, ap, ◌∙◌, append-nil, arith}
+use Rattle.std.proofs.Common.{◌≡◌, ℕ, suc, ◌<◌, ◌≤◌, Bool, true, false, cond, ◌&&◌, ◌||◌, List, [], ◌∷◌, ◌++◌, Option, Some, None, refl, sym, ap, ◌∙◌, append-nil, arith}
 use Rattle.std.specs.Prelude.{filter, option_map, nat_lt, nat_le}
 use Rattle.std.specs.List.{AllByRecursion}
 use Rattle.std.specs.Ordering.{nat_cmp}
@@ -16,14 +16,14 @@ use Rattle.stab_journal.specs.Names.{has}
 use Rattle.ref_log.specs.Log.{Write, has_below, kept}
 use Rattle.checkpoint_store.specs.Saved.{place_cmp}
 use Rattle.comm_graph.specs.Node.{Node}
-use Rattle.plain_language.specs.Steps.{State, Table, next, after_steps}
+use Rattle.plain_language.specs.Steps.{State, Table, next}
 use Rattle.journal_laws.specs.Surviving.{thread_of}
 use Rattle.journal_laws.proofs.Numbers.{rise_front}
 use Rattle.commit_book.specs.Graph.{nodes_from, nodes_above, AreNodesOf}
 use Rattle.commit_book.specs.References.{writes_at, AreWrites}
 use Rattle.commit_book.specs.Run.{saves, writes_in, stood_at}
 use Rattle.commit_book.specs.Saved.{saved_of, AreSaved}
-use Rattle.commit_book.proofs.Floors.{floor_cut, less_is, not_less, differs}
+use Rattle.commit_book.proofs.Floors.{floor_cut, not_less, differs}
 use Rattle.commit_book.proofs.SavedSteps.{stood_snoc}
 use Rattle.commit_book.proofs.WriteSteps.{writes_snoc}
 use Rattle.commit_book.proofs.NodeSteps.{nodes_snoc, nodes_below, all_below}

@@ -28,3 +28,4 @@ pub mod UndoneThreads
 pub mod UndoneOffers
 pub mod UndoneMarks
 pub mod UndoneEdges
+pub mod UndoneLines

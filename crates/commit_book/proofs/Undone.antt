@@ -1,5 +1,5 @@
 -- What an undo leaves of threads, of saved controls and of writes, by the law of surviving runs.
-use Rattle.std.proofs.Common.{◌≡◌, ◌⊎◌, inl, inr, ℕ, suc, ◌<◌, ◌≤◌, Bool, true, false, cond, not, ◌&&◌, ◌||◌, nat_eq, List, [], ◌∷◌, ◌++◌, Option, Some, None, refl, sym, ap, subst, ◌∙◌}
+use Rattle.std.proofs.Common.{◌≡◌, ◌⊎◌, inl, inr, ℕ, suc, ◌<◌, Bool, true, false, cond, ◌&&◌, ◌||◌, nat_eq, List, [], ◌∷◌, ◌++◌, Option, Some, None, refl, sym, ap, subst, ◌∙◌}
 use Rattle.std.specs.Prelude.{option_map, nat_lt}
 use Rattle.std.specs.Ordering.{nat_cmp}
 use Rattle.std.specs.FinMap as map
@@ -20,13 +20,12 @@ use Rattle.checkpoint_store.specs.Saved.{place_cmp}
 use Rattle.plain_language.specs.Steps.{State, Table, after_steps, next}
 use Rattle.journal_laws.specs.Lost.{is_hit}
 use Rattle.journal_laws.specs.Surviving.{thread_of, IsLawful}
-use Rattle.journal_laws.proofs.Applying.{or_false}
 use Rattle.journal_laws.proofs.Beside.{Beside}
 use Rattle.journal_laws.proofs.Numbers.{rise_front}
 use Rattle.commit_book.specs.References.{writes_at, AreWrites}
 use Rattle.commit_book.specs.Run.{saves, writes_in, stood_at}
 use Rattle.commit_book.specs.Saved.{saved_of, AreSaved}
-use Rattle.commit_book.specs.Threads.{stands, AreThreads}
+use Rattle.commit_book.specs.Threads.{AreThreads}
 use Rattle.commit_book.proofs.Floors.{less_is, differs}
 use Rattle.commit_book.proofs.UndoneParts.{stood_lost, stood_rest, writes_rest, floor_rest, left, left_kept}
 

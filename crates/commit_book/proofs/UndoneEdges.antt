@@ -14,13 +14,15 @@ use Rattle.stab_journal.specs.declared.event.Numbered.{Numbered}
 use Rattle.stab_journal.specs.Dependence.{writes, writes_what}
 use Rattle.stab_journal.specs.Floor.{floor, is_enter, is_entered, is_revocable}
 use Rattle.stab_journal.specs.Journal.{RiseFrom}
-use Rattle.stab_journal.specs.Label.{actors, touched, written}
+use Rattle.stab_journal.specs.Label.{actors, spawned, touched, written}
 use Rattle.stab_journal.specs.Names.{has, is_at, read}
 use Rattle.stab_journal.specs.Reached.{reads_of, reached}
 use Rattle.comm_graph.specs.Node as graph
 use Rattle.comm_graph.specs.Node.{Node, is_write}
-use Rattle.comm_graph.specs.Edge.{next_of, readers_of, read_ends, from_number, ends_at, ends}
+use Rattle.comm_graph.specs.declared.node.NodeFor.{NodeFor}
+use Rattle.comm_graph.specs.Edge.{next_of, readers_of, read_ends, from_number, ends_at, ends, kind_at, kind_of}
 use Rattle.reach_line.specs.Reached as marks
+use Rattle.restore.specs.Line.{starts, IsMarkedAs, AreThere}
 use Rattle.journal_laws.specs.Lines.{is_node, has_node, Leads, by_thread, by_write, IsEdge, Marked, itself, edge}
 use Rattle.journal_laws.proofs.Chains.{or_cases, or_right, read_case}
 use Rattle.journal_laws.proofs.Entries.{nodes as marked_nodes}
@@ -177,6 +179,14 @@ enter_node : (l : Label) → is_enter l ≡ true → is_node l ≡ true
 enter_node (Enter t) h = refl
 enter_node _ h = absurd (false≢true h)
 
+-- the node of a step is there, and its threads are the step's
+pub record IsKindOf (nodes : List Node) (n : Numbered) : Type 0 where
+  pub kind : NodeFor
+  pub there : kind_of nodes n.seq.0 ≡ Some kind
+  pub acts : (t : ℕ) → graph.acts t kind ≡ has (actors n.label) t
+  pub touches : (t : ℕ) → graph.touches t kind ≡ has (touched n.label) t
+  pub starts : (t : ℕ) → starts t kind ≡ is_at (spawned n.label) t
+
 write_end : (a b : Bool) → a ≡ true → b ≡ false → (a && not b) ≡ true
 write_end a b first second = ap (λ c. c && not b) first ∙ ap (λ c. not c) second
 
@@ -199,6 +209,16 @@ module _ (run : List Numbered) (nodes : List Node) (rise : RiseFrom 1 run) (are 
 
     later : List Node
     later = nodes_from (wrote_after parts.now (place.front ++ e ∷ [])) after
+
+    pub kind_step : IsKindOf nodes e
+    unfolding own later
+    kind_step = record {
+      kind = own.kind;
+      there = ap (λ ns. kind_of ns e.seq.0) (graph_is ∙ ap (nodes_from parts.now) place.is) ∙ ap kind_at (from_step parts.now (suc (floor run)) place.front e after rises is ∙ ap (λ ns. ns ++ later) own.one);
+      acts = λ t. listed_is t (graph.actors own.kind) ∙ ap (λ ts. has ts t) own.actors;
+      touches = λ t. listed_is t (graph.touched own.kind) ∙ ap (λ ts. has ts t) own.touched;
+      starts = own.starts;
+    }
 
     leads_to : ends nodes e.seq.0 ≡ flat_map (λ t. next_of t later) (graph.touched own.kind) ++ read_ends (record { number = e.seq.0; kind = own.kind }) (nodes_from parts.now (place.front ++ e ∷ after))
     unfolding own later
@@ -356,3 +376,48 @@ module _ (run : List Numbered) (nodes : List Node) (rise : RiseFrom 1 run) (are 
     marks_only qs reach q marked =
         let k = reached_mark q (among (marks.Reached nodes m) qs q reach.only marked) in
         ap (has (reached run m)) (sym k.number) ∙ goes k.f k.marked
+
+    -- a lost node is marked, as what its step is
+    pub marked_as : (qs : List ℕ) → marks.AreReached nodes m qs → (P : NodeFor → Bool) (before : List Numbered) (f : Numbered) (after : List Numbered) (cut : run ≡ before ++ f ∷ after) (node : is_node f.label ≡ true) (lost : has (reached run m) f.seq.0 ≡ true)
+        → P (kind_step f before after cut node (cuts_hold run m f.seq.0 rise revocable lost)).kind ≡ true → IsMarkedAs nodes qs P f.seq.0
+    marked_as qs reach P before f after cut node lost passes =
+        let k = kind_step f before after cut node (cuts_hold run m f.seq.0 rise revocable lost) in
+        record { kind = k.kind; marked = marks_are qs reach before f after cut node ∙ lost; there = k.there; passes = passes }
+
+    -- the lost step of a marked node
+    pub record IsLost (P : NodeFor → Bool) (q : ℕ) : Type 0 where
+      pub before : List Numbered
+      pub f : Numbered
+      pub after : List Numbered
+      pub is : run ≡ before ++ f ∷ after
+      pub number : f.seq.0 ≡ q
+      pub lost : has (reached run m) f.seq.0 ≡ true
+      pub kind : IsKindOf nodes f
+      pub passes : P kind.kind ≡ true
+
+    same_kind : (a b : NodeFor) (o : Option NodeFor) → o ≡ Some a → o ≡ Some b → a ≡ b
+    same_kind a b o first second = cc
+
+    pub lost_mark : (qs : List ℕ) → marks.AreReached nodes m qs → (P : NodeFor → Bool) (q : ℕ) → IsMarkedAs nodes qs P q → IsLost P q
+    lost_mark qs reach P q is =
+        let k = reached_mark q (among (marks.Reached nodes m) qs q reach.only is.marked) in
+        let at = placed k.f k.marked in
+        let own = kind_step k.f at.before at.after at.is at.node (above k.f k.marked) in
+        record {
+          before = at.before;
+          f = k.f;
+          after = at.after;
+          is = at.is;
+          number = k.number;
+          lost = goes k.f k.marked;
+          kind = own;
+          passes = ap P (same_kind own.kind is.kind (kind_of nodes k.f.seq.0) own.there (ap (kind_of nodes) k.number ∙ is.there)) ∙ is.passes;
+        }
+
+    -- each marked node is in the graph
+    pub marks_there : (qs : List ℕ) → marks.AreReached nodes m qs → AreThere nodes qs
+    marks_there qs reach q marked =
+        let k = reached_mark q (among (marks.Reached nodes m) qs q reach.only marked) in
+        let at = placed k.f k.marked in
+        let own = kind_step k.f at.before at.after at.is at.node (above k.f k.marked) in
+        subst (λ j. is_some (kind_of nodes j) ≡ true) k.number (ap is_some own.there)

@@ -2,7 +2,7 @@
 use Rattle.std.proofs.Common.{◌≡◌, ℕ, suc, ◌<◌, ◌+◌, Bool, true, false, cond, not, ◌&&◌, ◌||◌, List, [], ◌∷◌, ◌++◌, max, Option, Some, None, refl, sym, ap, subst, ◌∙◌, arith}
 use Rattle.std.specs.Prelude.{IfSome}
 use Rattle.std.specs.FinMap as map
-use Rattle.std.specs.FinMap.{FinMap, get-empty}
+use Rattle.std.specs.FinMap.{get-empty}
 use Rattle.std.specs.FinSet.{FinSet, contains}
 use Rattle.std.specs.Ordering.{nat_cmp}
 use Rattle.stab_code.specs.JobParts.{JobParts}
@@ -29,7 +29,7 @@ use Rattle.step_eval.specs.ControlView.{Fits, expr_of}
 use Rattle.commit_book.specs.Book.{BookView, Next, ShowsJournal}
 use Rattle.commit_book.specs.Numbers.{threads_by, greatest, AreNext, AreFew}
 use Rattle.commit_book.specs.References.{writes_at, AreWrites}
-use Rattle.commit_book.specs.Saved.{saved_of, AllSaved}
+use Rattle.commit_book.specs.Saved.{saved_of}
 use Rattle.commit_book.proofs.EventSteps.{script_step}
 use Rattle.commit_book.proofs.Named.{few_more}
 use Rattle.commit_book.proofs.NumberSteps.{greatest_snoc, no_greater_than_one}

@@ -11,7 +11,7 @@ use Rattle.stab_journal.specs.declared.event.Label.{Label}
 use Rattle.stab_journal.specs.declared.event.Label.TheVariants.{Spawn, Comm, NewRef, Get, Set, Enter, Pin}
 use Rattle.stab_journal.specs.declared.event.Numbered.{Numbered}
 use Rattle.stab_journal.specs.Journal.{RiseFrom}
-use Rattle.stab_journal.specs.Label.{actors, touched, written}
+use Rattle.stab_journal.specs.Label.{actors, spawned, touched, written}
 use Rattle.stab_journal.specs.Names.{has, is_at, read}
 use Rattle.stab_journal.specs.Dependence.{writes}
 use Rattle.stab_journal.specs.Reached.{reads_of}
@@ -20,6 +20,7 @@ use Rattle.comm_graph.specs.declared.node.NodeFor.TheVariants as node
 use Rattle.comm_graph.specs.Node as graph
 use Rattle.comm_graph.specs.Node.{Node, acts, is_write, reads}
 use Rattle.comm_graph.specs.Edge.{next_of, readers_of, from_number}
+use Rattle.restore.specs.Line.{starts}
 use Rattle.journal_laws.specs.Lines.{is_node, has_node}
 use Rattle.journal_laws.proofs.Applying.{or_false}
 use Rattle.journal_laws.proofs.Chains.{or_right}
@@ -41,15 +42,16 @@ pub record IsNodeOf (w : ℕ → ℕ) (q : ℕ) (l : Label) : Type 0 where
   pub touched : graph.touched kind ≡ touched l
   pub writes : is_write kind ≡ is_some (written l)
   pub reads : (p : ℕ) → reads p kind ≡ reads_of (read l) (λ r. nat_eq p (w r))
+  pub starts : (t : ℕ) → starts t kind ≡ is_at (spawned l) t
 
 pub node_here : (w : ℕ → ℕ) (q : ℕ) (l : Label) → is_node l ≡ true → IsNodeOf w q l
-node_here w q (Enter t) h = record { kind = node.Enter t; one = refl; actors = refl; touched = refl; writes = refl; reads = λ p. refl }
-node_here w q (Spawn t u) h = record { kind = node.Spawn t u; one = refl; actors = refl; touched = refl; writes = refl; reads = λ p. refl }
-node_here w q (Comm s r c) h = record { kind = node.Comm s r; one = refl; actors = refl; touched = refl; writes = refl; reads = λ p. refl }
-node_here w q (Get t r) h = record { kind = node.Get t (record { 0 = w r.0 }); one = refl; actors = refl; touched = refl; writes = refl; reads = λ p. refl }
-node_here w q (Set t r) h = record { kind = node.Set t; one = refl; actors = refl; touched = refl; writes = refl; reads = λ p. refl }
-node_here w q (NewRef t r) h = record { kind = node.NewRef t; one = refl; actors = refl; touched = refl; writes = refl; reads = λ p. refl }
-node_here w q (Pin t) h = record { kind = node.Pin t; one = refl; actors = refl; touched = refl; writes = refl; reads = λ p. refl }
+node_here w q (Enter t) h = record { kind = node.Enter t; one = refl; actors = refl; touched = refl; writes = refl; reads = λ p. refl; starts = λ t. refl }
+node_here w q (Spawn t u) h = record { kind = node.Spawn t u; one = refl; actors = refl; touched = refl; writes = refl; reads = λ p. refl; starts = λ t. refl }
+node_here w q (Comm s r c) h = record { kind = node.Comm s r; one = refl; actors = refl; touched = refl; writes = refl; reads = λ p. refl; starts = λ t. refl }
+node_here w q (Get t r) h = record { kind = node.Get t (record { 0 = w r.0 }); one = refl; actors = refl; touched = refl; writes = refl; reads = λ p. refl; starts = λ t. refl }
+node_here w q (Set t r) h = record { kind = node.Set t; one = refl; actors = refl; touched = refl; writes = refl; reads = λ p. refl; starts = λ t. refl }
+node_here w q (NewRef t r) h = record { kind = node.NewRef t; one = refl; actors = refl; touched = refl; writes = refl; reads = λ p. refl; starts = λ t. refl }
+node_here w q (Pin t) h = record { kind = node.Pin t; one = refl; actors = refl; touched = refl; writes = refl; reads = λ p. refl; starts = λ t. refl }
 node_here w q _ h = absurd (false≢true h)
 
 no_node : (w : ℕ → ℕ) (q : ℕ) (l : Label) → is_node l ≡ false → node_of w q l ≡ []

@@ -14,7 +14,7 @@ use Rattle.linked_lists.proofs.Leaving.{IsDistinct-filter}
 use Rattle.thread_slots.specs.Slot.{Slot, same_state}
 use Rattle.thread_slots.specs.declared.state.State.TheVariants.{Parked}
 use Rattle.rendezvous.specs.declared.offer.Offer.{Offer}
-use Rattle.rendezvous.specs.Line.{Line, Lines, Seen, nobody, offered, LineBacked, IsSound}
+use Rattle.rendezvous.specs.Line.{Line, Seen, nobody, offered, LineBacked}
 use Rattle.rendezvous.specs.Offer.{sends_on, receives_on}
 use Rattle.restore.specs.Left.{others, without_all}
 use Rattle.stab_code.specs.Program.{ProgramParts}
@@ -25,7 +25,7 @@ use Rattle.journal_laws.specs.Known.{Known, known_in, IsExprIn, IsLookIn, IsKnow
 use Rattle.journal_laws.proofs.Occurring.{kept}
 use Rattle.journal_laws.proofs.Stepping.{both}
 use Rattle.commit_book.specs.Doing.{waits_with, offer_at}
-use Rattle.commit_book.specs.Offers.{sends_at, receives_at, AreOffers}
+use Rattle.commit_book.specs.Offers.{AreOffers}
 use Rattle.commit_book.specs.Threads.{AreThreads}
 use Rattle.commit_book.proofs.Waiting.{get_removed}
 

@@ -1,6 +1,6 @@
 -- What threads are and do after an undo, from what carrying it out leaves of their slots.
-use Rattle.std.proofs.Common.{◌≡◌, ◌⊎◌, inl, inr, ℕ, suc, ◌+◌, ◌<◌, Bool, true, false, cond, not, ◌&&◌, ◌||◌, nat_eq, List, [], ◌∷◌, ◌++◌, Option, Some, None, refl, sym, ap, subst, ◌∙◌, arith}
-use Rattle.std.specs.Prelude.{IfSome, IsSome, option_map}
+use Rattle.std.proofs.Common.{◌≡◌, inl, inr, ℕ, suc, ◌+◌, Bool, true, false, cond, ◌&&◌, ◌||◌, nat_eq, List, [], ◌∷◌, ◌++◌, Option, Some, None, refl, sym, ap, subst, ◌∙◌, arith}
+use Rattle.std.specs.Prelude.{IfSome, option_map}
 use Rattle.std.specs.Ordering.{nat_cmp}
 use Rattle.std.specs.FinMap as map
 use Rattle.std.specs.FinMap.{FinMap}
@@ -9,14 +9,14 @@ use Rattle.stab_journal.specs.declared.event.Event.{Event}
 use Rattle.stab_journal.specs.declared.event.Label.{Label}
 use Rattle.stab_journal.specs.declared.event.Label.TheVariants.{Spawn, Comm, Get, Enter}
 use Rattle.stab_journal.specs.declared.event.Numbered.{Numbered}
-use Rattle.stab_journal.specs.Floor.{floor, is_enter}
+use Rattle.stab_journal.specs.Floor.{is_enter}
 use Rattle.stab_journal.specs.Generation.{acts_in, generation}
 use Rattle.stab_journal.specs.Journal.{RiseFrom}
 use Rattle.stab_journal.specs.Label.{actors, spawned, touched}
 use Rattle.stab_journal.specs.Names.{has, is_at}
 use Rattle.stab_journal.specs.Reached.{reached}
 use Rattle.stab_journal.specs.Surviving.{run_of}
-use Rattle.thread_slots.specs.declared.state.State.TheVariants.{Ready, Parked, Ended}
+use Rattle.thread_slots.specs.declared.state.State.TheVariants.{Parked}
 use Rattle.thread_slots.specs.Slot.{Slot, restored, same_state}
 use Rattle.rendezvous.specs.declared.offer.Offer.{Offer}
 use Rattle.checkpoint_store.specs.Saved.{place_cmp}
@@ -34,7 +34,7 @@ use Rattle.commit_book.specs.Run.{saves}
 use Rattle.commit_book.specs.Saved.{saved_of, AllSaved}
 use Rattle.commit_book.specs.Threads.{AllControls}
 use Rattle.commit_book.proofs.EventSteps.{generation_snoc}
-use Rattle.commit_book.proofs.Undone.{AreRestored, LineOf, untouched, unmade, from, line_of}
+use Rattle.commit_book.proofs.Undone.{AreRestored, untouched, unmade, from, line_of}
 use Rattle.commit_book.proofs.UndoneJournal.{undo_of}
 
 -- a thread is back at what was saved of it before the step q
