@@ -1,7 +1,6 @@
 -- The parts of a rollback when one more thread goes back and one more node is struck.
-use Rattle.std.proofs.Common.{◌≡◌, ℕ, zero, suc, ◌<◌, ◌≤◌, ◌+◌, Bool, true, false, cond, not, ◌&&◌, ◌||◌, nat_eq, List, [], ◌∷◌, ◌++◌, length, get_or, take, map as each, Option, Some, None, IsSome, is_some, option_map, refl, sym, ap, subst, ◌∙◌, arith, append_assoc}
+use Rattle.std.proofs.Common.{◌≡◌, ℕ, zero, suc, ◌<◌, ◌≤◌, ◌+◌, Bool, true, false, cond, not, ◌&&◌, ◌||◌, nat_eq, List, [], ◌∷◌, ◌++◌, length, get_or, take, Option, Some, None, is_some, option_map, refl, sym, ap, subst, ◌∙◌, arith, append_assoc}
 use Rattle.std.specs.Prelude.{filter, option_and_then}
-use Rattle.std.specs.List.{list_any}
 use Rattle.std.specs.Ordering.{nat_cmp}
 use Rattle.std.specs.FinMap as map
 use Rattle.std.specs.FinMap.{FinMap}
@@ -14,7 +13,6 @@ use Rattle.linked_lists.proofs.Leaving.{without-absent, neither}
 use Rattle.linked_lists.proofs.Numbered.{removed}
 use Rattle.stab_base.specs.declared.numbers.Seq.{Seq}
 use Rattle.stab_base.specs.declared.numbers.ThreadId.{ThreadId}
-use Rattle.comm_graph.specs.declared.node.NodeFor.{NodeFor}
 use Rattle.comm_graph.specs.Node.{Node}
 use Rattle.comm_graph.specs.Edge.{kind_at, from_number, kind_of}
 use Rattle.reach_line.specs.Reached.{has, IsOnce}

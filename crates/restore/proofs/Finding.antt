@@ -1,11 +1,11 @@
 -- The table of lines and the list of threads that have one, when a line is noted or forgotten and when there is more room.
-use Rattle.std.proofs.Common.{◌≡◌, ◌≢◌, ℕ, zero, suc, ◌+◌, ◌-◌, ◌<◌, ◌≤◌, Bool, true, false, cond, not, ◌&&◌, ◌||◌, nat_eq, List, [], ◌∷◌, ◌++◌, length, get_or, set, take, replicate, map as each, Option, Some, None, IsSome, is_some, refl, sym, ap, subst, ◌∙◌, arith, length-append, get_or-set_same, get_or-set_other}
+use Rattle.std.proofs.Common.{◌≡◌, ◌≢◌, ℕ, zero, suc, ◌+◌, ◌-◌, ◌<◌, ◌≤◌, Bool, true, false, cond, ◌||◌, nat_eq, List, [], ◌∷◌, ◌++◌, length, get_or, take, replicate, Option, Some, None, is_some, refl, sym, ap, subst, ◌∙◌, arith, length-append, get_or-set_same, get_or-set_other}
 use Rattle.std.specs.Prelude.{nat_lt, filter}
-use Rattle.std.specs.List.{IsDistinct, AllByRecursion, count_by, list_any, slice_set}
+use Rattle.std.specs.List.{IsDistinct, AllByRecursion, count_by, slice_set}
 use Rattle.std.proofs.Math.ListN.{length-set}
 use Rattle.std.specs.Ordering.{nat_cmp}
 use Rattle.std.specs.Cmp.{nat_cmp_total, nat_eq_equiv}
-use Rattle.std.specs.FinMap.{FinMap, get, empty, keys, contains_key, same_map, get-empty, nat_cmp-IsAntisymmetric}
+use Rattle.std.specs.FinMap.{get, empty, keys, contains_key, same_map, get-empty, nat_cmp-IsAntisymmetric}
 use Rattle.std.proofs.lemmas.Bool.{false≢true}
 use Rattle.std.proofs.lemmas.Bool.Decides.{nat_tests}
 use Rattle.std.proofs.lemmas.List.{take_all, get_or_append_left, get_or-append_right, get_or-replicate, get_or_past, length-replicate}

@@ -19,7 +19,7 @@ use Rattle.reach_line.specs.MarkList.{numbers}
 use Rattle.restore.specs.declared.line.Line.{Line}
 use Rattle.restore.specs.declared.line.Line.TheVariants.{From, Gone}
 use Rattle.restore.specs.Line.{starts, IsMarkedAs, IsLineOf}
-use Rattle.restore.specs.Noted.{earlier, with_line, noted}
+use Rattle.restore.specs.Noted.{with_line, noted}
 use Rattle.restore.proofs.Carried.{not_before}
 
 or_false : (b : Bool) → (b || false) ≡ b

@@ -1,5 +1,5 @@
 -- The lines of threads as they are kept, and as callers see them.
-use Rattle.std.specs.Prelude.{◌≡◌, ℕ, ◌≤◌, Bool, List, [], length, map as each, nat_eq, Option, is_some, refl}
+use Rattle.std.specs.Prelude.{◌≡◌, ℕ, ◌≤◌, List, length, map as each, nat_eq, Option, is_some, refl}
 use Rattle.std.specs.List.{IsDistinct, count_by}
 use Rattle.std.specs.Ordering.{nat_cmp}
 use Rattle.std.specs.FinMap as map

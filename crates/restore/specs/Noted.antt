@@ -1,5 +1,5 @@
 -- How the line of a thread changes when one more node is marked.
-use Rattle.std.specs.Prelude.{ℕ, min, Bool, cond, Option, Some, None}
+use Rattle.std.specs.Prelude.{ℕ, min, cond, Option, Some, None}
 use Rattle.stab_base.specs.declared.numbers.Seq.{Seq}
 use Rattle.comm_graph.specs.declared.node.NodeFor.{NodeFor}
 use Rattle.comm_graph.specs.Node.{acts}

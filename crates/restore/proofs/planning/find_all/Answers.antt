@@ -1,11 +1,7 @@
-use Rattle.std.proofs.Common.{◌≡◌, ◌+◌, ◌<◌, ℕ, Some, IsSome, true, length, get_or, take, refl, sym, ap, subst, ◌∙◌, arith}
+use Rattle.std.proofs.Common.{subst, ◌∙◌, arith}
 use Rattle.std.specs.FinMap as map
-use Rattle.std.proofs.lemmas.List.{take_all}
-use Rattle.reach_line.specs.Reached.{has}
-use Rattle.comm_graph.specs.Edge.{kind_of}
-use Rattle.stab_base.specs.declared.numbers.Seq.{Seq}
 use Rattle.restore.specs.Line.{IsLineOf}
-use Rattle.restore.proofs.Marked.{line_at_start, mark_at, has_at, take_marks, line_next}
+use Rattle.restore.proofs.Marked.{line_at_start, mark_at, take_marks, line_next}
 use Rattle.restore.proofs.planning.find_all.Goals as goal
 
 pub loop-q-init : goal.loop-q-init

@@ -1,4 +1,4 @@
-use Rattle.std.proofs.Common.{◌<◌, sym, ap, subst, arith}
+use Rattle.std.proofs.Common.{◌<◌, sym, subst}
 use Rattle.restore.specs.Found.{Lines}
 use Rattle.restore.proofs.planning.lines.Goals as goal
 

@@ -1,8 +1,7 @@
-use Rattle.std.proofs.Common.{◌≡◌, ◌≤◌, ◌++◌, ◌&&◌, ℕ, cond, None, Some, IsSome, IsSomeAnd, ◌<◌, is_some, true, take, get_or, refl, sym, ap, subst, ◌∙◌, arith, append-nil}
+use Rattle.std.proofs.Common.{◌++◌, ◌&&◌, cond, None, Some, IsSome, IsSomeAnd, ◌<◌, is_some, take, get_or, refl, sym, ap, subst, ◌∙◌, arith, append-nil}
 use Rattle.std.specs.Prelude.{filter}
 use Rattle.std.specs.FinMap as map
 use Rattle.std.proofs.lemmas.Bool.{false≢true}
-use Rattle.stab_base.specs.declared.numbers.ThreadId.{ThreadId}
 use Rattle.linked_lists.specs.Lists.{is_listed}
 use Rattle.checkpoint_store.specs.Saved.{saved_at}
 use Rattle.restore.specs.Left.{goes_back, is_back, is_from, others, put_back}

@@ -1,4 +1,4 @@
-use Rattle.std.proofs.Common.{◌≡◌, ◌≤◌, cond, not, None, IsSome, nat_eq, take, get_or, refl, sym, ap, subst, ◌∙◌, arith}
+use Rattle.std.proofs.Common.{cond, not, None, IsSome, nat_eq, take, get_or, refl, sym, ap, subst, ◌∙◌, arith}
 use Rattle.std.specs.Prelude.{filter}
 use Rattle.comm_graph.specs.Node.{Node}
 use Rattle.comm_graph.specs.Edge.{kind_of}
@@ -6,7 +6,7 @@ use Rattle.reach_line.specs.Reached.{has}
 use Rattle.checkpoint_store.specs.Saved.{saved_at}
 use Rattle.restore.specs.Left.{unmarked}
 use Rattle.restore.proofs.Carried.{cond_more, kind_unmarked, struck_more, unmarked_none}
-use Rattle.restore.proofs.Marked.{mark_at, mark_fresh, marks_more, take_marks}
+use Rattle.restore.proofs.Marked.{mark_at, mark_fresh, marks_more}
 use Rattle.restore.proofs.undoing.strike_all.Goals as goal
 
 pub loop-q-init : goal.loop-q-init

@@ -1,4 +1,4 @@
-use Rattle.std.proofs.Common.{◌≡◌, ℕ, cond, None, take, get_or, refl, sym, ap, ◌∙◌, option_map}
+use Rattle.std.proofs.Common.{cond, None, take, get_or, refl, sym, ap, ◌∙◌, option_map}
 use Rattle.std.specs.FinMap as map
 use Rattle.linked_lists.specs.Lists.{is_listed}
 use Rattle.linked_lists.proofs.Numbered.{removed}

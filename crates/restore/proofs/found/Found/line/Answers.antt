@@ -1,4 +1,4 @@
-use Rattle.std.proofs.Common.{◌≡◌, ◌≤◌, None, length, sym, ap, ◌∙◌, arith}
+use Rattle.std.proofs.Common.{None, sym, ap, ◌∙◌, arith}
 use Rattle.std.specs.FinMap as map
 use Rattle.std.proofs.lemmas.List.{get_or_past, get_or_read}
 use Rattle.restore.specs.Found.{Finding}
