@@ -1,8 +1,13 @@
--- What the statuses say leaves no way round a good program, nor round a text that is none.
-use Rattle.std.proofs.Common.{arith, ◌≡◌, ◌⊎◌, inl, inr, ℕ, ◌<◌, true, is_none, List, length, Option, Some, None, Result, Ok, IfSome, IsSomeAnd, refl, ap, sym, subst, ◌∙◌}
+-- What the statuses say leaves no way round a good program or a trace, nor round a text that is none.
+use Rattle.std.proofs.Common.{arith, ◌≡◌, ◌⊎◌, inl, inr, ℕ, ℤ, ◌<◌, true, is_none, List, [], length, Option, Some, None, Result, Ok, Err, IfSome, IsSomeAnd, refl, ap, sym, subst, ◌∙◌}
+use Rattle.plain_language.specs.Plain.{PlainState}
+use Rattle.plain_run.specs.Book.{Book}
 use Rattle.plain_run.specs.Sequential.{IsSequential}
+use Rattle.probe_text.specs.declared.fault.ProbesFault.{ProbesFault}
+use Rattle.probe_text.specs.Probes as probes
 use Rattle.stab_code.specs.Program.{ProgramParts}
 use Rattle.stab_files.specs.Entry.{Entry, contents_of}
+use Rattle.stab_journal.specs.Journal.{Journal}
 use Rattle.stab_text.specs.declared.fault.TextFault.{TextFault}
 use Rattle.stab_text.specs.Text.{HasFault, IsTextOf}
 use Rattle.stab_text.proofs.Reading.{not_both, one_fault, one_program}
@@ -10,18 +15,23 @@ use Rattle.stab_words.specs.Asked.{asked}
 use Rattle.stab_words.specs.declared.request.Request.{Request}
 use Rattle.stab_words.specs.declared.request.Request.TheVariants.{Run, Trace, Verify, Drill, Check, Mill, Types, Save, Resume, Watch}
 use Rattle.stab_words.specs.declared.request.RunArgs.{RunArgs}
+use Rattle.stab_words.specs.declared.request.VerifyArgs.{VerifyArgs}
 use Rattle.stab_words.specs.declared.request.WordFault.{WordFault}
+use Rattle.trace_text.specs.declared.fault.TraceFault.{TraceFault}
+use Rattle.trace_text.specs.Reading as traces
+use Rattle.trace_text.specs.Text.{entries}
 use Rattle.stab_top.specs.declared.report.Report.{Report}
+use Rattle.stab_top.specs.declared.report.Role.{Role}
+use Rattle.stab_top.specs.declared.report.Role.TheVariants as roles
 use Rattle.stab_top.specs.declared.report.Status.{Status}
 use Rattle.stab_top.specs.declared.report.Status.TheVariants.{Done, Held, BadWords, BadText, NoFile, TooBig, FileFault, SinkFault, Spent, NoMemory, BadProbes, BadTrace, BadScript, No, NotBuilt}
-use Rattle.stab_top.specs.declared.report.Role.TheVariants.{Program}
 use Rattle.stab_top.specs.Words.{is_built}
 use Rattle.stab_top.specs.Device.{Device}
-use Rattle.stab_top.specs.Ending.{CheckEnds, RunEnds}
+use Rattle.stab_top.specs.Ending.{CheckEnds, IsJudged, IsTold, RunEnds, VerdictEnds, shown_by, trace_by}
 use Rattle.stab_top.specs.Loading.{Finds, LoadRefused, Loads, max_bytes}
-use Rattle.stab_top.specs.Reading.{Holds, ReadRefused, TextRefused}
-use Rattle.stab_top.specs.Call.{BuiltSays, Call, CheckSays, CountedFault, ProgramSays, RequestSays, RunSays, Says, WordsSay, status_of}
-use Rattle.stab_top.specs.Complete.{Checked, IsHeld, IsHeldFor, IsRefusedText, Ran}
+use Rattle.stab_top.specs.Reading.{Blames, Form, HaveFault, Holds, ReadRefused, probes_form, program_form, trace_form}
+use Rattle.stab_top.specs.Call.{BuiltSays, Call, CheckSays, CountedFault, ReadSays, RequestSays, RunSays, Says, ScriptSays, TraceSays, VerifySays, WordsSay, status_of}
+use Rattle.stab_top.specs.Complete.{Checked, IsHeld, IsHeldFor, IsRefused, IsScriptFor, Ran, WasJudged}
 
 -- what is found, where the files tell
 found_there : (files : Device (List Entry)) (name : List ℕ) (P : Option (List ℕ) → Type 0) (held : List Entry) → Finds files name P → files.told ≡ Some held → P (contents_of held name)
@@ -35,67 +45,95 @@ abbrev Failed : Status → Call → Type 0
 Failed status c = (status ≡ NoMemory) ⊎ CountedFault c
 
 -- a file that is held within the limit is refused by a fault or for want of memory
-load_refused : (status : Status) (c : Call) (name bytes : List ℕ) → IsHeld c name bytes → LoadRefused status Program c.files name c.files_after → Failed status c
-load_refused NoFile c name bytes is says =
+load_refused : (role : Role) (status : Status) (c : Call) (name bytes : List ℕ) → IsHeld role c name bytes → LoadRefused status role c.files name c.files_after → Failed status c
+load_refused role NoFile c name bytes is says =
     let none : contents_of is.files name ≡ None = found_there c.files name (λ found. found ≡ None) is.files says.1 is.told in
     let there : contents_of is.files name ≡ Some bytes = is.held in absurd (let wrong : ⊥ = cc in wrong)
-load_refused TooBig c name bytes is says =
-    let big : IsSomeAnd (Some bytes) (λ b. max_bytes Program < length b) =
-    subst (λ o. IsSomeAnd o (λ b. max_bytes Program < length b)) is.held (found_there c.files name (λ found. IsSomeAnd found (λ b. max_bytes Program < length b)) is.files says.1 is.told) in
-    let over : max_bytes Program < length bytes = big in
+load_refused role TooBig c name bytes is says =
+    let big : IsSomeAnd (Some bytes) (λ b. max_bytes role < length b) =
+    subst (λ o. IsSomeAnd o (λ b. max_bytes role < length b)) is.held (found_there c.files name (λ found. IsSomeAnd found (λ b. max_bytes role < length b)) is.files says.1 is.told) in
+    let over : max_bytes role < length bytes = big in
     let within = is.within in absurd (omega arith)
-load_refused FileFault c name bytes is says = inr (inl says)
-load_refused NoMemory c name bytes is says = inl refl
-load_refused Done c name bytes is says = elim says [ ]
-load_refused Held c name bytes is says = elim says [ ]
-load_refused BadWords c name bytes is says = elim says [ ]
-load_refused BadText c name bytes is says = elim says [ ]
-load_refused SinkFault c name bytes is says = elim says [ ]
-load_refused Spent c name bytes is says = elim says [ ]
-load_refused BadProbes c name bytes is says = elim says [ ]
-load_refused BadTrace c name bytes is says = elim says [ ]
-load_refused BadScript c name bytes is says = elim says [ ]
-load_refused No c name bytes is says = elim says [ ]
-load_refused NotBuilt c name bytes is says = elim says [ ]
+load_refused role FileFault c name bytes is says = inr (inl says)
+load_refused role NoMemory c name bytes is says = inl refl
+load_refused role Done c name bytes is says = elim says [ ]
+load_refused role Held c name bytes is says = elim says [ ]
+load_refused role BadWords c name bytes is says = elim says [ ]
+load_refused role BadText c name bytes is says = elim says [ ]
+load_refused role SinkFault c name bytes is says = elim says [ ]
+load_refused role Spent c name bytes is says = elim says [ ]
+load_refused role BadProbes c name bytes is says = elim says [ ]
+load_refused role BadTrace c name bytes is says = elim says [ ]
+load_refused role BadScript c name bytes is says = elim says [ ]
+load_refused role No c name bytes is says = elim says [ ]
+load_refused role NotBuilt c name bytes is says = elim says [ ]
 
 -- what was loaded is what is held
-loaded_is : (c : Call) (name bytes loaded : List ℕ) → IsHeld c name bytes → Loads Program c.files name c.files_after loaded → loaded ≡ bytes
-loaded_is c name bytes loaded is loads =
+loaded_is : (role : Role) (c : Call) (name bytes loaded : List ℕ) (faults : ℕ) → IsHeld role c name bytes → Loads role c.files name faults loaded → loaded ≡ bytes
+loaded_is role c name bytes loaded faults is loads =
     sym (same_bytes bytes loaded (sym is.held ∙ found_there c.files name (λ found. found ≡ Some loaded) is.files loads.held is.told))
 
--- the text of a program is refused for want of memory
-text_refused : (status : Status) (report : Report) (bytes : List ℕ) (program : ProgramParts) → IsTextOf bytes program → TextRefused status report bytes → status ≡ NoMemory
-text_refused BadText report bytes program is says = absurd (not_both bytes program says.0 is says.1)
-text_refused NoMemory report bytes program is says = refl
-text_refused Done report bytes program is says = elim says [ ]
-text_refused Held report bytes program is says = elim says [ ]
-text_refused BadWords report bytes program is says = elim says [ ]
-text_refused NoFile report bytes program is says = elim says [ ]
-text_refused TooBig report bytes program is says = elim says [ ]
-text_refused FileFault report bytes program is says = elim says [ ]
-text_refused SinkFault report bytes program is says = elim says [ ]
-text_refused Spent report bytes program is says = elim says [ ]
-text_refused BadProbes report bytes program is says = elim says [ ]
-text_refused BadTrace report bytes program is says = elim says [ ]
-text_refused BadScript report bytes program is says = elim says [ ]
-text_refused No report bytes program is says = elim says [ ]
-text_refused NotBuilt report bytes program is says = elim says [ ]
+module _ {Content Fault : Type 0} (form : Form Content Fault) (c : Call) (name bytes : List ℕ) (is : IsHeld form.role c name bytes) where
+  -- where what is held has no fault, there is no other reason to refuse it
+  read_refused : ((fault : Fault) → form.HasFault bytes fault → ⊥) → ReadRefused form c.outcome.report c.files name c.files_after → Failed (status_of c) c
+  read_refused none (inl (says, blames)) = load_refused form.role (status_of c) c name bytes is says
+  read_refused none (inr (loaded, loads, inl have)) =
+      absurd (none have.fault (subst (λ b. form.HasFault b have.fault) (loaded_is form.role c name bytes loaded c.files_after is loads) have.has))
+  read_refused none (inr (loaded, loads, inr says)) = inl says.0
 
--- where a program is held, there is no other reason to refuse it
-read_refused : (c : Call) (name bytes : List ℕ) (program : ProgramParts) → IsHeld c name bytes → IsTextOf bytes program → ReadRefused c.outcome.report c.files name c.files_after → Failed (status_of c) c
-read_refused c name bytes program is text (inl (says, blames)) = load_refused (status_of c) c name bytes is says
-read_refused c name bytes program is text (inr (loaded, loads, says)) =
-    inl (text_refused (status_of c) c.outcome.report bytes program text (subst (TextRefused (status_of c) c.outcome.report) (loaded_is c name bytes loaded is loads) says))
+  -- something was said of what is held; or it was refused
+  said_of : ((fault : Fault) → form.HasFault bytes fault → ⊥) → (faults : ℕ) (Said : Content → Type 0) → ReadSays form c name faults Said
+      → Failed (status_of c) c ⊎ ((content : Content) × form.IsOf bytes content × Said content)
+  said_of none faults Said (inl (refused, rests)) = inl (read_refused none refused)
+  said_of none faults Said (inr (content, holds, said)) =
+      inr (content, subst (λ b. form.IsOf b content) (loaded_is form.role c name bytes holds.bytes faults is holds.loads) holds.is, said)
 
--- the program that was read is the one that is held
-read_is : (c : Call) (name bytes : List ℕ) (program other : ProgramParts) → IsHeld c name bytes → IsTextOf bytes program → Holds c.files name c.files_after other → other ≡ program
-read_is c name bytes program other is text holds =
-    one_program bytes other program (subst (λ b. IsTextOf b other) (loaded_is c name bytes holds.bytes is holds.loads) holds.text) text
+  failed_refused : (fault : Fault) → Failed (status_of c) c → IsRefused form c fault ⊎ CountedFault c
+  failed_refused fault (inl none) = inl (inr none)
+  failed_refused fault (inr counted) = inr counted
 
--- what was said of the program that was read is said of the one that is held; or it was refused
-said_of : (c : Call) (name bytes : List ℕ) (program : ProgramParts) (Said : ProgramParts → Type 0) → IsHeld c name bytes → IsTextOf bytes program → ProgramSays c name Said → Failed (status_of c) c ⊎ Said program
-said_of c name bytes program Said is text (inl (refused, rests)) = inl (read_refused c name bytes program is text refused)
-said_of c name bytes program Said is text (inr (other, holds, said)) = inr (subst Said (read_is c name bytes program other is text holds) said)
+  -- what is held has a fault, for which it was refused
+  fault_refused : (fault : Fault) → ((content : Content) → form.IsOf bytes content → ⊥) → ((other : Fault) → form.HasFault bytes other → other ≡ fault) → (faults : ℕ) (Said : Content → Type 0)
+      → ReadSays form c name faults Said → IsRefused form c fault ⊎ CountedFault c
+  fault_refused fault none one faults Said (inl (inl (says, blames), rests)) = failed_refused fault (load_refused form.role (status_of c) c name bytes is says)
+  fault_refused fault none one faults Said (inl (inr (loaded, loads, inl have), rests)) =
+      let same = one have.fault (subst (λ b. form.HasFault b have.fault) (loaded_is form.role c name bytes loaded c.files_after is loads) have.has) in
+      inl (inl (have.status, subst (λ f. Blames c.outcome.report (form.blames f)) same have.blames))
+  fault_refused fault none one faults Said (inl (inr (loaded, loads, inr says), rests)) = inl (inr says.0)
+  fault_refused fault none one faults Said (inr (content, holds, said)) =
+      absurd (none content (subst (λ b. form.IsOf b content) (loaded_is form.role c name bytes holds.bytes faults is holds.loads) holds.is))
+
+-- ---- the three forms
+
+ok_is : {A B : Type 0} (a b : A) → ◌≡◌ {A = Result A B} (Ok a) (Ok b) → a ≡ b
+ok_is a b h = cc
+
+err_is : {A B : Type 0} (a b : B) → ◌≡◌ {A = Result A B} (Err a) (Err b) → a ≡ b
+err_is a b h = cc
+
+not_ok : {A B : Type 0} (a : A) (b : B) → ◌≡◌ {A = Result A B} (Ok a) (Err b) → ⊥
+not_ok a b h = cc
+
+module _ (c : Call) (name bytes : List ℕ) where
+  of_one : (program : ProgramParts) → IsTextOf bytes program → (Said : ProgramParts → Type 0) → Failed (status_of c) c ⊎ ((other : ProgramParts) × IsTextOf bytes other × Said other) → Failed (status_of c) c ⊎ Said program
+  of_one program text Said (inl failed) = inl failed
+  of_one program text Said (inr (other, is, said)) = inr (subst Said (one_program bytes other program is text) said)
+
+  of_numbers : (script : List ℤ) → probes.reading bytes ≡ Ok script → (Said : List ℤ → Type 0) → Failed (status_of c) c ⊎ ((other : List ℤ) × (probes.reading bytes ≡ Ok other) × Said other) → Failed (status_of c) c ⊎ Said script
+  of_numbers script text Said (inl failed) = inl failed
+  of_numbers script text Said (inr (other, is, said)) = inr (subst Said (ok_is other script (sym is ∙ text)) said)
+
+  program_said : (program : ProgramParts) → IsHeld roles.Program c name bytes → IsTextOf bytes program → (faults : ℕ) (Said : ProgramParts → Type 0) → ReadSays program_form c name faults Said
+      → Failed (status_of c) c ⊎ Said program
+  program_said program is text faults Said says =
+      of_one program text Said (said_of program_form c name bytes is (λ fault has. not_both bytes program fault text has) faults Said says)
+
+  script_said : (script : List ℤ) → IsHeld roles.Probes c name bytes → probes.reading bytes ≡ Ok script → (faults : ℕ) (Said : List ℤ → Type 0) → ReadSays probes_form c name faults Said
+      → Failed (status_of c) c ⊎ Said script
+  script_said script is text faults Said says =
+      of_numbers script text Said (said_of probes_form c name bytes is (λ fault has. not_ok script fault (sym text ∙ has)) faults Said says)
+
+-- ---- runs and checks
 
 failed_ran : (c : Call) → Failed (status_of c) c → Ran (status_of c) ⊎ CountedFault c
 failed_ran c (inl none) = inl (subst Ran (sym none) tt)
@@ -105,43 +143,44 @@ failed_checked : (c : Call) → Failed (status_of c) c → Checked (status_of c)
 failed_checked c (inl none) = inl (subst Checked (sym none) tt)
 failed_checked c (inr counted) = inr counted
 
-ran : (status : Status) (c : Call) (args : RunArgs) (program : ProgramParts) → IsSequential program → RunEnds status args program c.outcome → Ran status ⊎ CountedFault c
-ran Done c args program is says = inl tt
-ran Held c args program is says = inl tt
-ran Spent c args program is says = inl tt
-ran SinkFault c args program is says = inr (inr says.end.1.1)
-ran NotBuilt c args program is says = absurd (says.0 is)
-ran NoMemory c args program is says = inl tt
-ran NoFile c args program is says = elim says.end [ ]
-ran TooBig c args program is says = elim says.end [ ]
-ran FileFault c args program is says = elim says.end [ ]
-ran BadWords c args program is says = elim says.end [ ]
-ran BadText c args program is says = elim says.end [ ]
-ran BadProbes c args program is says = elim says.end [ ]
-ran BadTrace c args program is says = elim says.end [ ]
-ran BadScript c args program is says = elim says.end [ ]
-ran No c args program is says = elim says.end [ ]
+ran : (text_by : Book → PlainState → List ℕ) (status : Status) (c : Call) (args : RunArgs) (program : ProgramParts) → IsSequential program → RunEnds text_by status args program c.outcome → Ran status ⊎ CountedFault c
+ran text_by Done c args program is says = inl tt
+ran text_by Held c args program is says = inl tt
+ran text_by BadWords c args program is says = elim says.end.0 [ ]
+ran text_by BadText c args program is says = elim says.end.0 [ ]
+ran text_by NoFile c args program is says = elim says.end.0 [ ]
+ran text_by TooBig c args program is says = elim says.end.0 [ ]
+ran text_by FileFault c args program is says = elim says.end.0 [ ]
+ran text_by SinkFault c args program is says = inr (inr says.end.1.1)
+ran text_by Spent c args program is says = inl tt
+ran text_by NoMemory c args program is says = inl tt
+ran text_by BadProbes c args program is says = elim says.end.0 [ ]
+ran text_by BadTrace c args program is says = elim says.end.0 [ ]
+ran text_by BadScript c args program is says = elim says.end.0 [ ]
+ran text_by No c args program is says = elim says.end.0 [ ]
+ran text_by NotBuilt c args program is says = absurd (says.0 is)
 
 checked : (status : Status) (c : Call) (program : ProgramParts) → CheckEnds status program c.outcome → Checked status ⊎ CountedFault c
 checked Done c program says = inl tt
-checked NoMemory c program says = inl tt
-checked SinkFault c program says = inr (inr says.1.1)
 checked Held c program says = elim says [ ]
-checked Spent c program says = elim says [ ]
-checked NotBuilt c program says = elim says [ ]
+checked BadWords c program says = elim says [ ]
+checked BadText c program says = elim says [ ]
 checked NoFile c program says = elim says [ ]
 checked TooBig c program says = elim says [ ]
 checked FileFault c program says = elim says [ ]
-checked BadWords c program says = elim says [ ]
-checked BadText c program says = elim says [ ]
+checked SinkFault c program says = inr (inr says.1.1)
+checked Spent c program says = elim says [ ]
+checked NoMemory c program says = inl tt
 checked BadProbes c program says = elim says [ ]
 checked BadTrace c program says = elim says [ ]
 checked BadScript c program says = elim says [ ]
 checked No c program says = elim says [ ]
+checked NotBuilt c program says = elim says [ ]
 
-run_came : (c : Call) (args : RunArgs) (program : ProgramParts) → IsSequential program → Failed (status_of c) c ⊎ RunEnds (status_of c) args program c.outcome → Ran (status_of c) ⊎ CountedFault c
-run_came c args program is (inl failed) = failed_ran c failed
-run_came c args program is (inr ends) = ran (status_of c) c args program is ends
+run_came : (text_by : Book → PlainState → List ℕ) (c : Call) (args : RunArgs) (program : ProgramParts) → IsSequential program → Failed (status_of c) c ⊎ RunEnds text_by (status_of c) args program c.outcome
+    → Ran (status_of c) ⊎ CountedFault c
+run_came text_by c args program is (inl failed) = failed_ran c failed
+run_came text_by c args program is (inr ends) = ran text_by (status_of c) c args program is ends
 
 check_came : (c : Call) (program : ProgramParts) → Failed (status_of c) c ⊎ CheckEnds (status_of c) program c.outcome → Checked (status_of c) ⊎ CountedFault c
 check_came c program (inl failed) = failed_checked c failed
@@ -154,53 +193,104 @@ request_said words c request says is built =
     subst (λ b. RequestSays b c request) built here
 
 pub good_program_runs : (words : List (List ℕ)) (c : Call) (args : RunArgs) (bytes : List ℕ) (program : ProgramParts) → Says words c → asked words ≡ Ok (Run args) → args.probes ≡ None →
-    IsHeld c args.file bytes → IsTextOf bytes program → IsSequential program → Ran (status_of c) ⊎ CountedFault c
+    IsHeld roles.Program c args.file bytes → IsTextOf bytes program → IsSequential program → Ran (status_of c) ⊎ CountedFault c
 good_program_runs words c args bytes program says is none held text sequential =
-    let run : RunSays c args = request_said words c (Run args) says is (ap is_none none) in
-    run_came c args program sequential (said_of c args.file bytes program (λ p. RunEnds (status_of c) args p c.outcome) held text run)
+    let run : RunSays shown_by c args = request_said words c (Run args) says is (ap is_none none) in
+    run_came shown_by c args program sequential (program_said c args.file bytes program held text c.files_after (λ p. RunEnds shown_by (status_of c) args p c.outcome) run)
+
+pub good_program_is_traced : (words : List (List ℕ)) (c : Call) (args : RunArgs) (bytes : List ℕ) (program : ProgramParts) → Says words c → asked words ≡ Ok (Trace args) → args.probes ≡ None →
+    IsHeld roles.Program c args.file bytes → IsTextOf bytes program → IsSequential program → Ran (status_of c) ⊎ CountedFault c
+good_program_is_traced words c args bytes program says is none held text sequential =
+    let run : RunSays trace_by c args = request_said words c (Trace args) says is (ap is_none none) in
+    run_came trace_by c args program sequential (program_said c args.file bytes program held text c.files_after (λ p. RunEnds trace_by (status_of c) args p c.outcome) run)
 
 pub good_program_checks : (words : List (List ℕ)) (c : Call) (file bytes : List ℕ) (program : ProgramParts) → Says words c → asked words ≡ Ok (Check file) →
-    IsHeld c file bytes → IsTextOf bytes program → Checked (status_of c) ⊎ CountedFault c
+    IsHeld roles.Program c file bytes → IsTextOf bytes program → Checked (status_of c) ⊎ CountedFault c
 good_program_checks words c file bytes program says is held text =
     let check : CheckSays c file = request_said words c (Check file) says is refl in
-    check_came c program (said_of c file bytes program (λ p. CheckEnds (status_of c) p c.outcome) held text check)
+    check_came c program (program_said c file bytes program held text c.files_after (λ p. CheckEnds (status_of c) p c.outcome) check)
+
+-- ---- verdicts
+
+module _ (c : Call) (program : ProgramParts) (script : List ℤ) (bytes : List ℕ) where
+  told : (history : Journal) → traces.reading bytes ≡ Ok (entries history) → (j : IsJudged (status_of c) program script history c.outcome) → IsTold (status_of c) j.verdict c.outcome → WasJudged c program script bytes ⊎ CountedFault c
+  told history is j (inl says) = inl (inl (record { history = history; is = is; verdict = j.verdict; given = j.is; status = says.0 }))
+  told history is j (inr says) = inr (inr says.1.1)
+
+  judged : (history : Journal) → traces.reading bytes ≡ Ok (entries history) → VerdictEnds (status_of c) program script history c.outcome → WasJudged c program script bytes ⊎ CountedFault c
+  judged history is (inl j) = told history is j j.told
+  judged history is (inr none) = inl (inr none.0)
+
+  failed_judged : Failed (status_of c) c → WasJudged c program script bytes ⊎ CountedFault c
+  failed_judged (inl none) = inl (inr none)
+  failed_judged (inr counted) = inr counted
+
+  trace_came : Failed (status_of c) c ⊎ ((history : Journal) × (traces.reading bytes ≡ Ok (entries history)) × VerdictEnds (status_of c) program script history c.outcome) → WasJudged c program script bytes ⊎ CountedFault c
+  trace_came (inl failed) = failed_judged failed
+  trace_came (inr (history, is, ends)) = judged history is ends
+
+  trace_judged : (name : List ℕ) (history : Journal) → IsHeld roles.Trace c name bytes → traces.reading bytes ≡ Ok (entries history) → Failed (status_of c) c ⊎ TraceSays c name program script → WasJudged c program script bytes ⊎ CountedFault c
+  trace_judged name history held is (inl failed) = failed_judged failed
+  trace_judged name history held is (inr says) =
+      trace_came (said_of trace_form c name bytes held (λ fault has. not_ok (entries history) fault (sym is ∙ has)) c.files_after (λ h. VerdictEnds (status_of c) program script h c.outcome) says)
+
+  trace_refused : (name : List ℕ) (fault : TraceFault) → IsHeld roles.Trace c name bytes → traces.reading bytes ≡ Err fault → Failed (status_of c) c ⊎ TraceSays c name program script → IsRefused trace_form c fault ⊎ CountedFault c
+  trace_refused name fault held has (inl failed) = failed_refused trace_form c name bytes held fault failed
+  trace_refused name fault held has (inr says) =
+      fault_refused trace_form c name bytes held fault (λ h is. not_ok (entries h) fault (sym is ∙ has)) (λ other is. err_is other fault (sym is ∙ has)) c.files_after (λ h. VerdictEnds (status_of c) program script h c.outcome) says
+
+-- what is said of the script that the words name
+of_script : (c : Call) (name : Option (List ℕ)) (script : List ℤ) (Said : List ℤ → Type 0) → IsScriptFor c name script → ScriptSays c name Said → Failed (status_of c) c ⊎ Said script
+of_script c None script Said is says = inr (subst Said (sym is) says)
+of_script c (Some name) script Said is says = script_said c name is.0 script is.1 is.2 c.files.faults Said says
+
+behind_program : (c : Call) (args : VerifyArgs) (program : ProgramParts) (script : List ℤ) → IsScriptFor c args.probes script → Failed (status_of c) c ⊎ ScriptSays c args.probes (λ s. TraceSays c args.trace program s)
+    → Failed (status_of c) c ⊎ TraceSays c args.trace program script
+behind_program c args program script is (inl failed) = inl failed
+behind_program c args program script is (inr says) = of_script c args.probes script (λ s. TraceSays c args.trace program s) is says
+
+-- a program and a script that are held are read before the trace
+trace_said : (words : List (List ℕ)) (c : Call) (args : VerifyArgs) (text : List ℕ) (program : ProgramParts) (script : List ℤ) → Says words c → asked words ≡ Ok (Verify args)
+    → IsHeld roles.Program c args.file text → IsTextOf text program → IsScriptFor c args.probes script → Failed (status_of c) c ⊎ TraceSays c args.trace program script
+trace_said words c args text program script says is held of for_script =
+    let verify : VerifySays c args = request_said words c (Verify args) says is refl in
+    behind_program c args program script for_script (program_said c args.file text program held of c.files.faults (λ p. ScriptSays c args.probes (λ s. TraceSays c args.trace p s)) verify)
+
+pub trace_is_judged : (words : List (List ℕ)) (c : Call) (args : VerifyArgs) (text bytes : List ℕ) (program : ProgramParts) (script : List ℤ) (history : Journal) → Says words c → asked words ≡ Ok (Verify args)
+    → IsHeld roles.Program c args.file text → IsTextOf text program → IsScriptFor c args.probes script → IsHeld roles.Trace c args.trace bytes → trace_form.IsOf bytes history → WasJudged c program script bytes ⊎ CountedFault c
+trace_is_judged words c args text bytes program script history says is held of for_script trace reads =
+    trace_judged c program script bytes args.trace history trace reads (trace_said words c args text program script says is held of for_script)
+
+pub bad_trace_refused : (words : List (List ℕ)) (c : Call) (args : VerifyArgs) (text bytes : List ℕ) (program : ProgramParts) (script : List ℤ) (fault : TraceFault) → Says words c → asked words ≡ Ok (Verify args)
+    → IsHeld roles.Program c args.file text → IsTextOf text program → IsScriptFor c args.probes script → IsHeld roles.Trace c args.trace bytes → trace_form.HasFault bytes fault → IsRefused trace_form c fault ⊎ CountedFault c
+bad_trace_refused words c args text bytes program script fault says is held of for_script trace has =
+    trace_refused c program script bytes args.trace fault trace has (trace_said words c args text program script says is held of for_script)
+
+probes_refused : (c : Call) (args : VerifyArgs) (program : ProgramParts) (name bytes : List ℕ) (fault : ProbesFault) → args.probes ≡ Some name → IsHeld roles.Probes c name bytes → probes.reading bytes ≡ Err fault
+    → Failed (status_of c) c ⊎ ScriptSays c args.probes (λ s. TraceSays c args.trace program s) → IsRefused probes_form c fault ⊎ CountedFault c
+probes_refused c args program name bytes fault named held has (inl failed) = failed_refused probes_form c name bytes held fault failed
+probes_refused c args program name bytes fault named held has (inr says) =
+    fault_refused probes_form c name bytes held fault (λ s is. not_ok s fault (sym is ∙ has)) (λ other is. err_is other fault (sym is ∙ has)) c.files.faults (λ s. TraceSays c args.trace program s)
+    (subst (λ o. ScriptSays c o (λ s. TraceSays c args.trace program s)) named says)
+
+pub bad_probes_refused : (words : List (List ℕ)) (c : Call) (args : VerifyArgs) (text name bytes : List ℕ) (program : ProgramParts) (fault : ProbesFault) → Says words c → asked words ≡ Ok (Verify args)
+    → IsHeld roles.Program c args.file text → IsTextOf text program → args.probes ≡ Some name → IsHeld roles.Probes c name bytes → probes_form.HasFault bytes fault → IsRefused probes_form c fault ⊎ CountedFault c
+bad_probes_refused words c args text name bytes program fault says is held of named probes has =
+    let verify : VerifySays c args = request_said words c (Verify args) says is refl in
+    probes_refused c args program name bytes fault named probes has (program_said c args.file text program held of c.files.faults (λ p. ScriptSays c args.probes (λ s. TraceSays c args.trace p s)) verify)
 
 -- ---- texts with a fault
 
-fault_told : (status : Status) (c : Call) (bytes : List ℕ) (fault : TextFault) → status ≡ status_of c → HasFault bytes fault → TextRefused status c.outcome.report bytes → IsRefusedText c fault
-fault_told BadText c bytes fault is has says =
-    inl (sym is, ap (λ b. b.text) says.2.blame ∙ ap Some (one_fault bytes says.0 fault says.1 has))
-fault_told NoMemory c bytes fault is has says = inr (sym is)
-fault_told Done c bytes fault is has says = elim says [ ]
-fault_told Held c bytes fault is has says = elim says [ ]
-fault_told BadWords c bytes fault is has says = elim says [ ]
-fault_told NoFile c bytes fault is has says = elim says [ ]
-fault_told TooBig c bytes fault is has says = elim says [ ]
-fault_told FileFault c bytes fault is has says = elim says [ ]
-fault_told SinkFault c bytes fault is has says = elim says [ ]
-fault_told Spent c bytes fault is has says = elim says [ ]
-fault_told BadProbes c bytes fault is has says = elim says [ ]
-fault_told BadTrace c bytes fault is has says = elim says [ ]
-fault_told BadScript c bytes fault is has says = elim says [ ]
-fault_told No c bytes fault is has says = elim says [ ]
-fault_told NotBuilt c bytes fault is has says = elim says [ ]
+text_with_fault : (c : Call) (name bytes : List ℕ) (fault : TextFault) (faults : ℕ) (Said : ProgramParts → Type 0) → IsHeld roles.Program c name bytes → HasFault bytes fault → ReadSays program_form c name faults Said
+    → IsRefused program_form c fault ⊎ CountedFault c
+text_with_fault c name bytes fault faults Said is has says =
+    fault_refused program_form c name bytes is fault (λ p text. not_both bytes p fault text has) (λ other same. one_fault bytes other fault same has) faults Said says
 
-failed_text : (c : Call) (fault : TextFault) → Failed (status_of c) c → IsRefusedText c fault ⊎ CountedFault c
-failed_text c fault (inl none) = inl (inr none)
-failed_text c fault (inr counted) = inr counted
-
-text_with_fault : (c : Call) (name bytes : List ℕ) (fault : TextFault) (Said : ProgramParts → Type 0) → IsHeld c name bytes → HasFault bytes fault → ProgramSays c name Said → IsRefusedText c fault ⊎ CountedFault c
-text_with_fault c name bytes fault Said is has (inl (inl (says, blames), rests)) = failed_text c fault (load_refused (status_of c) c name bytes is says)
-text_with_fault c name bytes fault Said is has (inl (inr (loaded, loads, says), rests)) =
-    inl (fault_told (status_of c) c bytes fault refl has (subst (TextRefused (status_of c) c.outcome.report) (loaded_is c name bytes loaded is loads) says))
-text_with_fault c name bytes fault Said is has (inr (program, holds, said)) =
-    absurd (not_both bytes program fault (subst (λ b. IsTextOf b program) (loaded_is c name bytes holds.bytes is holds.loads) holds.text) has)
-
-request_with_fault : (c : Call) (request : Request) (bytes : List ℕ) (fault : TextFault) → BuiltSays c request → IsHeldFor c request bytes → HasFault bytes fault → IsRefusedText c fault ⊎ CountedFault c
-request_with_fault c (Run args) bytes fault says is has = text_with_fault c args.file bytes fault (λ p. RunEnds (status_of c) args p c.outcome) is has says
-request_with_fault c (Check file) bytes fault says is has = text_with_fault c file bytes fault (λ p. CheckEnds (status_of c) p c.outcome) is has says
-request_with_fault c (Trace args) bytes fault says is has = elim is [ ]
-request_with_fault c (Verify args) bytes fault says is has = elim is [ ]
+request_with_fault : (c : Call) (request : Request) (bytes : List ℕ) (fault : TextFault) → BuiltSays c request → IsHeldFor c request bytes → HasFault bytes fault → IsRefused program_form c fault ⊎ CountedFault c
+request_with_fault c (Run args) bytes fault says is has = text_with_fault c args.file bytes fault c.files_after (λ p. RunEnds shown_by (status_of c) args p c.outcome) is has says
+request_with_fault c (Trace args) bytes fault says is has = text_with_fault c args.file bytes fault c.files_after (λ p. RunEnds trace_by (status_of c) args p c.outcome) is has says
+request_with_fault c (Verify args) bytes fault says is has = text_with_fault c args.file bytes fault c.files.faults (λ p. ScriptSays c args.probes (λ s. TraceSays c args.trace p s)) is has says
+request_with_fault c (Check file) bytes fault says is has = text_with_fault c file bytes fault c.files_after (λ p. CheckEnds (status_of c) p c.outcome) is has says
 request_with_fault c (Drill args) bytes fault says is has = elim is [ ]
 request_with_fault c (Mill args) bytes fault says is has = elim is [ ]
 request_with_fault c (Types file) bytes fault says is has = elim is [ ]
@@ -209,6 +299,6 @@ request_with_fault c (Resume args) bytes fault says is has = elim is [ ]
 request_with_fault c (Watch args) bytes fault says is has = elim is [ ]
 
 pub bad_text_refused : (words : List (List ℕ)) (c : Call) (request : Request) (bytes : List ℕ) (fault : TextFault) → Says words c → asked words ≡ Ok request → is_built request ≡ true →
-    IsHeldFor c request bytes → HasFault bytes fault → IsRefusedText c fault ⊎ CountedFault c
+    IsHeldFor c request bytes → HasFault bytes fault → IsRefused program_form c fault ⊎ CountedFault c
 bad_text_refused words c request bytes fault says is built held has =
     request_with_fault c request bytes fault (request_said words c request says is built) held has

@@ -1,4 +1,5 @@
 pub mod Pieces
+pub mod ReadFirst
 pub mod Ending
 pub mod Complete
 pub mod Wording

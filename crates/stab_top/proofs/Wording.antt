@@ -10,26 +10,31 @@ use Rattle.stab_top.specs.declared.report.Status.TheVariants.{NoMemory}
 use Rattle.stab_top.specs.Reason.{blames_file, no_blame}
 use Rattle.stab_top.specs.Words.{is_built}
 use Rattle.stab_top.specs.Loading.{LoadRefused, blamed}
-use Rattle.stab_top.specs.Reading.{Blames, ReadRefused}
-use Rattle.stab_top.specs.declared.report.Role.TheVariants.{Program}
-use Rattle.stab_top.specs.Call.{BuiltSays, Call, CheckSays, FaultSays, NotBuiltSays, RequestSays, RunSays, Says, Untouched, WordsSay, status_of}
+use Rattle.stab_top.specs.Reading.{Blames, Form, program_form}
+use Rattle.stab_top.specs.Ending.{CheckEnds, RunEnds, shown_by, trace_by}
+use Rattle.stab_top.specs.Call.{BuiltSays, Call, FaultSays, NotBuiltSays, ReadSays, RequestSays, Says, ScriptSays, TraceSays, Untouched, WordsSay, status_of}
 
 -- no file was loaded, for want of memory
-unread : (c : Call) (file : List ℕ) → status_of c ≡ NoMemory → Untouched c no_blame → ReadRefused c.outcome.report c.files file c.files_after
-unread c file none is = inl (subst (λ s. LoadRefused s Program c.files file c.files_after) (sym none) is.no_fault, subst (λ s. Blames c.outcome.report (blames_file (blamed s Program))) (sym none) is.refuses.0)
+unread : {Content Fault : Type 0} (form : Form Content Fault) (c : Call) (file : List ℕ) (faults : ℕ) (Said : Content → Type 0) → status_of c ≡ NoMemory → Untouched c no_blame → ReadSays form c file faults Said
+unread form c file faults Said none is =
+    inl (inl (subst (λ s. LoadRefused s form.role c.files file c.files_after) (sym none) is.no_fault, subst (λ s. Blames c.outcome.report (blames_file (blamed s form.role))) (sym none) is.refuses.0), is.refuses.1)
 
 not_built : (c : Call) → status_of c ≡ NoMemory → Untouched c no_blame → NotBuiltSays (status_of c) c
 not_built c none is = subst (λ s. NotBuiltSays s c) (sym none) is
 
 run_says : (b : Bool) (args : RunArgs) (c : Call) → status_of c ≡ NoMemory → Untouched c no_blame → RequestSays b c (Run args)
-run_says true args c none is = inl (unread c args.file none is, is.refuses.1)
+run_says true args c none is = unread program_form c args.file c.files_after (λ p. RunEnds shown_by (status_of c) args p c.outcome) none is
 run_says false args c none is = not_built c none is
+
+trace_says : (b : Bool) (args : RunArgs) (c : Call) → status_of c ≡ NoMemory → Untouched c no_blame → RequestSays b c (Trace args)
+trace_says true args c none is = unread program_form c args.file c.files_after (λ p. RunEnds trace_by (status_of c) args p c.outcome) none is
+trace_says false args c none is = not_built c none is
 
 request_says : (request : Request) (c : Call) → status_of c ≡ NoMemory → Untouched c no_blame → RequestSays (is_built request) c request
 request_says (Run args) c none is = run_says (is_none args.probes) args c none is
-request_says (Check file) c none is = inl (unread c file none is, is.refuses.1)
-request_says (Trace args) c none is = not_built c none is
-request_says (Verify args) c none is = not_built c none is
+request_says (Trace args) c none is = trace_says (is_none args.probes) args c none is
+request_says (Verify args) c none is = unread program_form c args.file c.files.faults (λ p. ScriptSays c args.probes (λ s. TraceSays c args.trace p s)) none is
+request_says (Check file) c none is = unread program_form c file c.files_after (λ p. CheckEnds (status_of c) p c.outcome) none is
 request_says (Drill args) c none is = not_built c none is
 request_says (Mill args) c none is = not_built c none is
 request_says (Types name) c none is = not_built c none is
@@ -50,8 +55,5 @@ built_says true c request built says = says
 built_says false c request built says = absurd (false≢true built)
 
 -- what is built was done
-pub run_built : (request : Request) (args : RunArgs) (c : Call) → request ≡ Run args → is_built request ≡ true → RunSays c args → RequestSays (is_built request) c request
-run_built request args c is built says = built_says (is_built request) c request built (subst (BuiltSays c) (sym is) says)
-
-pub check_built : (request : Request) (file : List ℕ) (c : Call) → request ≡ Check file → CheckSays c file → RequestSays (is_built request) c request
-check_built request file c is says = subst (λ r. RequestSays (is_built r) c r) (sym is) says
+pub said_built : (request known : Request) (c : Call) → request ≡ known → is_built request ≡ true → BuiltSays c known → RequestSays (is_built request) c request
+said_built request known c is built says = built_says (is_built request) c request built (subst (BuiltSays c) (sym is) says)

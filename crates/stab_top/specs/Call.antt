@@ -1,18 +1,21 @@
 -- What the one call says by the status that it reports.
-use Rattle.std.specs.Prelude.{◌≡◌, ℕ, Bool, true, false, List, Option, Result, Ok, Err, ◌⊎◌}
+use Rattle.std.specs.Prelude.{◌≡◌, ℕ, ℤ, Bool, true, false, List, [], Option, Some, None, Result, Ok, Err, ◌⊎◌}
+use Rattle.plain_language.specs.Plain.{PlainState}
+use Rattle.plain_run.specs.Book.{Book}
 use Rattle.stab_code.specs.Program.{ProgramParts}
 use Rattle.stab_files.specs.Count.{Rose}
 use Rattle.stab_files.specs.Entry.{Entry}
 use Rattle.stab_words.specs.declared.request.Request.{Request}
-use Rattle.stab_words.specs.declared.request.Request.TheVariants.{Check, Run}
+use Rattle.stab_words.specs.declared.request.Request.TheVariants.{Check, Run, Trace, Verify}
 use Rattle.stab_words.specs.declared.request.RunArgs.{RunArgs}
+use Rattle.stab_words.specs.declared.request.VerifyArgs.{VerifyArgs}
 use Rattle.stab_words.specs.declared.request.WordFault.{WordFault}
 use Rattle.stab_words.specs.Asked.{asked}
 use Rattle.stab_top.specs.declared.report.Status.{Status}
 use Rattle.stab_top.specs.declared.report.Status.TheVariants.{BadWords, NoMemory, NotBuilt}
-use Rattle.stab_top.specs.Ending.{CheckEnds, Outcome, Refuses, RunEnds}
+use Rattle.stab_top.specs.Ending.{CheckEnds, Outcome, Refuses, RunEnds, VerdictEnds, shown_by, trace_by}
 use Rattle.stab_top.specs.Device.{Device, Rests, device}
-use Rattle.stab_top.specs.Reading.{Holds, ReadRefused}
+use Rattle.stab_top.specs.Reading.{Form, Holds, ReadRefused, probes_form, program_form, trace_form}
 use Rattle.stab_top.specs.Reason.{Blame, blames_words, no_blame}
 use Rattle.stab_top.specs.Words.{is_built}
 
@@ -47,22 +50,46 @@ NotBuiltSays NotBuilt c = Untouched c no_blame
 NotBuiltSays NoMemory c = Untouched c no_blame
 NotBuiltSays _ c = ⊥
 
--- the program was refused and nothing written, or it was read, and this is said of it
-abbrev pub ProgramSays : Call → List ℕ → (ProgramParts → Type 0) → Type 0
-ProgramSays c file Said =
-    (ReadRefused c.outcome.report c.files file c.files_after × Rests c.outcome.sink c.outcome.sink_after)
-    ⊎ ((program : ProgramParts) × Holds c.files file c.files_after program × Said program)
+module _ {Content Fault : Type 0} (form : Form Content Fault) where
+  -- The file was refused and nothing written; or it holds this, and so many faults were counted when it was read.
+  abbrev pub ReadSays : Call → List ℕ → ℕ → (Content → Type 0) → Type 0
+  ReadSays c file faults Said =
+      (ReadRefused form c.outcome.report c.files file c.files_after × Rests c.outcome.sink c.outcome.sink_after)
+      ⊎ ((content : Content) × Holds form c.files file faults content × Said content)
 
--- a run, and a check, of the program of a file
-abbrev pub RunSays : Call → RunArgs → Type 0
-RunSays c args = ProgramSays c args.file (λ program. RunEnds (status_of c) args program c.outcome)
+  -- the last file that the call reads, and one behind which it reads others
+  abbrev pub LastSays : Call → List ℕ → (Content → Type 0) → Type 0
+  LastSays c file Said = ReadSays c file c.files_after Said
+
+  abbrev pub NextSays : Call → List ℕ → (Content → Type 0) → Type 0
+  NextSays c file Said = ReadSays c file c.files.faults Said
+
+-- a run of the program of a file, of which the command writes this text; and a check of such a program
+abbrev pub RunSays : (Book → PlainState → List ℕ) → Call → RunArgs → Type 0
+RunSays text_by c args = LastSays program_form c args.file (λ program. RunEnds text_by (status_of c) args program c.outcome)
 
 abbrev pub CheckSays : Call → List ℕ → Type 0
-CheckSays c file = ProgramSays c file (λ program. CheckEnds (status_of c) program c.outcome)
+CheckSays c file = LastSays program_form c file (λ program. CheckEnds (status_of c) program c.outcome)
+
+-- the trace of a file, judged as one of the program and the script
+abbrev pub TraceSays : Call → List ℕ → ProgramParts → List ℤ → Type 0
+TraceSays c file program script = LastSays trace_form c file (λ history. VerdictEnds (status_of c) program script history c.outcome)
+
+-- the script that the words name: that of a probe file, or none
+abbrev pub ScriptSays : Call → Option (List ℕ) → (List ℤ → Type 0) → Type 0
+ScriptSays c None Said = Said []
+ScriptSays c (Some file) Said = NextSays probes_form c file Said
+
+-- the program is read first, then the script, then the trace
+abbrev pub VerifySays : Call → VerifyArgs → Type 0
+VerifySays c args =
+    NextSays program_form c args.file (λ program. ScriptSays c args.probes (λ script. TraceSays c args.trace program script))
 
 -- what is built was done
 abbrev pub BuiltSays : Call → Request → Type 0
-BuiltSays c (Run args) = RunSays c args
+BuiltSays c (Run args) = RunSays shown_by c args
+BuiltSays c (Trace args) = RunSays trace_by c args
+BuiltSays c (Verify args) = VerifySays c args
 BuiltSays c (Check file) = CheckSays c file
 BuiltSays c _ = ⊥
 

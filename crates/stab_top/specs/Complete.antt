@@ -1,27 +1,40 @@
 -- What the laws of whole calls speak of.
-use Rattle.std.specs.Prelude.{◌≡◌, ℕ, ◌≤◌, List, length, Some, ◌⊎◌}
+use Rattle.std.specs.Prelude.{◌≡◌, ℕ, ℤ, ◌≤◌, List, [], length, Option, Some, None, ◌⊎◌}
+use Rattle.stab_code.specs.Program.{ProgramParts}
 use Rattle.stab_files.specs.Entry.{Entry, contents_of}
-use Rattle.stab_text.specs.declared.fault.TextFault.{TextFault}
+use Rattle.stab_journal.specs.Journal.{Journal}
 use Rattle.stab_words.specs.declared.request.Request.{Request}
-use Rattle.stab_words.specs.declared.request.Request.TheVariants.{Check, Run}
+use Rattle.stab_words.specs.declared.request.Request.TheVariants.{Check, Run, Trace as WritesTrace, Verify}
+use Rattle.trace_verify.specs.declared.verdict.Verdict.{Verdict}
+use Rattle.trace_verify.specs.Verdict.{IsVerdict}
 use Rattle.stab_top.specs.declared.report.Status.{Status}
-use Rattle.stab_top.specs.declared.report.Status.TheVariants.{BadText, Done, Held, NoMemory, Spent}
-use Rattle.stab_top.specs.declared.report.Role.TheVariants.{Program}
+use Rattle.stab_top.specs.declared.report.Status.TheVariants.{Done, Held, NoMemory, Spent}
+use Rattle.stab_top.specs.declared.report.Role.{Role}
+use Rattle.stab_top.specs.declared.report.Role.TheVariants.{Program, Probes, Trace}
 use Rattle.stab_top.specs.Call.{Call, status_of}
+use Rattle.stab_top.specs.Ending.{verdict_status}
 use Rattle.stab_top.specs.Loading.{max_bytes}
+use Rattle.stab_top.specs.Reading.{Blames, Form, probes_form, trace_form}
 
--- the files tell that the bytes are held under the name, within the limit of programs
-pub record IsHeld (c : Call) (name bytes : List ℕ) : Type 0 where
+-- the files tell that the bytes are held under the name, within the limit of what they are for
+pub record IsHeld (role : Role) (c : Call) (name bytes : List ℕ) : Type 0 where
   pub files : List Entry
   pub told : c.files.told ≡ Some files
   pub held : contents_of files name ≡ Some bytes
-  pub within : length bytes ≤ max_bytes Program
+  pub within : length bytes ≤ max_bytes role
 
 -- the bytes are those of the program that is asked for
 abbrev pub IsHeldFor : Call → Request → List ℕ → Type 0
-IsHeldFor c (Run args) bytes = IsHeld c args.file bytes
-IsHeldFor c (Check file) bytes = IsHeld c file bytes
+IsHeldFor c (Run args) bytes = IsHeld Program c args.file bytes
+IsHeldFor c (WritesTrace args) bytes = IsHeld Program c args.file bytes
+IsHeldFor c (Verify args) bytes = IsHeld Program c args.file bytes
+IsHeldFor c (Check file) bytes = IsHeld Program c file bytes
 IsHeldFor c _ bytes = ⊥
+
+-- the script is the one that is held under the name, or empty where there is no name
+abbrev pub IsScriptFor : Call → Option (List ℕ) → List ℤ → Type 0
+IsScriptFor c None script = script ≡ []
+IsScriptFor c (Some name) script = (bytes : List ℕ) × IsHeld Probes c name bytes × probes_form.IsOf bytes script
 
 -- the run came to its end, or memory was refused
 abbrev pub Ran : Status → Type 0
@@ -37,6 +50,18 @@ Checked Done = Unit {0}
 Checked NoMemory = Unit {0}
 Checked _ = ⊥
 
--- the text was refused for its fault, or memory was refused
-abbrev pub IsRefusedText : Call → TextFault → Type 0
-IsRefusedText c fault = ((status_of c ≡ BadText) × (c.outcome.report.text_fault ≡ Some fault)) ⊎ (status_of c ≡ NoMemory)
+-- the bytes were refused for their fault, or memory was refused
+abbrev pub IsRefused : {Content Fault : Type 0} → Form Content Fault → Call → Fault → Type 0
+IsRefused form c fault = ((status_of c ≡ form.bad) × Blames c.outcome.report (form.blames fault)) ⊎ (status_of c ≡ NoMemory)
+
+-- the bytes are a history's trace, and the status is that of its verdict
+pub record HasVerdict (c : Call) (program : ProgramParts) (script : List ℤ) (bytes : List ℕ) : Type 0 where
+  pub history : Journal
+  pub is : trace_form.IsOf bytes history
+  pub verdict : Verdict
+  pub given : IsVerdict program script history verdict
+  pub status : status_of c ≡ verdict_status verdict
+
+-- the trace was judged, or memory was refused
+abbrev pub WasJudged : Call → ProgramParts → List ℤ → List ℕ → Type 0
+WasJudged c program script bytes = HasVerdict c program script bytes ⊎ (status_of c ≡ NoMemory)

@@ -2,6 +2,14 @@
 use Rattle.std.specs.Prelude.{ℕ, List, [], ◌∷◌, ◌++◌, Option, Some, None, codes, decimal}
 use Rattle.stab_text.specs.declared.fault.TextFault.{TextFault}
 use Rattle.stab_text.specs.FaultText as text
+use Rattle.probe_text.specs.declared.fault.ProbesFault.{ProbesFault}
+use Rattle.probe_text.specs.declared.fault.ProbesFault.TheVariants as probes
+use Rattle.trace_text.specs.declared.fault.TraceFault.{TraceFault}
+use Rattle.trace_text.specs.declared.fault.TraceFault.TheVariants as traces
+use Rattle.trace_verify.specs.declared.verdict.Verdict.{Verdict}
+use Rattle.trace_verify.specs.declared.verdict.Verdict.TheVariants as verdicts
+use Rattle.trace_verify.specs.declared.verdict.Why.{Why}
+use Rattle.trace_verify.specs.declared.verdict.Why.TheVariants.{NoStep, WrongProbe, WrongAttempt, Revocable, NotRevocable, WrongRelease, WrongSign}
 use Rattle.stab_words.specs.declared.request.WordFault.{WordFault}
 use Rattle.stab_words.specs.FaultText as words
 use Rattle.stab_top.specs.declared.report.Report.{Report}
@@ -53,26 +61,45 @@ role_name Probes = codes "probes"
 role_name Trace = codes "trace"
 role_name Script = codes "script"
 
--- what a report blames beside its status: the fault of the words, the file, the fault of the program's text
+-- what a report names beside its status: the fault of the words, the file, the fault of the program's text, of the probe file or of the trace, the verdict
 pub record Blame : Type 0 where
   pub words : Option WordFault
   pub file : Option Role
   pub text : Option TextFault
+  pub probes : Option ProbesFault
+  pub trace : Option TraceFault
+  pub verdict : Option Verdict
 
 abbrev pub no_blame : Blame
-no_blame = record { words = None; file = None; text = None }
+no_blame = record { words = None; file = None; text = None; probes = None; trace = None; verdict = None }
 
 abbrev pub blames_words : WordFault → Blame
-blames_words fault = record { words = Some fault; file = None; text = None }
+blames_words fault = record no_blame { words = Some fault }
 
 abbrev pub blames_file : Option Role → Blame
-blames_file file = record { words = None; file = file; text = None }
+blames_file file = record no_blame { file = file }
 
 abbrev pub blames_text : TextFault → Blame
-blames_text fault = record { words = None; file = None; text = Some fault }
+blames_text fault = record no_blame { text = Some fault }
+
+abbrev pub blames_probes : ProbesFault → Blame
+blames_probes fault = record no_blame { probes = Some fault }
+
+abbrev pub blames_trace : TraceFault → Blame
+blames_trace fault = record no_blame { trace = Some fault }
+
+abbrev pub names_verdict : Verdict → Blame
+names_verdict verdict = record no_blame { verdict = Some verdict }
 
 abbrev pub blame_of : Report → Blame
-blame_of report = record { words = report.words_fault; file = report.file; text = report.text_fault }
+blame_of report = record {
+  words = report.words_fault;
+  file = report.file;
+  text = report.text_fault;
+  probes = report.probes_fault;
+  trace = report.trace_fault;
+  verdict = report.verdict;
+}
 
 -- a word of the line, behind a space
 abbrev pub role_word : Option Role → List ℕ
@@ -94,10 +121,48 @@ text_words None = []
 text_words (Some fault) =
     32 ∷ (text.fault_name fault ++ (number_word (text.fault_place fault) ++ number_word (text.fault_length fault)))
 
+-- the fault's name and its place
+abbrev pub probes_words : Option ProbesFault → List ℕ
+probes_words None = []
+probes_words (Some (probes.Line at)) = codes " Line" ++ number_word (Some at)
+probes_words (Some probes.NoMemory) = codes " NoMemory"
+
+abbrev pub trace_words : Option TraceFault → List ℕ
+trace_words None = []
+trace_words (Some (traces.BadLine at)) = codes " BadLine" ++ number_word (Some at)
+trace_words (Some (traces.BadNumber at)) = codes " BadNumber" ++ number_word (Some at)
+trace_words (Some (traces.OutOfOrder at)) = codes " OutOfOrder" ++ number_word (Some at)
+trace_words (Some traces.NoEnd) = codes " NoEnd"
+trace_words (Some traces.NoMemory) = codes " NoMemory"
+
+-- the name of what is wrong with an event
+abbrev pub why_name : Why → List ℕ
+why_name NoStep = codes "NoStep"
+why_name WrongProbe = codes "WrongProbe"
+why_name WrongAttempt = codes "WrongAttempt"
+why_name Revocable = codes "Revocable"
+why_name NotRevocable = codes "NotRevocable"
+why_name WrongRelease = codes "WrongRelease"
+why_name WrongSign = codes "WrongSign"
+
+-- the number of the event that fails and what is wrong with it
+abbrev pub failing_words : Verdict → List ℕ
+failing_words verdicts.Yes = []
+failing_words (verdicts.No q why) = 32 ∷ (decimal q.0 ++ (32 ∷ why_name why))
+
+abbrev pub verdict_words : Option Verdict → List ℕ
+verdict_words None = []
+verdict_words (Some verdict) = failing_words verdict
+
+-- the words of all that is blamed
+abbrev pub blame_words : Blame → List ℕ
+blame_words blame =
+    role_word blame.file ++ (fault_words blame.words ++ (text_words blame.text
+    ++ (probes_words blame.probes ++ (trace_words blame.trace ++ verdict_words blame.verdict))))
+
 -- the status, and what is blamed
 abbrev pub reason_line : Status → Blame → List ℕ
-reason_line status blame =
-    codes "stab: " ++ (status_name status ++ (role_word blame.file ++ (fault_words blame.words ++ (text_words blame.text ++ 10 ∷ []))))
+reason_line status blame = codes "stab: " ++ (status_name status ++ (blame_words blame ++ 10 ∷ []))
 
 -- nothing for Done, and else a line
 abbrev pub reason_text : Status → Blame → List ℕ

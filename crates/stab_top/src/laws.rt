@@ -1,36 +1,77 @@
-//! What the statuses say together: they leave no way round a good program, nor round a text that is none. The calls do nothing.
-ghost use Rattle.std.specs.Prelude.{◌≡◌, ◌⊎◌, ℕ, List, None, Ok, true};
+//! What the statuses say together: they leave no way round a good program or a trace, nor round a text that is none. The
+//! calls do nothing.
+ghost use Rattle.std.specs.Prelude.{◌≡◌, ◌⊎◌, ℕ, ℤ, List, Some, None, Ok, true};
 ghost use Rattle.plain_run.specs.Sequential.{IsSequential};
+ghost use Rattle.probe_text.specs.declared.fault.ProbesFault.{ProbesFault};
 ghost use Rattle.stab_code.specs.Program.{ProgramParts};
+ghost use Rattle.stab_journal.specs.Journal.{Journal};
 ghost use Rattle.stab_text.specs.declared.fault.TextFault.{TextFault};
 ghost use Rattle.stab_text.specs.Text.{HasFault, IsTextOf};
 ghost use Rattle.stab_words.specs.Asked.{asked};
 ghost use Rattle.stab_words.specs.declared.request.Request.{Request};
-ghost use Rattle.stab_words.specs.declared.request.Request.TheVariants.{Check, Run};
+ghost use Rattle.stab_words.specs.declared.request.Request.TheVariants.{Check, Run, Trace, Verify};
 ghost use Rattle.stab_words.specs.declared.request.RunArgs.{RunArgs as Args};
+ghost use Rattle.stab_words.specs.declared.request.VerifyArgs.{VerifyArgs};
+ghost use Rattle.trace_text.specs.declared.fault.TraceFault.{TraceFault};
 ghost use Rattle.stab_top.specs.Call.{Call, CountedFault, Says, status_of};
 ghost use Rattle.stab_top.specs.Words.{is_built};
-ghost use Rattle.stab_top.specs.Complete.{Checked, IsHeld, IsHeldFor, IsRefusedText, Ran};
+ghost use Rattle.stab_top.specs.Complete.{Checked, IsHeld, IsHeldFor, IsRefused, IsScriptFor, Ran, WasJudged};
+ghost use Rattle.stab_top.specs.Reading.{probes_form, program_form, trace_form};
+ghost use Rattle.stab_top.specs.declared.report.Role.TheVariants.{Probes as ProbesFile, Program as ProgramFile, Trace as TraceFile};
 
 /// Where the words ask for a run that is built, and the files tell that the text of a program whose only act is `print` is
 /// held within the limit under its name, the run came to its end, or memory was refused, or a fault was counted.
 pub fn good_programs_run()
     ensures { (words : List (List ℕ)) (c : Call) (args : Args) (bytes : List ℕ) (program : ProgramParts) → Says words c →
-        asked words ≡ Ok (Run args) → args.probes ≡ None → IsHeld c args.file bytes → IsTextOf bytes program → IsSequential program →
-        Ran (status_of c) ⊎ CountedFault c }
+        asked words ≡ Ok (Run args) → args.probes ≡ None → IsHeld ProgramFile c args.file bytes → IsTextOf bytes program →
+        IsSequential program → Ran (status_of c) ⊎ CountedFault c }
+{}
+
+/// The same where the words ask for the trace of a run.
+pub fn good_programs_are_traced()
+    ensures { (words : List (List ℕ)) (c : Call) (args : Args) (bytes : List ℕ) (program : ProgramParts) → Says words c →
+        asked words ≡ Ok (Trace args) → args.probes ≡ None → IsHeld ProgramFile c args.file bytes → IsTextOf bytes program →
+        IsSequential program → Ran (status_of c) ⊎ CountedFault c }
 {}
 
 /// Where the words ask for a check, and the files tell that the text of a program is held within the limit under its name,
 /// it was told of, or memory was refused, or a fault was counted.
 pub fn good_programs_check()
     ensures { (words : List (List ℕ)) (c : Call) (file bytes : List ℕ) (program : ProgramParts) → Says words c →
-        asked words ≡ Ok (Check file) → IsHeld c file bytes → IsTextOf bytes program → Checked (status_of c) ⊎ CountedFault c }
+        asked words ≡ Ok (Check file) → IsHeld ProgramFile c file bytes → IsTextOf bytes program →
+        Checked (status_of c) ⊎ CountedFault c }
 {}
 
-/// Where the words ask for a check or for a run that is built, and the files tell that bytes with a fault are held within the
-/// limit under the name, the answer is this fault, or memory was refused, or a fault was counted.
+/// Where the words ask for a verdict, and the files tell that the program, the script and the trace are held within their
+/// limits, the status is that of the verdict, or memory was refused, or a fault was counted.
+pub fn traces_are_judged()
+    ensures { (words : List (List ℕ)) (c : Call) (args : VerifyArgs) (text bytes : List ℕ) (program : ProgramParts)
+        (script : List ℤ) (history : Journal) → Says words c → asked words ≡ Ok (Verify args) →
+        IsHeld ProgramFile c args.file text → IsTextOf text program → IsScriptFor c args.probes script →
+        IsHeld TraceFile c args.trace bytes → trace_form.IsOf bytes history →
+        WasJudged c program script bytes ⊎ CountedFault c }
+{}
+
+/// Where the words ask for what is built, and the files tell that bytes with a fault are held within the limit under the name
+/// of the program, the answer is this fault, or memory was refused, or a fault was counted.
 pub fn bad_texts_are_refused()
     ensures { (words : List (List ℕ)) (c : Call) (request : Request) (bytes : List ℕ) (fault : TextFault) → Says words c →
         asked words ≡ Ok request → is_built request ≡ true → IsHeldFor c request bytes → HasFault bytes fault →
-        IsRefusedText c fault ⊎ CountedFault c }
+        IsRefused program_form c fault ⊎ CountedFault c }
+{}
+
+/// The same of a probe file that a verdict asks for, where there is a program.
+pub fn bad_probes_are_refused()
+    ensures { (words : List (List ℕ)) (c : Call) (args : VerifyArgs) (text name bytes : List ℕ) (program : ProgramParts)
+        (fault : ProbesFault) → Says words c → asked words ≡ Ok (Verify args) →
+        IsHeld ProgramFile c args.file text → IsTextOf text program → args.probes ≡ Some name →
+        IsHeld ProbesFile c name bytes → probes_form.HasFault bytes fault → IsRefused probes_form c fault ⊎ CountedFault c }
+{}
+
+/// The same of a trace, where there are a program and a script.
+pub fn bad_traces_are_refused()
+    ensures { (words : List (List ℕ)) (c : Call) (args : VerifyArgs) (text bytes : List ℕ) (program : ProgramParts)
+        (script : List ℤ) (fault : TraceFault) → Says words c → asked words ≡ Ok (Verify args) →
+        IsHeld ProgramFile c args.file text → IsTextOf text program → IsScriptFor c args.probes script →
+        IsHeld TraceFile c args.trace bytes → trace_form.HasFault bytes fault → IsRefused trace_form c fault ⊎ CountedFault c }
 {}

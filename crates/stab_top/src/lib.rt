@@ -2,6 +2,7 @@
 #![tactic(auto)]
 
 mod checking;
+mod judging;
 mod laws;
 mod loading;
 mod program;
@@ -15,13 +16,18 @@ mod tests;
 mod text_tests;
 mod top;
 #[cfg(test)]
+mod trace_tests;
+#[cfg(test)]
 mod trial;
 #[cfg(test)]
 mod word_tests;
 mod words;
 mod writing;
 
-pub use laws::{bad_texts_are_refused, good_programs_check, good_programs_run};
+pub use laws::{
+    bad_probes_are_refused, bad_texts_are_refused, bad_traces_are_refused,
+    good_programs_are_traced, good_programs_check, good_programs_run, traces_are_judged,
+};
 pub use program::command;
 pub use reason_line::reason;
 pub use report::{Gate, Report, Role, Status};

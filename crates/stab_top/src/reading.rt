@@ -1,39 +1,107 @@
-//! Reads the program of a file.
-ghost use Rattle.std.specs.Prelude.{◌≡◌, ◌≤◌, length, IfOk, IfErr};
+//! Reads programs, probe files and traces from files.
+ghost use Rattle.std.specs.Prelude.{◌≡◌, ◌≤◌, [], length, IfOk, IfErr};
+ghost use Rattle.stab_code.specs.Limits.{max_script};
 ghost use Rattle.stab_text.specs.Text.{IsTextOf};
 ghost use Rattle.stab_top.specs.Device.{device};
 ghost use Rattle.stab_top.specs.Loading.{max_bytes};
-ghost use Rattle.stab_top.specs.Reading.{Holds, ReadRefused, TextRefused};
-ghost use Rattle.stab_top.specs.declared.report.Role.TheVariants.{Program as ProgramFile};
+ghost use Rattle.stab_top.specs.Reading.{BytesRefused, Holds, ReadRefused, probes_form, program_form, trace_form};
+ghost use Rattle.stab_top.specs.declared.report.Role.TheVariants.{Probes as ProbesFile, Program as ProgramFile, Trace as TraceFile};
 
-use crate::loading::{blame, load};
+use crate::loading::load;
 use crate::report::{Report, Role, Status};
+use probe_text::{ProbesFault, read_probes};
 use stab_code::Program;
 use stab_files::Files;
+use stab_journal::History;
 use stab_text::read_program;
 use std::alloc::Global;
+use trace_text::{TraceFault, read_trace};
 
-/// The program of the file, or the report of a call that can't have it.
-pub fn read_file<F: Files>(alloc: Global, files: &mut F, name: &str) -> Result<Program, Report>
-    ensures ok { IfOk result (Holds (device F.held F.faults files.old) name.now (F.faults files.new)) }
-    ensures err { IfErr result (λ report. ReadRefused report (device F.held F.faults files.old) name.now (F.faults files.new)) }
+/// The program of a file, or the report of a call that can't have it.
+pub fn read_program_file<F: Files>(
+    alloc: Global,
+    files: &mut F,
+    name: &str,
+) -> Result<Program, Report>
+    ensures ok { IfOk result (Holds program_form (device F.held F.faults files.old) name.now (F.faults files.new)) }
+    ensures err { IfErr result (λ report. ReadRefused program_form report (device F.held F.faults files.old) name.now (F.faults files.new)) }
     ensures kept { F.held files.new ≡ F.held files.old }
 {
     match load(alloc, files, Role::Program, name) {
-        Ok(bytes) => read_text(alloc, &bytes),
-        Err(status) => Err(Report::bad_file(status, blame(status, Role::Program))),
+        Ok(bytes) => program_of(alloc, &bytes),
+        Err(report) => Err(report),
     }
 }
 
 // The program of a text, or the report of a call that can't have it.
-fn read_text(alloc: Global, bytes: &[u8]) -> Result<Program, Report>
+fn program_of(alloc: Global, bytes: &[u8]) -> Result<Program, Report>
     requires { length bytes.now ≤ max_bytes ProgramFile }
-    ensures ok { IfOk result (IsTextOf bytes.now) }
-    ensures err { IfErr result (λ report. TextRefused report.status report bytes.now) }
+    ensures ok { IfOk result (program_form.IsOf bytes.now) }
+    ensures err { IfErr result (λ report. BytesRefused program_form report bytes.now) }
 {
     match read_program(alloc, bytes) {
         Ok(program) => Ok(program),
         Err(fault) if fault.is_no_memory() => Err(Report::bare(Status::NoMemory)),
         Err(fault) => Err(Report::bad_text(fault)),
+    }
+}
+
+/// The numbers of a probe file, or the report of a call that can't have them.
+pub fn read_probes_file<F: Files>(
+    alloc: Global,
+    files: &mut F,
+    name: &str,
+) -> Result<Vec<i64>, Report>
+    ensures ok { IfOk result (λ numbers. Holds probes_form (device F.held F.faults files.old) name.now (F.faults files.new) numbers.items) }
+    ensures few { IfOk result (λ numbers. length numbers.items ≤ max_script) }
+    ensures err { IfErr result (λ report. ReadRefused probes_form report (device F.held F.faults files.old) name.now (F.faults files.new)) }
+    ensures kept { F.held files.new ≡ F.held files.old }
+{
+    match load(alloc, files, Role::Probes, name) {
+        Ok(bytes) => probes_of(alloc, &bytes),
+        Err(report) => Err(report),
+    }
+}
+
+// The numbers of a text, or the report of a call that can't have them.
+fn probes_of(alloc: Global, bytes: &[u8]) -> Result<Vec<i64>, Report>
+    requires { length bytes.now ≤ max_bytes ProbesFile }
+    ensures ok { IfOk result (λ numbers. probes_form.IsOf bytes.now numbers.items) }
+    ensures few { IfOk result (λ numbers. length numbers.items ≤ max_script) }
+    ensures err { IfErr result (λ report. BytesRefused probes_form report bytes.now) }
+{
+    match read_probes(alloc, bytes) {
+        Ok(numbers) => Ok(numbers),
+        Err(ProbesFault::NoMemory) => Err(Report::bare(Status::NoMemory)),
+        Err(fault) => Err(Report::bad_probes(fault)),
+    }
+}
+
+/// The history of a trace, or the report of a call that can't have it.
+pub fn read_trace_file<F: Files>(
+    alloc: Global,
+    files: &mut F,
+    name: &str,
+) -> Result<History, Report>
+    ensures ok { IfOk result (Holds trace_form (device F.held F.faults files.old) name.now (F.faults files.new)) }
+    ensures err { IfErr result (λ report. ReadRefused trace_form report (device F.held F.faults files.old) name.now (F.faults files.new)) }
+    ensures kept { F.held files.new ≡ F.held files.old }
+{
+    match load(alloc, files, Role::Trace, name) {
+        Ok(bytes) => history_of(alloc, &bytes),
+        Err(report) => Err(report),
+    }
+}
+
+// The history of a text, or the report of a call that can't have it.
+fn history_of(alloc: Global, bytes: &[u8]) -> Result<History, Report>
+    requires { length bytes.now ≤ max_bytes TraceFile }
+    ensures ok { IfOk result (trace_form.IsOf bytes.now) }
+    ensures err { IfErr result (λ report. BytesRefused trace_form report bytes.now) }
+{
+    match read_trace(alloc, bytes) {
+        Ok(history) => Ok(history),
+        Err(TraceFault::NoMemory) => Err(Report::bare(Status::NoMemory)),
+        Err(fault) => Err(Report::bad_trace(fault)),
     }
 }

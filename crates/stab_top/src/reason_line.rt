@@ -1,15 +1,18 @@
 //! The line that tells a reason.
 ghost use Rattle.std.specs.Prelude.{◌≡◌, ◌++◌, IfOk, OnOk, OnErr, string_bytes};
-ghost use Rattle.stab_top.specs.Reason.{blame_of, fault_words, number_word, reason_text, role_word, text_words};
+ghost use Rattle.stab_top.specs.Reason.{blame_of, blame_words, failing_words, fault_words, number_word, probes_words, reason_text, role_word, text_words, trace_words, verdict_words, why_name};
 
 use crate::report::{Report, Role, Status};
+use probe_text::ProbesFault;
 use stab_base::NoMemory;
 use stab_text::TextFault;
 use stab_words::WordFault;
 use std::alloc::Global;
+use trace_text::TraceFault;
+use trace_verify::{Verdict, Why};
 
-/// Adds the line that tells why a call didn't end as Done: the status, and the file or the fault of the words or of the text
-/// that is the cause. Nothing is added for Done.
+/// Adds the line that tells why a call didn't end as Done: the status, and the cause: a file, the fault of the words or of a text,
+/// or the event of a trace that fails. Nothing is added for Done.
 pub fn reason(alloc: Global, report: &Report, out: &mut Vec<u8>) -> Result<(), NoMemory>
     ensures ok { OnOk result (out.new.items ≡ out.old.items ++ reason_text report.now.status (blame_of report.now)) }
     ensures err { OnErr result (out.new.items ≡ out.old.items) }
@@ -18,12 +21,23 @@ pub fn reason(alloc: Global, report: &Report, out: &mut Vec<u8>) -> Result<(), N
         return Ok(());
     }
     let status = report.status.name();
+    let blame = blame_words(alloc, report)?;
+    let line = format!(in alloc; "stab: {status}{blame}\n")?;
+    out.extend_from_slice(line.as_bytes())?;
+    Ok(())
+}
+
+// The words of all that is blamed.
+fn blame_words(alloc: Global, report: &Report) -> Result<String, NoMemory>
+    ensures { IfOk result (λ words. string_bytes words ≡ blame_words (blame_of report.now)) }
+{
     let role = role_word(alloc, report.file)?;
     let fault = fault_words(alloc, report.words_fault)?;
     let text = text_words(alloc, report.text_fault)?;
-    let line = format!(in alloc; "stab: {status}{role}{fault}{text}\n")?;
-    out.extend_from_slice(line.as_bytes())?;
-    Ok(())
+    let probes = probes_words(alloc, report.probes_fault)?;
+    let trace = trace_words(alloc, report.trace_fault)?;
+    let verdict = verdict_words(alloc, report.verdict)?;
+    Ok(format!(in alloc; "{role}{fault}{text}{probes}{trace}{verdict}")?)
 }
 
 // The word for the file, behind a space.
@@ -75,4 +89,66 @@ fn number_word(alloc: Global, number: Option<usize>) -> Result<String, NoMemory>
         return Ok(String::new(alloc));
     };
     Ok(format!(in alloc; " {number}")?)
+}
+
+// The name of the fault and its place, each behind a space.
+fn probes_words(alloc: Global, fault: Option<ProbesFault>) -> Result<String, NoMemory>
+    ensures { IfOk result (λ words. string_bytes words ≡ probes_words fault) }
+{
+    match fault {
+        None => Ok(String::new(alloc)),
+        Some(ProbesFault::Line(at)) => Ok(format!(in alloc; " Line {at}")?),
+        Some(ProbesFault::NoMemory) => Ok(String::from_str(alloc, " NoMemory")?),
+    }
+}
+
+// The name of the fault and its place, each behind a space.
+fn trace_words(alloc: Global, fault: Option<TraceFault>) -> Result<String, NoMemory>
+    ensures { IfOk result (λ words. string_bytes words ≡ trace_words fault) }
+{
+    match fault {
+        None => Ok(String::new(alloc)),
+        Some(TraceFault::BadLine(at)) => Ok(format!(in alloc; " BadLine {at}")?),
+        Some(TraceFault::BadNumber(at)) => Ok(format!(in alloc; " BadNumber {at}")?),
+        Some(TraceFault::OutOfOrder(at)) => Ok(format!(in alloc; " OutOfOrder {at}")?),
+        Some(TraceFault::NoEnd) => Ok(String::from_str(alloc, " NoEnd")?),
+        Some(TraceFault::NoMemory) => Ok(String::from_str(alloc, " NoMemory")?),
+    }
+}
+
+fn verdict_words(alloc: Global, verdict: Option<Verdict>) -> Result<String, NoMemory>
+    ensures { IfOk result (λ words. string_bytes words ≡ verdict_words verdict) }
+{
+    match verdict {
+        None => Ok(String::new(alloc)),
+        Some(verdict) => failing_words(alloc, verdict),
+    }
+}
+
+/// The number of the event that fails and what is wrong with it, each behind a space.
+pub(crate) fn failing_words(alloc: Global, verdict: Verdict) -> Result<String, NoMemory>
+    ensures { IfOk result (λ words. string_bytes words ≡ failing_words verdict) }
+{
+    match verdict {
+        Verdict::Yes => Ok(String::new(alloc)),
+        Verdict::No(q, why) => {
+            let number = q.0;
+            let name = why_name(why);
+            Ok(format!(in alloc; " {number} {name}")?)
+        }
+    }
+}
+
+fn why_name(why: Why) -> &'static str
+    ensures { result.now ≡ why_name why }
+{
+    match why {
+        Why::NoStep => "NoStep",
+        Why::WrongProbe => "WrongProbe",
+        Why::WrongAttempt => "WrongAttempt",
+        Why::Revocable => "Revocable",
+        Why::NotRevocable => "NotRevocable",
+        Why::WrongRelease => "WrongRelease",
+        Why::WrongSign => "WrongSign",
+    }
 }

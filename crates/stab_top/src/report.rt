@@ -1,18 +1,21 @@
 //! What a call reports.
-ghost use Rattle.std.specs.Prelude.{◌≡◌, Some};
+ghost use Rattle.std.specs.Prelude.{◌≡◌, Some, None};
 ghost use Rattle.stab_top.specs.Loading.{max_bytes};
 ghost use Rattle.stab_top.specs.Reading.{Blames};
-ghost use Rattle.stab_top.specs.Reason.{blame_of, blames_file, blames_text, blames_words, no_blame, role_name, status_name, status_number};
-ghost use Rattle.stab_top.specs.declared.report.Status.TheVariants.{BadText as BadTextStatus, BadWords as BadWordsStatus};
+ghost use Rattle.stab_top.specs.Reason.{blame_of, blames_file, blames_probes, blames_text, blames_trace, blames_words, names_verdict, no_blame, role_name, status_name, status_number};
+ghost use Rattle.stab_top.specs.declared.report.Status.TheVariants.{BadProbes as BadProbesStatus, BadText as BadTextStatus, BadTrace as BadTraceStatus, BadWords as BadWordsStatus};
 
 use plain_run::Book;
+use probe_text::ProbesFault;
 use stab_text::TextFault;
 use stab_words::WordFault;
+use trace_text::TraceFault;
+use trace_verify::Verdict;
 
 /// How a call ended. Its number is the program's exit status.
 #[derive(Clone, Copy, PartialEq, Eq, Debug)]
 pub enum Status {
-    /// The run came to rest, and every thread ended without a fault.
+    /// The run came to rest, and every thread ended without a fault; or the trace is one of a run of the program.
     Done,
     /// The run came to rest, and a thread failed or waits.
     Held,
@@ -121,6 +124,12 @@ pub struct Report {
     pub text_fault: Option<TextFault>,
     /// The file that is missing, too big or couldn't be read.
     pub file: Option<Role>,
+    /// Why the probe file isn't one.
+    pub probes_fault: Option<ProbesFault>,
+    /// Why the trace isn't one.
+    pub trace_fault: Option<TraceFault>,
+    /// The verdict on a trace, also where it couldn't be written.
+    pub verdict: Option<Verdict>,
 }
 
 impl Report {
@@ -131,11 +140,8 @@ impl Report {
         ensures blame { blame_of result ≡ no_blame }
     {
         Report {
-            status,
             book: Some(book),
-            words_fault: None,
-            text_fault: None,
-            file: None,
+            ..Report::bare(status)
         }
     }
 
@@ -150,6 +156,9 @@ impl Report {
             words_fault: None,
             text_fault: None,
             file: None,
+            probes_fault: None,
+            trace_fault: None,
+            verdict: None,
         }
     }
 
@@ -183,6 +192,39 @@ impl Report {
         Report {
             text_fault: Some(fault),
             ..Report::bare(Status::BadText)
+        }
+    }
+
+    /// The report of a file that is no probe file.
+    pub(crate) fn bad_probes(fault: ProbesFault) -> Report
+        ensures status { result.status ≡ BadProbesStatus }
+        ensures blames { Blames result (blames_probes fault) }
+    {
+        Report {
+            probes_fault: Some(fault),
+            ..Report::bare(Status::BadProbes)
+        }
+    }
+
+    /// The report of a file that is no trace.
+    pub(crate) fn bad_trace(fault: TraceFault) -> Report
+        ensures status { result.status ≡ BadTraceStatus }
+        ensures blames { Blames result (blames_trace fault) }
+    {
+        Report {
+            trace_fault: Some(fault),
+            ..Report::bare(Status::BadTrace)
+        }
+    }
+
+    /// The report of a trace that was judged.
+    pub(crate) fn judged(status: Status, verdict: Verdict) -> Report
+        ensures status { result.status ≡ status }
+        ensures reported { Blames result (names_verdict verdict) }
+    {
+        Report {
+            verdict: Some(verdict),
+            ..Report::bare(status)
         }
     }
 }

@@ -1,12 +1,11 @@
-//! Runs a program to its end.
-ghost use Rattle.std.specs.Prelude.{◌≡◌, [], Some, IfOk};
+//! Runs a program to its end, and writes what it shows or its trace.
+ghost use Rattle.std.specs.Prelude.{◌≡◌, Some, IfOk, IfErr};
 ghost use Rattle.plain_language.specs.Shown.{shown};
-ghost use Rattle.plain_run.specs.Book.{IsBook, IsOver};
+ghost use Rattle.plain_run.specs.Book.{IsOver};
 ghost use Rattle.plain_run.specs.Sequential.{IsSequential};
-ghost use Rattle.stab_code.specs.JobParts.{job_of};
 ghost use Rattle.stab_code.specs.Valid.{IsValid};
 ghost use Rattle.stab_words.specs.Within.{IsRunWithin};
-ghost use Rattle.stab_top.specs.Ending.{EndSays, RunEnds, outcome_of};
+ghost use Rattle.stab_top.specs.Ending.{EndSays, IsRunOf, IsUnrun, RestSays, RunEnds, outcome_of, shown_by, trace_by};
 ghost use Rattle.stab_top.specs.Reason.{blame_of, no_blame};
 
 use crate::report::{Report, Status};
@@ -18,21 +17,57 @@ use stab_files::{Sink, SinkFail};
 use stab_words::RunArgs;
 use std::alloc::Global;
 use std::sync::Arc;
+use trace_text::{TraceWriteFault, write_trace};
 
 /// Runs the program, where its only act is `print`, and writes what it shows.
 pub fn run_program<K: Sink>(alloc: Global, args: &RunArgs, program: Program, sink: &mut K) -> Report
     requires within { IsRunWithin args.now.workers args.now.fuel args.now.quantum }
-    ensures { RunEnds result.status args.now program (outcome_of K.told K.faults sink.old sink.new result) }
+    ensures { RunEnds shown_by result.status args.now program (outcome_of K.told K.faults sink.old sink.new result) }
 {
-    if !is_sequential(&program) {
-        return Report::bare(Status::NotBuilt);
-    }
-    let Ok(book) = whole_run(alloc, args, program) else {
-        return Report::bare(Status::NoMemory);
+    let book = match run_over(alloc, args, program) {
+        Ok(book) => book,
+        Err(status) => return Report::bare(status),
     };
     match book.shown_text(alloc) {
-        Ok(text) => write_end(book, &text, sink),
+        Ok(text) => write_shown(book, &text, sink),
         Err(NoMemory) => Report::bare(Status::NoMemory),
+    }
+}
+
+/// Runs the program, where its only act is `print`, and writes the trace of the run.
+pub fn trace_program<K: Sink>(
+    alloc: Global,
+    args: &RunArgs,
+    program: Program,
+    sink: &mut K,
+) -> Report
+    requires within { IsRunWithin args.now.workers args.now.fuel args.now.quantum }
+    ensures { RunEnds trace_by result.status args.now program (outcome_of K.told K.faults sink.old sink.new result) }
+{
+    let book = match run_over(alloc, args, program) {
+        Ok(book) => book,
+        Err(status) => return Report::bare(status),
+    };
+    match write_trace(alloc, book.history(), sink) {
+        Ok(()) => finish(book),
+        Err(TraceWriteFault::Sink) => Report::ending(Status::SinkFault, book),
+        Err(TraceWriteFault::NoMemory) => Report::bare(Status::NoMemory),
+    }
+}
+
+// The book of a run that is over, or the status of a call that can't make one.
+fn run_over(alloc: Global, args: &RunArgs, program: Program) -> Result<Book, Status>
+    requires within { IsRunWithin args.now.workers args.now.fuel args.now.quantum }
+    ensures run { IfOk result (λ b. IsRunOf args.now program b b.state) }
+    ensures over { IfOk result (λ b. IsOver b b.state) }
+    ensures refused { IfErr result (λ status. IsUnrun status program) }
+{
+    if !is_sequential(&program) {
+        return Err(Status::NotBuilt);
+    }
+    match whole_run(alloc, args, program) {
+        Ok(book) => Ok(book),
+        Err(NoMemory) => Err(Status::NoMemory),
     }
 }
 
@@ -41,7 +76,7 @@ fn whole_run(alloc: Global, args: &RunArgs, program: Program) -> Result<Book, No
     requires within { IsRunWithin args.now.workers args.now.fuel args.now.quantum }
     requires sequential { IsSequential program }
     requires valid { IsValid program }
-    ensures job { IfOk result (λ b. b.job ≡ job_of program [] args.now.fuel args.now.quantum) }
+    ensures run { IfOk result (λ b. IsRunOf args.now program b b.state) }
     ensures over { IfOk result (λ b. IsOver b b.state) }
 {
     let program = Arc::new(alloc, program)?;
@@ -52,20 +87,31 @@ fn whole_run(alloc: Global, args: &RunArgs, program: Program) -> Result<Book, No
 }
 
 // Writes what a run that is over shows.
-fn write_end<K: Sink>(book: Book, text: &[u8], sink: &mut K) -> Report
+fn write_shown<K: Sink>(book: Book, text: &[u8], sink: &mut K) -> Report
     requires text { text.now ≡ shown book.job.program book.state }
     requires over { IsOver book book.state }
     ensures book { result.book ≡ Some book }
     ensures blame { blame_of result ≡ no_blame }
-    ensures end { EndSays result.status book book.state (outcome_of K.told K.faults sink.old sink.new result) }
-    ensures kept { IsBook book }
+    ensures end { EndSays result.status book book.state text.now (outcome_of K.told K.faults sink.old sink.new result) }
 {
-    let quiet = book.is_quiet();
-    let done = book.is_done();
     match put_lines(sink, text) {
+        Ok(()) => finish(book),
         Err(SinkFail::Failed) => Report::ending(Status::SinkFault, book),
-        Ok(()) if !quiet => Report::ending(Status::Spent, book),
-        Ok(()) if done => Report::ending(Status::Done, book),
-        Ok(()) => Report::ending(Status::Held, book),
     }
+}
+
+// The report of a run that is over, whose text was written.
+fn finish(book: Book) -> Report
+    requires over { IsOver book book.state }
+    ensures book { result.book ≡ Some book }
+    ensures blame { blame_of result ≡ no_blame }
+    ensures status { RestSays result.status book book.state }
+{
+    if !book.is_quiet() {
+        return Report::ending(Status::Spent, book);
+    }
+    if book.is_done() {
+        return Report::ending(Status::Done, book);
+    }
+    Report::ending(Status::Held, book)
 }

@@ -1,23 +1,27 @@
 //! The one call that the program makes.
-ghost use Rattle.std.specs.Prelude.{◌≡◌, map as each, string_bytes};
+ghost use Rattle.std.specs.Prelude.{◌≡◌, ◌≤◌, map as each, length, string_bytes};
+ghost use Rattle.stab_code.specs.Limits.{max_script};
 ghost use Rattle.stab_words.specs.Within.{IsRunWithin, IsWithin};
-ghost use Rattle.stab_top.specs.Call.{CheckSays, RequestSays, RunSays, Says, call_of};
-ghost use Rattle.stab_top.specs.Ending.{outcome_of};
+ghost use Rattle.stab_top.specs.Call.{CheckSays, RequestSays, RunSays, Says, ScriptSays, TraceSays, VerifySays, call_of};
+ghost use Rattle.stab_top.specs.Ending.{outcome_of, shown_by, trace_by};
 ghost use Rattle.stab_top.specs.Words.{is_built};
 
 use crate::checking::check_program;
-use crate::reading::read_file;
+use crate::judging::judge;
+use crate::reading::{read_probes_file, read_program_file, read_trace_file};
 use crate::report::{Gate, Report, Status};
-use crate::running::run_program;
+use crate::running::{run_program, trace_program};
 use crate::words::is_built;
+use stab_code::Program;
 use stab_files::{Files, Sink};
-use stab_words::{Name, Request, RunArgs, WordFault, read_words};
+use stab_words::{Name, Request, RunArgs, VerifyArgs, WordFault, read_words};
 use std::alloc::Global;
 use std::sync::Wait;
 use std::thread::Threads;
 
 /// Does what the words ask for, and reports how it ended. `run FILE` runs the program of the file and writes what it shows;
-/// `check FILE` writes how many functions and texts it has. One worker runs on the calling thread, and calls no gate.
+/// `trace FILE` runs it and writes the trace; `verify FILE TRACE` writes the verdict on a trace; `check FILE` writes how many
+/// functions and texts the program has. One worker runs on the calling thread, and calls no gate.
 pub fn stab<R: Threads + Wait + Sync, F: Files, K: Sink, G: Gate + Sync>(
     rt: &R,
     alloc: Global,
@@ -63,6 +67,8 @@ fn answer_request<F: Files, K: Sink>(
     }
     match request {
         Request::Run(args) => run_file(alloc, args, files, sink),
+        Request::Trace(args) => trace_file(alloc, args, files, sink),
+        Request::Verify(args) => verify_file(alloc, args, files, sink),
         Request::Check(file) => check_file(alloc, file, files, sink),
         _ => unreachable!(),
     }
@@ -71,12 +77,88 @@ fn answer_request<F: Files, K: Sink>(
 // Runs the program of a file, and writes what it shows.
 fn run_file<F: Files, K: Sink>(alloc: Global, args: &RunArgs, files: &mut F, sink: &mut K) -> Report
     requires { IsRunWithin args.now.workers args.now.fuel args.now.quantum }
-    ensures says { RunSays (call_of F.held F.faults files.old files.new
+    ensures says { RunSays shown_by (call_of F.held F.faults files.old files.new
         (outcome_of K.told K.faults sink.old sink.new result)) args.now }
     ensures kept { F.held files.new ≡ F.held files.old }
 {
-    match read_file(alloc, files, args.file.as_str()) {
+    match read_program_file(alloc, files, args.file.as_str()) {
         Ok(program) => run_program(alloc, args, program, sink),
+        Err(report) => report,
+    }
+}
+
+// Runs the program of a file, and writes the trace.
+fn trace_file<F: Files, K: Sink>(
+    alloc: Global,
+    args: &RunArgs,
+    files: &mut F,
+    sink: &mut K,
+) -> Report
+    requires { IsRunWithin args.now.workers args.now.fuel args.now.quantum }
+    ensures says { RunSays trace_by (call_of F.held F.faults files.old files.new
+        (outcome_of K.told K.faults sink.old sink.new result)) args.now }
+    ensures kept { F.held files.new ≡ F.held files.old }
+{
+    match read_program_file(alloc, files, args.file.as_str()) {
+        Ok(program) => trace_program(alloc, args, program, sink),
+        Err(report) => report,
+    }
+}
+
+// Judges the trace of a file as one of the program of another and of a script.
+fn verify_file<F: Files, K: Sink>(
+    alloc: Global,
+    args: &VerifyArgs,
+    files: &mut F,
+    sink: &mut K,
+) -> Report
+    ensures says { VerifySays (call_of F.held F.faults files.old files.new
+        (outcome_of K.told K.faults sink.old sink.new result)) args.now }
+    ensures kept { F.held files.new ≡ F.held files.old }
+{
+    match read_program_file(alloc, files, args.file.as_str()) {
+        Ok(program) => verify_program(alloc, args, program, files, sink),
+        Err(report) => report,
+    }
+}
+
+// Judges the trace of a file as one of the program and of a script.
+fn verify_program<F: Files, K: Sink>(
+    alloc: Global,
+    args: &VerifyArgs,
+    program: Program,
+    files: &mut F,
+    sink: &mut K,
+) -> Report
+    ensures says { let c = call_of F.held F.faults files.old files.new (outcome_of K.told K.faults sink.old sink.new result) in
+        ScriptSays c args.now.probes (λ script. TraceSays c args.now.trace program script) }
+    ensures kept { F.held files.new ≡ F.held files.old }
+{
+    let Some(file) = &args.probes else {
+        return judge_file(alloc, &args.trace, program, Vec::new(alloc), files, sink);
+    };
+    match read_probes_file(alloc, files, file.as_str()) {
+        Ok(script) => judge_file(alloc, &args.trace, program, script, files, sink),
+        Err(report) => report,
+    }
+}
+
+// Judges the trace of a file as one of the program and the script.
+fn judge_file<F: Files, K: Sink>(
+    alloc: Global,
+    trace: &Name,
+    program: Program,
+    script: Vec<i64>,
+    files: &mut F,
+    sink: &mut K,
+) -> Report
+    requires few { length script.items ≤ max_script }
+    ensures says { TraceSays (call_of F.held F.faults files.old files.new
+        (outcome_of K.told K.faults sink.old sink.new result)) trace.now program script.items }
+    ensures kept { F.held files.new ≡ F.held files.old }
+{
+    match read_trace_file(alloc, files, trace.as_str()) {
+        Ok(history) => judge(alloc, program, script, &history, sink),
         Err(report) => report,
     }
 }
@@ -87,7 +169,7 @@ fn check_file<F: Files, K: Sink>(alloc: Global, file: &Name, files: &mut F, sink
         (outcome_of K.told K.faults sink.old sink.new result)) file.now }
     ensures kept { F.held files.new ≡ F.held files.old }
 {
-    match read_file(alloc, files, file.as_str()) {
+    match read_program_file(alloc, files, file.as_str()) {
         Ok(program) => check_program(alloc, &program, sink),
         Err(report) => report,
     }

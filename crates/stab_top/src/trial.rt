@@ -42,8 +42,22 @@ impl Trial {
         text: &[u8],
         fails: [&[u64]; 2],
     ) -> Result<Trial, Fail> {
-        let file = (String::from_str(alloc, "p")?, text.to_vec(alloc)?);
-        let mut files = MemFiles::new(vec![in alloc; file]?, fails[0].to_vec(alloc)?);
+        Trial::over(rt, alloc, line, &[("p", text)], fails)
+    }
+
+    /// The same over these files, each with its name.
+    pub fn over<R: Threads + Wait + Sync>(
+        rt: &R,
+        alloc: Global,
+        line: &str,
+        files: &[(&str, &[u8])],
+        fails: [&[u64]; 2],
+    ) -> Result<Trial, Fail> {
+        let mut held = Vec::new(alloc);
+        for (name, bytes) in files {
+            held.push((String::from_str(alloc, name)?, bytes.to_vec(alloc)?))?;
+        }
+        let mut files = MemFiles::new(held, fails[0].to_vec(alloc)?);
         let mut sink = MemSink::new(alloc, 1_048_576, fails[1].to_vec(alloc)?)?;
         let gate = Counting {
             calls: AtomicU32::new(0),

@@ -53,6 +53,12 @@ run p --workers 65 -> 2 stab: BadWords BadValue 2/\n\
 check p --fuel 5 -> 2 stab: BadWords UnknownOption 2/\n\
 run q -> 4 stab: NoFile program/\n\
 check q -> 4 stab: NoFile program/\n\
+trace q -> 4 stab: NoFile program/\n\
+verify q p --probes p -> 4 stab: NoFile program/\n\
+verify p q -> 4 stab: NoFile trace/\n\
+verify p q --probes q -> 4 stab: NoFile probes/\n\
+verify p p --probes p -> 10 stab: BadProbes Line 0/\n\
+verify p p -> 11 stab: BadTrace NoEnd/\n\
 ";
 
 #[test]
@@ -62,8 +68,7 @@ fn refused_words(rt: HostRuntime) -> Result<(), Fail> {
 
 const UNBUILT: &str = "\
 run p --probes q -> 14 stab: NotBuilt/\n\
-trace p -> 14 stab: NotBuilt/\n\
-verify p t -> 14 stab: NotBuilt/\n\
+trace p --probes q -> 14 stab: NotBuilt/\n\
 drill p s -> 14 stab: NotBuilt/\n\
 mill 5 -> 14 stab: NotBuilt/\n\
 types p -> 14 stab: NotBuilt/\n\

@@ -1,11 +1,11 @@
-use Rattle.stab_top.specs.Ending.{outcome_of}
-use Rattle.stab_top.proofs.Ending.{ended, is_run_of}
+use Rattle.std.proofs.Common.{◌∙◌, subst}
+use Rattle.stab_top.specs.Ending.{EndSays, outcome_of, shown_by}
+use Rattle.stab_top.proofs.Ending.{ended}
 use Rattle.stab_top.proofs.running.run_program.Goals as goal
 
 pub returns-in-Ok-shown_text : goal.returns-in-Ok-shown_text
 returns-in-Ok-shown_text g c =
     let book = c.in-Ok.book in
-    ended c.write_end.result.status c.args.args.now c.args.program
-    (outcome_of g.K.Sink.told g.K.Sink.faults c.args.sink.now c.write_end.new.sink c.write_end.result) book c.write_end.ensures.book c.write_end.ensures.blame
-    (is_run_of c.args.args.now c.args.program book (c.is_sequential.ensures.sequential.0 c.if-not-is_sequential.false) c.in-Ok.ensures.job c.write_end.ensures.kept)
-    c.write_end.ensures.end
+    let outcome = outcome_of g.K.Sink.told g.K.Sink.faults c.args.sink.now c.write_shown.new.sink c.write_shown.result in
+    ended shown_by c.write_shown.result.status c.args.args.now c.args.program outcome book c.write_shown.ensures.book c.write_shown.ensures.blame c.in-Ok.ensures.run
+    (subst (λ t. EndSays c.write_shown.result.status book book.state t outcome) (c.deref.ensures.value ∙ c.in-Ok-shown_text.ensures) c.write_shown.ensures.end)

@@ -1,10 +1,20 @@
 use Rattle.std.proofs.Common.{sym, ◌∙◌}
-use Rattle.stab_top.proofs.Wording.{check_built, run_built}
+use Rattle.stab_words.specs.declared.request.Request.TheVariants.{Run, Trace, Verify, Check}
+use Rattle.stab_top.proofs.Wording.{said_built}
 use Rattle.stab_top.proofs.top.answer_request.Goals as goal
 
 pub returns-in-Run-clause-says : goal.returns-in-Run-clause-says
 returns-in-Run-clause-says g c =
-    run_built c.args.request.now c.in-Run.args _ c.in-Run.is (sym c.is_built.ensures ∙ c.if-not-is_built.false) c.run_file.ensures.says
+    said_built c.args.request.now (Run c.in-Run.args) _ c.in-Run.is (sym c.is_built.ensures ∙ c.if-not-is_built.false) c.run_file.ensures.says
+
+pub returns-in-Trace-clause-says : goal.returns-in-Trace-clause-says
+returns-in-Trace-clause-says g c =
+    said_built c.args.request.now (Trace c.in-Trace.args) _ c.in-Trace.is (sym c.is_built.ensures ∙ c.if-not-is_built.false) c.trace_file.ensures.says
+
+pub returns-in-Verify-clause-says : goal.returns-in-Verify-clause-says
+returns-in-Verify-clause-says g c =
+    said_built c.args.request.now (Verify c.in-Verify.args) _ c.in-Verify.is (sym c.is_built.ensures ∙ c.if-not-is_built.false) c.verify_file.ensures.says
 
 pub returns-in-Check-clause-says : goal.returns-in-Check-clause-says
-returns-in-Check-clause-says g c = check_built c.args.request.now c.in-Check.file _ c.in-Check.is c.check_file.ensures.says
+returns-in-Check-clause-says g c =
+    said_built c.args.request.now (Check c.in-Check.file) _ c.in-Check.is (sym c.is_built.ensures ∙ c.if-not-is_built.false) c.check_file.ensures.says

@@ -1,0 +1,31 @@
+-- A file that is read before others.
+use Rattle.std.proofs.Common.{◌≡◌, inr, ℕ, ℤ, List, Option, Some, refl, ap, sym, subst, ◌∙◌}
+use Rattle.stab_code.specs.Program.{ProgramParts}
+use Rattle.stab_files.specs.Entry.{Entry}
+use Rattle.stab_top.specs.Call.{Call, ScriptSays, TraceSays}
+use Rattle.stab_top.specs.Device.{Device}
+use Rattle.stab_top.specs.Ending.{Outcome}
+use Rattle.stab_top.specs.Reading.{Form, Holds, probes_form}
+
+-- no fault was counted up to here
+pub first : {Content Fault : Type 0} (form : Form Content Fault) (files : Device (List Entry)) (name : List ℕ) (faults : ℕ) (content : Content) → Holds form files name faults content → Holds form files name files.faults content
+first form files name faults content h =
+    record { bytes = h.bytes; loads = record { held = h.loads.held; within = h.loads.within; no_fault = refl }; is = h.is }
+
+-- files that tell the same and have counted as many faults
+pub same_files : (files other : Device (List Entry)) → other.told ≡ files.told → other.faults ≡ files.faults → other ≡ files
+same_files files other told faults =
+    ap (λ t. record { told = t; faults = other.faults }) told ∙ ap (λ n. record { told = files.told; faults = n }) faults
+
+-- the call that finds these files
+abbrev pub finding : Outcome → ℕ → Device (List Entry) → Call
+finding outcome after files = record { files = files; files_after = after; outcome = outcome }
+
+-- the script was read, and then the trace was judged
+pub script_read : (outcome : Outcome) (after : ℕ) (files between : Device (List Entry)) (named : Option (List ℕ)) (file trace : List ℕ) (program : ProgramParts) (script : List ℤ) → named ≡ Some file →
+    between.told ≡ files.told → Holds probes_form files file between.faults script → TraceSays (finding outcome after between) trace program script →
+    ScriptSays (finding outcome after files) named (λ s. TraceSays (finding outcome after files) trace program s)
+script_read outcome after files between named file trace program script is told holds says =
+    let same : between ≡ files = same_files files between told holds.loads.no_fault in
+    subst (λ p. ScriptSays (finding outcome after files) p (λ s. TraceSays (finding outcome after files) trace program s)) (sym is)
+    (inr (script, first probes_form files file between.faults script holds, subst (λ f. TraceSays (finding outcome after f) trace program script) same says))
