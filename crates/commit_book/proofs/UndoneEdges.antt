@@ -1,5 +1,5 @@
 -- The edges of the graph are those of the run above its last cut, so what they reach from a section is what is reached from it.
-use Rattle.std.proofs.Common.{◌≡◌, ◌⊎◌, inl, inr, ℕ, suc, ◌<◌, ◌≤◌, Bool, true, false, cond, not, ◌&&◌, ◌||◌, nat_eq, List, [], ◌∷◌, ◌++◌, reverse, Option, Some, None, refl, sym, ap, subst, ◌∙◌, arith, append_assoc}
+use Rattle.std.proofs.Common.{◌≡◌, inl, inr, ℕ, suc, ◌<◌, ◌≤◌, Bool, true, false, cond, not, ◌&&◌, ◌||◌, nat_eq, List, [], ◌∷◌, ◌++◌, reverse, Option, Some, None, refl, sym, ap, subst, ◌∙◌, arith, append_assoc}
 use Rattle.std.specs.Prelude.{filter, nat_lt, is_some}
 use Rattle.std.specs.List.{AllByRecursion, list_any, flat_map}
 use Rattle.std.specs.Cmp.{nat_eq_equiv}
@@ -20,11 +20,11 @@ use Rattle.stab_journal.specs.Reached.{reads_of, reached}
 use Rattle.comm_graph.specs.Node as graph
 use Rattle.comm_graph.specs.Node.{Node, is_write}
 use Rattle.comm_graph.specs.declared.node.NodeFor.{NodeFor}
-use Rattle.comm_graph.specs.Edge.{next_of, readers_of, read_ends, from_number, ends_at, ends, kind_at, kind_of}
+use Rattle.comm_graph.specs.Edge.{next_of, readers_of, read_ends, ends_at, ends, kind_at, kind_of}
 use Rattle.reach_line.specs.Reached as marks
 use Rattle.restore.specs.Line.{starts, IsMarkedAs, AreThere}
 use Rattle.journal_laws.specs.Lines.{is_node, has_node, Leads, by_thread, by_write, IsEdge, Marked, itself, edge}
-use Rattle.journal_laws.proofs.Chains.{or_cases, or_right, read_case}
+use Rattle.journal_laws.proofs.Chains.{or_cases, or_right}
 use Rattle.journal_laws.proofs.Entries.{nodes as marked_nodes}
 use Rattle.journal_laws.proofs.Held.{parts_of, cuts_hold, entry_of}
 use Rattle.journal_laws.proofs.Numbers.{one_step}
@@ -32,7 +32,7 @@ use Rattle.commit_book.specs.Graph.{node_of, wrote_by, nodes_from, AreNodesOf}
 use Rattle.commit_book.specs.Step.{wrote_after}
 use Rattle.commit_book.proofs.Floors.{less_is}
 use Rattle.commit_book.proofs.NodeSteps.{above_floor}
-use Rattle.commit_book.proofs.UndoneMarks.{listed_is, IsNodeOf, node_here, IsNext, next_step, next_is, IsRead, reader_step, reader_is, IsWritten, last_write, write_is, from_step}
+use Rattle.commit_book.proofs.UndoneMarks.{listed_is, IsNodeOf, node_here, next_step, next_is, IsRead, reader_step, reader_is, IsWritten, last_write, write_is, from_step}
 
 -- ---- the run above its last cut
 

@@ -21,7 +21,7 @@ use Rattle.comm_graph.specs.Node.{Node}
 use Rattle.reach_line.specs.Reached as marks
 use Rattle.restore.specs.declared.line.Line.{Line}
 use Rattle.restore.specs.declared.line.Line.TheVariants.{From, Gone}
-use Rattle.restore.specs.Line.{starts, IsMarkedAs, IsLineOf}
+use Rattle.restore.specs.Line.{starts, IsLineOf}
 use Rattle.restore.specs.Left.{LineMap, put_back}
 use Rattle.journal_laws.specs.Lines.{is_node}
 use Rattle.journal_laws.specs.Lost.{is_hit}
@@ -32,7 +32,7 @@ use Rattle.journal_laws.proofs.Numbers.{rise_front}
 use Rattle.commit_book.specs.Graph.{AreNodesOf}
 use Rattle.commit_book.specs.Run.{saves}
 use Rattle.commit_book.specs.Saved.{saved_of}
-use Rattle.commit_book.proofs.UndoneEdges.{IsKindOf, kind_step, marked_as, IsLost, lost_mark}
+use Rattle.commit_book.proofs.UndoneEdges.{IsKindOf, kind_step, marked_as, lost_mark}
 use Rattle.commit_book.proofs.UndoneThreads.{IsBack, AreCarried, first_saved}
 
 acts_touched : (l : Label) (t : ℕ) → has (actors l) t ≡ true → has (touched l) t ≡ true
