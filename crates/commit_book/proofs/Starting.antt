@@ -151,7 +151,7 @@ pub start_main : (job : JobParts) (parts : Parts) → IsStarted job.program part
 start_main job parts is =
     let slot = started is.main (is_over (expr_of job.program is.main)) in
     subst (λ (o : Option (Slot ControlView)). IsSomeAnd o (λ slot. slot ≡ started slot.control (over job.program slot.control)))
-        (sym (ap (λ m. map.get m 1) is.threads ∙ get_inserted map.empty 1 slot 1)) refl
+    (sym (ap (λ m. map.get m 1) is.threads ∙ get_inserted map.empty 1 slot 1)) refl
 
 pub start_tallied : (p : ProgramParts) (parts : Parts) → IsStarted p parts → AreTallied p parts
 start_tallied p parts is = record {

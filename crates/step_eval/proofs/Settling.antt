@@ -44,8 +44,8 @@ module _ (p : ProgramParts) (valid : IsValid p) (Q : Option Seq → Expr → Typ
         let q : NodeId = get_or (node_at p n).parts (from + k) n in
         let found : slice_get (node_at p n).parts (from + k) ≡ Some q = slice_get-get_or (node_at p n).parts (from + k) n inside in
         elim (leaf-or-form q (part-in p valid n from (length here.env) k q s.fits few found) (node_at p q).head refl) [
-          inl leaf ↦ looks gap (k + 1) (omega arith) (past-leaf p valid n from taken k here s past q few found leaf)
-        | inr form ↦ (Some q, past-form p valid n from taken k here s past q few found form)
+          | inl leaf ↦ looks gap (k + 1) (omega arith) (past-leaf p valid n from taken k here s past q few found leaf)
+          | inr form ↦ (Some q, past-form p valid n from taken k here s past q few found form)
         ]
 
     -- the redex is this form, or lies in that part
@@ -56,9 +56,9 @@ module _ (p : ProgramParts) (valid : IsValid p) (Q : Option Seq → Expr → Typ
     by-next mk round fit (Some q) past deeper =
         let next : IsNext p n from (at_form n from past.done here.env) q = past.ahead in
         let found : Q mk (within_forms p (at_form n from past.done here.env ∷ round) (form_at p (at_start q here.env))) =
-            deeper q (at_start q here.env) (at_form n from past.done here.env ∷ round) next.below
-            (record { at = refl; many = refl; few = omega arith; fits = next.fits })
-            (record { site = s.fits; waits = next.few }, tt, fit)
+        deeper q (at_start q here.env) (at_form n from past.done here.env ∷ round) next.below
+        (record { at = refl; many = refl; few = omega arith; fits = next.fits })
+        (record { site = s.fits; waits = next.few }, tt, fit)
         in
         subst (λ e. Q mk (within_forms p round e)) past.same (subst (Q mk) (form-in p n from past.done here.env round q next) found)
 
