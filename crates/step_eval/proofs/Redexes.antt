@@ -1,5 +1,5 @@
 -- The redex of a control whose redex is found is what it looks at, within its frames.
-use Rattle.std.proofs.Common.{◌≡◌, ℕ, zero, suc, ◌+◌, ◌<◌, ◌≤◌, Bool, true, false, List, [], ◌∷◌, ◌++◌, map, length, drop, slice_get, Option, Some, None, option_map, refl, ap, sym, ◌∙◌, arith, append-nil, append_assoc, cond, subst}
+use Rattle.std.proofs.Common.{◌≡◌, ℕ, zero, suc, ◌+◌, ◌<◌, ◌≤◌, Bool, true, false, List, [], ◌∷◌, ◌++◌, map, length, drop, slice_get, Option, Some, None, option_map, refl, ap, sym, ◌∙◌, arith, append-nil, append_assoc, cond}
 use Rattle.stab_base.specs.Datum.{Datum}
 use Rattle.stab_base.specs.declared.fault.Fault.TheVariants.{TooDeep}
 use Rattle.stab_base.specs.declared.numbers.Seq.{Seq}
@@ -23,7 +23,7 @@ use Rattle.step_eval.specs.declared.machine.Focus.TheVariants as focus
 use Rattle.step_eval.specs.declared.machine.Machine.{Machine}
 use Rattle.step_eval.specs.declared.site.Site.{Site}
 use Rattle.step_eval.specs.declared.site.Site.TheVariants.{Form, Section}
-use Rattle.step_eval.specs.ControlView.{ControlView, Fits, RedexIsFound, focus_expr, focus_view, view_of, expr_of as expr_in}
+use Rattle.step_eval.specs.ControlView.{Fits, RedexIsFound, focus_expr, focus_view, view_of}
 use Rattle.step_eval.specs.Fits.{FramesFit, IsMarkAt, outside}
 use Rattle.step_eval.specs.FrameView.{FrameView}
 use Rattle.step_eval.specs.Meaning.{form_at, frame_at, head_at, head_of, left_of, node_at, rest_of, strict_at, waiting_at, within_forms}

@@ -1,5 +1,5 @@
 -- What holds of each settled form within frames holds of whatever is searched, since a search finds a settled form.
-use Rattle.std.proofs.Common.{◌≡◌, ℕ, zero, suc, ◌+◌, ◌-◌, ◌<◌, ◌≤◌, ◌⊎◌, inl, inr, List, [], ◌∷◌, ◌++◌, length, slice_get, get_or, Option, Some, None, option_map, refl, ap, sym, ◌∙◌, subst, arith, length-append}
+use Rattle.std.proofs.Common.{◌≡◌, ℕ, zero, suc, ◌+◌, ◌-◌, ◌<◌, ◌≤◌, ◌⊎◌, inl, inr, List, [], ◌∷◌, length, slice_get, get_or, Option, Some, None, refl, ap, sym, subst, arith, length-append}
 use Rattle.std.proofs.lemmas.Option.{slice_get-get_or}
 use Rattle.stab_base.specs.Datum.{Datum, unit, truth, int, text}
 use Rattle.stab_base.specs.declared.numbers.Seq.{Seq}

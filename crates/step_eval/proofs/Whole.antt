@@ -23,10 +23,7 @@ module _ (p : ProgramParts) (valid : IsValid p) where
   HasRedex mk e = IsSome (redex e)
 
   has-redex : (mk : Option Seq) (round : List FrameView) (h : FrameView) → FramesFit p mk round → IsSettled p h → HasRedex mk (within_forms p round (form_at p h))
-  has-redex mk round h fit is = subst IsSome (sym (redex-settled p mk round h fit is)) tt
-
-  ended : (k : expr.Expr) (r : Rest) → r ≡ Going → rest_of k ≡ r → (rest_of k ≡ Going → ⊥) → IsSome (redex k)
-  ended k r going is not = absurd (not (is ∙ going))
+  has-redex mk round h fit is = subst IsSome (sym (redex-settled p mk round h fit is)) refl
 
   by-focus : (mk : Option Seq) (round : List FrameView) (f : FocusView) → FocusFits p f round → FramesFit p mk round → rest_of (within_forms p round (focus_expr p f)) ≡ Going → IsSome (redex (within_forms p round (focus_expr p f)))
   by-focus mk round (begun n env) fits frames going = search.begun p valid HasRedex has-redex mk round n env fits.0 fits.1 fits.2 frames
