@@ -6,8 +6,6 @@ mod found;
 mod line;
 mod plan;
 mod planning;
-#[cfg(test)]
-mod tests;
 mod undoing;
 
 pub use line::Line;

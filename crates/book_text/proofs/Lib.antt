@@ -1,3 +1,0 @@
-pub mod ByNumber
-pub mod Tallying
-pub mod Showing
