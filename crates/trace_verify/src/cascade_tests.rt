@@ -57,11 +57,11 @@ fn expected_of_change(alloc: Global, event: usize, word: usize) -> Result<String
 #[test]
 fn one_number_changed(rt: HostRuntime) -> Result<(), Fail> {
     let alloc = rt.alloc();
-    let mut changes = 0;
+    let mut changes = 0u32;
     for event in 1..=48 {
         for word in 1..=3 {
             if let Some(events) = with_one_more(alloc, event, word)? {
-                changes += 1;
+                changes = changes.saturating_add(1);
                 let verdict = verdict_on(alloc, CASCADE, &[-1], events.as_str())?;
                 let expected = expected_of_change(alloc, event, word)?;
                 is_verdict(alloc, events.as_str(), verdict.as_str(), expected.as_str())?;
@@ -81,7 +81,7 @@ const DROPPED: [usize; 48] = [
 ];
 
 fn expected_of_drop(alloc: Global, event: usize) -> Result<String, Fail> {
-    match (event, DROPPED.get(event - 1)) {
+    match (event, DROPPED.get(event.wrapping_sub(1))) {
         (48, _) => Ok(String::from_str(alloc, "yes")?),
         // The section isn't numbered 17, or its thread isn't at its stabilize.
         (15 | 31, _) => Ok(String::from_str(alloc, "no 31 NotRevocable")?),

@@ -359,7 +359,7 @@ fn written(label: Label) -> Option<RefId> {
 #[test]
 fn random_schedules(rt: HostRuntime) -> Result<(), Fail> {
     let alloc = rt.alloc();
-    let mut undos = 0;
+    let mut undos = 0usize;
     for seed in 0..5 {
         let mut schedule = Schedule::new(alloc, SHARED, seed)?;
         for _ in 0..400 {
@@ -369,18 +369,20 @@ fn random_schedules(rt: HostRuntime) -> Result<(), Fail> {
                 schedule.release(alloc)?;
             }
         }
-        undos += schedule
+        let undone = schedule
             .events
             .iter()
             .filter(|event| event.0 == '!')
             .count();
+        undos = undos.saturating_add(undone);
         let right = schedule.text(alloc, 0)?;
         let verdict = verdict_on(alloc, SHARED, &SCRIPT, right.as_str())?;
         is_verdict(alloc, right.as_str(), verdict.as_str(), "yes")?;
         // Of a step whose sign is turned, that is told.
         for _ in 0..3 {
-            let turned = (schedule.any() as usize) % 100 + 1;
-            if let Some(('+', _)) = schedule.events.get(turned - 1) {
+            let place = (schedule.any() as usize) % 100;
+            if let Some(('+', _)) = schedule.events.get(place) {
+                let turned = place.saturating_add(1);
                 let wrong = schedule.text(alloc, turned)?;
                 let verdict = verdict_on(alloc, SHARED, &SCRIPT, wrong.as_str())?;
                 let expected = format!(in alloc; "no {turned} WrongSign")?;

@@ -34,10 +34,10 @@ pub const CASCADE_EVENTS: &str =
 /// The trace of events that worker 1 made: each is its sign and its words, and a comma stands between two.
 pub fn trace_of(alloc: Global, events: &str) -> Result<String, Fail> {
     let mut text = String::from_str(alloc, "stab trace 2\n")?;
-    let mut count = 0;
+    let mut count = 0u32;
     for event in events.split(',') {
         if let Some((sign, words)) = event.split_at_checked(1) {
-            count += 1;
+            count = count.saturating_add(1);
             text.push_str(format!(in alloc; "{sign} {count} w1 {words}\n")?.as_str())?;
         }
     }
