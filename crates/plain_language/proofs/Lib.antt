@@ -15,6 +15,7 @@ pub mod Progressing
 pub mod Putting
 pub mod Ranges
 pub mod Resting
+pub mod SampleText
 pub mod Showing
 pub mod Staying
 pub mod Touching

@@ -24,8 +24,9 @@ pub use act::{as_chan, as_reference};
 pub use expr::Expr;
 pub use head::Head;
 pub use laws::{
-    counts_of_a_history, one_redex, quiet_states_rest, shown_text_is_determined,
-    states_without_steps_are_quiet, steps_change_what_they_name,
+    counts_of_a_history, one_redex, quiet_states_rest, sections_of_a_history,
+    shown_text_is_determined, states_without_steps_are_quiet, steps_change_what_they_name,
+    text_of_a_state,
 };
 pub use look::{ActKind, Look};
 pub use operators::{negated, number_of, operate};
