@@ -17,9 +17,9 @@ module _ (g : Language Expr) where
   abbrev pub written_of : Expr → Expr × Datum → Effect Expr
   written_of e p = record { mine = p.0; other = e; value = p.1; printed = [] }
 
-  -- where the thread goes from e, and what it prints
-  abbrev pub printed_of : Expr → Expr × Datum → Effect Expr
-  printed_of e p = record { mine = p.0; other = e; value = unit; printed = p.1 ∷ [] }
+  -- what the thread at e prints, and goes on with unit
+  abbrev pub printed_of : Expr → Datum → Effect Expr
+  printed_of e v = record { mine = g.answered e unit; other = e; value = unit; printed = v ∷ [] }
 
 -- where a pick goes from e with the pair of an index and a value
 abbrev pub picked_at : Expr → ℤ → Datum → Expr

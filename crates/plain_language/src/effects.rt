@@ -86,9 +86,10 @@ impl Expr {
         Ok(Some((self.answered(alloc, Value::unit())?, copy)))
     }
 
-    /// The expression after a print, and what is printed.
-    pub(crate) fn after_print(&self, alloc: Global) -> Result<Option<(Expr, Value)>, NoMemory>
-        ensures { (fs : ℕ → Expression) → let g = language fs in IfOk result (λ o. option_map (printed_of g self.now) o ≡ print_by g self.now (look fs self.now)) }
+    /// What is printed, where a print is next.
+    pub(crate) fn printed(&self, alloc: Global) -> Result<Option<Value>, NoMemory>
+        ensures prints { (fs : ℕ → Expression) → let g = language fs in IfOk result (λ o. option_map (printed_of g self.now) o ≡ print_by g self.now (look fs self.now)) }
+        ensures redex { IfOk result (λ o. IsSome o → IsSome (redex self.now)) }
     {
         let Some(act) = self.act() else {
             return Ok(None);
@@ -96,8 +97,7 @@ impl Expr {
         let Act::Print(v) = act else {
             return Ok(None);
         };
-        let copy = v.copy(alloc)?;
-        Ok(Some((self.answered(alloc, Value::unit())?, copy)))
+        Ok(Some(v.copy(alloc)?))
     }
 
     /// What is sent on the channel.

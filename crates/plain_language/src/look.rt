@@ -4,7 +4,7 @@ ghost use Rattle.plain_language.specs.declared.head.Head.TheVariants.{Section};
 ghost use Rattle.plain_language.specs.Acts.{HasValues, act_in, act_of};
 ghost use Rattle.plain_language.specs.Expression.{Expr as Expression, form, none, part};
 ghost use Rattle.plain_language.specs.Look.{answered, entered, language, look};
-ghost use Rattle.plain_language.specs.Next.{IsNext};
+ghost use Rattle.plain_language.specs.Next.{IsNext, after_next};
 ghost use Rattle.plain_language.specs.Pures.{made_in, waiting_in};
 ghost use Rattle.plain_language.specs.Program.{body};
 ghost use Rattle.plain_language.specs.Redex.{cap, redex};
@@ -120,7 +120,11 @@ impl Expr {
     }
 
     /// What the redex makes, where there is one and it is no act.
-    fn next_pure(&self, alloc: Global, program: &Program) -> Result<Option<Next>, NoMemory>
+    pub(crate) fn next_pure(
+        &self,
+        alloc: Global,
+        program: &Program,
+    ) -> Result<Option<Next>, NoMemory>
         ensures { IfOk result (λ o. MatchOption o (pure_of (language (body program.now)) (look (body program.now) self.now) ≡ None)
             (λ n. IsNext (body program.now) self.now (made_in (waiting_in (redex self.now)) n))) }
     {
@@ -133,15 +137,25 @@ impl Expr {
         }
     }
 
+    /// The expression after its redex made this.
+    pub(crate) fn after_next(self, next: Next) -> Expr
+        requires { IsSome (redex self) }
+        ensures { result ≡ after_next self next }
+    {
+        match next {
+            Next::Makes(Pure::Becomes(r)) => self.rebuilt(Instead::Put(r)).capped(),
+            Next::Makes(Pure::Fails(k)) => Expr::fault(k),
+            Next::Passes(slots) => self.rebuilt(Instead::Pass(slots)).capped(),
+        }
+    }
+
     /// The expression after its pure step, if it has one.
     pub(crate) fn stepped(self, alloc: Global, program: &Program) -> Result<Option<Expr>, NoMemory>
         ensures { IfOk result (λ o. o ≡ pure_of (language (body program.now)) (look (body program.now) self)) }
     {
         match self.next_pure(alloc, program)? {
             None => Ok(None),
-            Some(Next::Makes(Pure::Fails(k))) => Ok(Some(Expr::fault(k))),
-            Some(Next::Makes(Pure::Becomes(r))) => Ok(Some(self.rebuilt(Instead::Put(r)).capped())),
-            Some(Next::Passes(slots)) => Ok(Some(self.rebuilt(Instead::Pass(slots)).capped())),
+            Some(next) => Ok(Some(self.after_next(next))),
         }
     }
 

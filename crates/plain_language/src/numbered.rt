@@ -1,5 +1,5 @@
 //! Entries by number, as contracts see them: finite maps and sets.
-ghost use Rattle.std.specs.Prelude.{◌≡◌, IsSome, MatchResult};
+ghost use Rattle.std.specs.Prelude.{◌≡◌, IsSome, MatchResult, Some};
 ghost use Rattle.std.specs.Ordering.{nat_cmp};
 ghost use Rattle.std.specs.FinMap.{from_entries, get, insert};
 ghost use Rattle.std.specs.FinSet as set;
@@ -7,13 +7,14 @@ ghost use Rattle.std.specs.FinSet as set;
 use stab_base::NoMemory;
 use std::collections::{BTreeMap, BTreeSet};
 
-/// Puts a value in the place of the one under a number, which takes no memory.
-pub(crate) fn replace<V: Drop>(map: &mut BTreeMap<u32, V>, key: u32, v: V)
+/// Puts a value in the place of the one under a number, which comes out. That takes no memory.
+pub(crate) fn replace<V: Drop>(map: &mut BTreeMap<u32, V>, key: u32, v: V) -> V
     requires { IsSome (get (from_entries {R = nat_cmp} map.old.entries) key) }
-    ensures { from_entries {R = nat_cmp} map.new.entries ≡ insert (from_entries map.old.entries) key v }
+    ensures was { Some result ≡ get (from_entries {R = nat_cmp} map.old.entries) key }
+    ensures is { from_entries {R = nat_cmp} map.new.entries ≡ insert (from_entries map.old.entries) key v }
 {
     match map.insert(key, v) {
-        Ok(_) => {}
+        Ok(there) => there.unwrap(),
         Err(_) => unreachable!(),
     }
 }

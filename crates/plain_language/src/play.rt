@@ -31,6 +31,7 @@ impl PlainState {
         ensures { Plays self.old self.new q.0 label.now result }
     {
         match *label {
+            Label::Local(t, 1) => self.local_once(alloc, t),
             Label::Local(t, n) => self.local(alloc, t, n),
             Label::Spawn(t, u) => self.spawn(alloc, t, u),
             Label::NewChan(t, c) => self.new_chan(alloc, t, c),
@@ -48,7 +49,22 @@ impl PlainState {
         }
     }
 
-    /// Makes pure steps.
+    /// Makes one pure step, in place.
+    fn local_once(&mut self, alloc: Global, t: ThreadId) -> Result<(), PlayFault>
+        ensures { (q : ℕ) → Plays self.old self.new q (Label.Local t 1) result }
+    {
+        let state = &*self;
+        let Some(e) = state.expr(t) else {
+            return Err(PlayFault::NoStep);
+        };
+        let Some(next) = e.next_pure(alloc, &state.program)? else {
+            return Err(PlayFault::NoStep);
+        };
+        self.make(t.0, next);
+        Ok(())
+    }
+
+    /// Makes pure steps: where one of several can't be made, none is, so these are made on a copy.
     fn local(&mut self, alloc: Global, t: ThreadId, n: u32) -> Result<(), PlayFault>
         ensures { (q : ℕ) → Plays self.old self.new q (Label.Local t n) result }
     {
@@ -264,11 +280,11 @@ impl PlainState {
         let Some(e) = self.expr(t) else {
             return Err(PlayFault::NoStep);
         };
-        let Some((next, v)) = e.after_print(alloc)? else {
+        let Some(v) = e.printed(alloc)? else {
             return Err(PlayFault::NoStep);
         };
         self.put_printed(v)?;
-        self.stand(t.0, next);
+        self.answer(t.0, Value::unit());
         Ok(())
     }
 }

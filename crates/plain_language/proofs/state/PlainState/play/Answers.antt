@@ -5,6 +5,9 @@ use Rattle.plain_language.proofs.state.PlainState.play.Goals as goal
 pub returns-in-Local : goal.returns-in-Local
 returns-in-Local c = let played = c.local.ensures c.args.q.0 in search (rules, played)
 
+pub returns-in-Local-default-eq1 : goal.returns-in-Local-default-eq1
+returns-in-Local-default-eq1 c = let played = c.local_once.ensures c.args.q.0 in search (rules, played)
+
 pub returns-in-Spawn : goal.returns-in-Spawn
 returns-in-Spawn c = let played = c.spawn.ensures c.args.q.0 in search (rules, played)
 
