@@ -16,7 +16,8 @@ ghost use Rattle.plain_language.specs.Plain.{PlainState, language_of, plain_step
 ghost use Rattle.plain_language.specs.Progress.{HasRoom};
 ghost use Rattle.plain_language.specs.Quiet.{IsQuiet};
 ghost use Rattle.plain_language.specs.Redex.{Frame, Redex, redex, within};
-ghost use Rattle.plain_language.specs.Sample.{child_gone, more_released, numbers, places, sample, sample_state, sample_with, thread as sample_thread};
+ghost use Rattle.plain_language.specs.Sample as by_hand;
+ghost use Rattle.plain_language.specs.Sample.{child_gone, more_released, numbers, places, sample, sample_state, sample_with};
 ghost use Rattle.plain_language.specs.Shown.{shown};
 ghost use Rattle.plain_language.specs.Touches.{ChangesOnly};
 
@@ -53,8 +54,8 @@ pub fn shown_text_is_determined()
 /// What a state by hand shows: the values in the order in which they were printed, the threads that failed in the order of
 /// their numbers, and how many ended, failed and wait.
 pub fn text_of_a_state()
-    ensures { (p : ProgramParts) → shown p sample_state
-        ≡ codes "7" ++ 10 ∷ codes "true" ++ 10 ∷ codes "thread 2 fault Overflow" ++ 10 ∷ codes "thread 10 fault TooDeep" ++ 10 ∷ codes "ended 1 faulted 2 waiting 2" ++ 10 ∷ [] }
+    ensures { (p : ProgramParts) → shown p sample_state ≡ codes "7" ++ 10 ∷ codes "true" ++ 10 ∷ codes "thread 2 fault Overflow"
+        ++ 10 ∷ codes "thread 10 fault TooDeep" ++ 10 ∷ codes "ended 1 faulted 2 waiting 2" ++ 10 ∷ [] }
 {}
 
 /// What a history by hand has: the undo takes back the steps 2 to 5, in which the first two threads act; what the
@@ -74,11 +75,13 @@ pub fn counts_of_a_history()
 {}
 
 /// When the section of that history can be taken back, after its first six steps and one more: not behind a cut, nor where
-/// what depends on it made a pin. A pin of another thread changes nothing, and neither a step that is no Enter nor none is a section.
+/// what depends on it made a pin. A pin of another thread changes nothing. A step that is no Enter is no section, and where there
+/// is none, none can be taken back.
 pub fn sections_of_a_history()
-    ensures section { is_revocable (sample_with (Print (sample_thread 3))) 2 ≡ true }
-    ensures cut { is_revocable (sample_with (Cut (sample_thread 3))) 2 ≡ false }
-    ensures pin { is_revocable (sample_with (Pin (sample_thread 2))) 2 ≡ false }
-    ensures other_pin { is_revocable (sample_with (Pin (sample_thread 3))) 2 ≡ true }
-    ensures no_section { (is_revocable (sample_with (Print (sample_thread 3))) 3 ≡ false) × (is_mark_revocable (run_of sample) None ≡ false) }
+    ensures section { is_revocable (sample_with (Print (by_hand.thread 3))) 2 ≡ true }
+    ensures cut { is_revocable (sample_with (Cut (by_hand.thread 3))) 2 ≡ false }
+    ensures pin { is_revocable (sample_with (Pin (by_hand.thread 2))) 2 ≡ false }
+    ensures other_pin { is_revocable (sample_with (Pin (by_hand.thread 3))) 2 ≡ true }
+    ensures no_enter { is_revocable (sample_with (Print (by_hand.thread 3))) 3 ≡ false }
+    ensures no_section { is_mark_revocable (run_of sample) None ≡ false }
 {}

@@ -7,5 +7,6 @@ returns c = record {
   cut = refl;
   pin = refl;
   other_pin = refl;
-  no_section = (refl, refl);
+  no_enter = refl;
+  no_section = refl;
 }
