@@ -1,8 +1,9 @@
 //! The table of pure steps, row by row, what acts give, and what is next.
 
 use super::{at, place};
-use crate::tests::run_of;
-use stab_base::{Seq, ThreadId};
+use crate::tests::{program_of, run_of};
+use plain_language::{Expr, Head, PlainState};
+use stab_base::{ChanId, Seq, ThreadId, Value};
 use stab_journal::Label;
 use std::alloc::{AllocError, Global};
 use std::process::Abort;
@@ -34,21 +35,30 @@ false || 7 -> 7
 -(-9223372036854775808) -> fault Overflow
 -(true) -> fault WrongKind
 3 + 4 -> 7
+9223372036854775806 + 1 -> 9223372036854775807
 9223372036854775807 + 1 -> fault Overflow
 -9223372036854775808 + -1 -> fault Overflow
+1 + true -> fault WrongKind
 3 - 4 -> -1
+-9223372036854775807 - 1 -> -9223372036854775808
 -9223372036854775808 - 1 -> fault Overflow
+() - 1 -> fault WrongKind
 -3 * 4 -> -12
 -9223372036854775808 * -1 -> fault Overflow
+2 * c -> fault WrongKind
 -7 / 2 -> -3
 7 / -2 -> -3
 1 / 0 -> fault ZeroDivisor
 -9223372036854775808 / -1 -> fault Overflow
+true / 0 -> fault WrongKind
 -7 % 2 -> -1
 7 % -2 -> 1
 1 % 0 -> fault ZeroDivisor
 -9223372036854775808 % -1 -> fault Overflow
+1 % false -> fault WrongKind
 1 < 1 -> false
+-1 < 0 -> true
+false < true -> fault WrongKind
 1 < 2 -> true
 1 <= 1 -> true
 2 <= 1 -> false
@@ -56,6 +66,9 @@ false || 7 -> 7
 1 > 1 -> false
 1 >= 2 -> false
 1 >= 1 -> true
+1 <= () -> fault WrongKind
+r > 1 -> fault WrongKind
+() >= () -> fault WrongKind
 2 == 2 -> true
 2 == 3 -> false
 2 != 2 -> false
@@ -145,6 +158,19 @@ const DEPTHS: [(&str, u32, &str); 4] = [
 
 const T: ThreadId = ThreadId(1);
 
+fn play_all(
+    rt: &impl Abort,
+    alloc: Global,
+    state: &mut PlainState,
+    lines: &[&str],
+) -> Result<(), Fail> {
+    for step in &run_of(alloc, lines)? {
+        let made = state.play(alloc, step.seq, &step.label);
+        assert_eq!(rt; made, Ok(()), "{step:?}");
+    }
+    Ok(())
+}
+
 // The form is another one after the steps, or has failed.
 fn expect(
     rt: &impl Abort,
@@ -154,10 +180,7 @@ fn expect(
     wanted: &str,
 ) -> Result<(), Fail> {
     let mut state = at(alloc, form)?;
-    for step in &run_of(alloc, &[labels])? {
-        let made = state.play(alloc, step.seq, &step.label).is_ok();
-        assert!(rt; made, "{form}");
-    }
+    play_all(rt, alloc, &mut state, &[labels])?;
     let (found, wanted) = match wanted.strip_prefix("fault ") {
         Some(fault) => (
             format!(in alloc; "{:?}", state.look(T))?,
@@ -235,6 +258,43 @@ fn forms_round_a_redex(rt: HostRuntime) -> Result<(), Fail> {
     Ok(())
 }
 
+// What 999 forms stand round, a step of it, and what is next: a form within it has 1,000 round it, and one within that is too
+// deep.
+const ACTS_IN_DEPTH: [(&str, &str, &str); 4] = [
+    ("probe() == !true", "112 probe 1 0", "Some(Pure)"),
+    (
+        "probe() == !!true",
+        "112 probe 1 0",
+        "Some(Failed(TooDeep))",
+    ),
+    ("stable inner()", "112 enter 1", "Some(Act(Probe))"),
+    (
+        "stable inner() == 0",
+        "112 enter 1",
+        "Some(Failed(TooDeep))",
+    ),
+];
+
+#[test]
+fn acts_in_depth(rt: HostRuntime) -> Result<(), Fail> {
+    let alloc = rt.alloc();
+    for (form, step, wanted) in ACTS_IN_DEPTH {
+        let nots = "!!!!!!!!!!!!!!!!!!!!!!!!!!!!!!!!!!!!!";
+        let down = format!(in alloc;
+            "fn down(n: int): bool {{ if n == 0 {{ {form} }} else {{ {nots}down(n - 1) }} }}"
+        )?;
+        let text = format!(in alloc;
+            "fn inner(): int {{ probe() }} {down} fn main(): bool {{ down(27) }}"
+        )?;
+        let program = program_of(alloc, text.as_str())?;
+        let mut state = PlainState::start(alloc, &program)?;
+        play_all(&rt, alloc, &mut state, &["1 local 1 111", step])?;
+        let found = format!(in alloc; "{:?}", state.look(T))?;
+        assert_eq!(rt; found.as_str(), wanted, "{form}");
+    }
+    Ok(())
+}
+
 // `(1, ` so many times round a value.
 fn pairs(alloc: Global, times: u32) -> Result<String, AllocError> {
     let mut text = String::new(alloc);
@@ -267,6 +327,35 @@ fn deep_pairs(rt: HostRuntime) -> Result<(), Fail> {
     Ok(())
 }
 
+fn channel(c: u32) -> Expr {
+    Expr::value(Value::chan(ChanId(c)))
+}
+
+// A pick makes a pair of what was sent, which may be too deep.
+#[test]
+fn a_pick_of_a_deep_value(rt: HostRuntime) -> Result<(), Fail> {
+    let alloc = rt.alloc();
+    for (times, wanted) in [(63, "Some(Done)"), (64, "Some(Failed(DeepValue))")] {
+        let mut before = at(alloc, pairs(alloc, times)?.as_str())?;
+        assert!(rt; before.play(alloc, Seq(20), &Label::Local(T, times)).is_ok());
+        let deep = before.expr(T).ok_or("a thread")?.copy(alloc)?;
+        let sends = vec![in alloc; channel(1), deep]?;
+        let picks = vec![in alloc; channel(2), channel(1)]?;
+        let threads = vec![in alloc;
+            (T, Expr::form(Head::Send, sends)),
+            (ThreadId(2), Expr::form(Head::Pick, picks)),
+        ]?;
+        let none = (Vec::new(alloc), Vec::new(alloc), Vec::new(alloc));
+        let program = program_of(alloc, "fn main(): unit {}")?;
+        let mut state = PlainState::from_parts(alloc, &program, threads, none.0, none.1, none.2)?;
+        let comm = Label::Comm(T, ThreadId(2), ChanId(1));
+        assert_eq!(rt; state.play(alloc, Seq(1), &comm), Ok(()), "{times}");
+        let found = format!(in alloc; "{:?}", state.look(ThreadId(2)))?;
+        assert_eq!(rt; found.as_str(), wanted, "{times}");
+    }
+    Ok(())
+}
+
 // The sections entered at 20 and, within it, at 30.
 #[test]
 fn the_inner_section_is_the_mark(rt: HostRuntime) -> Result<(), Fail> {
@@ -274,17 +363,14 @@ fn the_inner_section_is_the_mark(rt: HostRuntime) -> Result<(), Fail> {
     let steps = [
         ("20 enter 1", 20),
         ("30 enter 1", 30),
-        ("40 probe 1 5; 41 local 1 1", 20),
+        // The inner section alone is the redex, and then it is gone.
+        ("40 probe 1 5", 20),
+        ("41 local 1 1", 20),
     ];
     let mut state = at(alloc, "stable outer()")?;
     assert_eq!(rt; state.mark(T), None);
     for (labels, mark) in steps {
-        for step in &run_of(alloc, &[labels])? {
-            assert!(rt;
-                state.play(alloc, step.seq, &step.label).is_ok(),
-                "{labels}"
-            );
-        }
+        play_all(&rt, alloc, &mut state, &[labels])?;
         assert_eq!(rt; state.mark(T), Some(Seq(mark)), "{labels}");
     }
     Ok(())
