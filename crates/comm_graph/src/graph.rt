@@ -63,10 +63,12 @@ impl Graph {
         self.count
     }
 
-    /// Two numbers between which all nodes are, themselves included, or none where there is no node.
+    /// Two numbers between which all nodes are, themselves included, or none where there is no node. The
+    /// second is that of the last node, the first that of the first one or of one that was struck before it.
     pub fn span(&self) -> Option<(Seq, Seq)>
         ensures some { IfSome result (λ b. All (λ (n : Node). (b.0.0 ≤ n.number) × (n.number ≤ b.1.0)) self.now.nodes) }
         ensures order { IfSome result (λ b. b.0.0 ≤ b.1.0) }
+        ensures last { IfSome result (λ b. IsSome (kind_of self.now.nodes b.1.0)) }
         ensures none { IfNone result (self.now.nodes ≡ []) }
     {
         let first = self.table.entries.front()?;
