@@ -164,7 +164,7 @@ const TWO: ThreadId = ThreadId(2);
 
 const THREE: ThreadId = ThreadId(3);
 
-const FAR: ThreadId = ThreadId(4_000_000_000);
+const FAR: ThreadId = ThreadId(1_000_000);
 
 // Thread 2 is struck out of the middle, and a thread whose number is far from the others' takes part.
 const CALLS: [Call; 31] = [
@@ -295,5 +295,18 @@ fn the_edges_of_a_cascade(rt: HostRuntime) -> Result<(), Fail> {
         cascade_ends::<Brand>(alloc, Blank::new(1), 23)?.as_slice(),
         [26].as_slice()
     );
+    Ok(())
+}
+
+#[test]
+fn room_for_many(rt: HostRuntime) -> Result<(), Fail> {
+    let mut growing = Growing::new(rt.alloc());
+    for q in 1..1000u32 {
+        assert_eq!(rt;
+            growing.put(u64::from(q), NodeFor::Enter(ThreadId(q))),
+            Ok(())
+        );
+    }
+    assert_eq!(rt; growing.graph.len(), 999);
     Ok(())
 }
