@@ -1,6 +1,7 @@
 //! The graph of the steps on which others may depend: what a rollback walks over.
 #![tactic(auto)]
 
+mod counted;
 mod edges;
 mod graph;
 mod line;
@@ -12,6 +13,7 @@ mod tests;
 mod threads;
 mod walk;
 
+pub use counted::Counted;
 pub use edges::Edges;
 pub use graph::Graph;
 pub use node::NodeFor;

@@ -169,7 +169,7 @@ fn marked<L: Ledger>(alloc: Global, blank: Blank, graph: &Graph) -> Result<u64, 
     let mut marks = Marks::new(alloc);
     marks.reserve(graph)?;
     if graph.node(Seq(1), &mut steps).is_some() {
-        reach(graph, Seq(1), &mut marks, &mut steps);
+        reach(&graph.counted(), Seq(1), &mut marks, &mut steps);
     }
     Ok(marks.nodes().len() as u64)
 }

@@ -6,7 +6,7 @@ ghost use Rattle.reach_line.specs.MarkList.{HasRoom};
 ghost use Rattle.reach_line.specs.Progress.{IsSpread};
 
 use crate::marks::Marks;
-use comm_graph::Graph;
+use comm_graph::Counted;
 use stab_base::Seq;
 use std::sync::ledger::Ledger;
 use step_counter::Steps;
@@ -14,7 +14,7 @@ use step_counter::Steps;
 /// Marks a node and all that edges reach from it, and nothing else. What was marked before is forgotten.
 /// It takes at most four steps for each node that it marks: at most two edges lead to next nodes of
 /// threads, a node is the reader of one write at most, and one step more finds that no edge is left.
-pub fn reach<L: Ledger>(graph: &Graph, node: Seq, marks: &mut Marks, steps: &mut Steps<L>)
+pub fn reach<L: Ledger>(graph: &Counted<'_, L>, node: Seq, marks: &mut Marks, steps: &mut Steps<L>)
     requires there { IsSome (kind_of graph.now.nodes node.0) }
     requires room { HasRoom marks.old graph.now.nodes }
     ensures reached { AreReached graph.now.nodes node.0 marks.new.nodes }
@@ -28,11 +28,11 @@ pub fn reach<L: Ledger>(graph: &Graph, node: Seq, marks: &mut Marks, steps: &mut
         spread(graph, from, marks, steps);
         next += 1;
     }
-    let _nodes = graph.len();
+    graph.valid();
 }
 
 // Marks where the edges of a node lead.
-fn spread<L: Ledger>(graph: &Graph, from: Seq, marks: &mut Marks, steps: &mut Steps<L>)
+fn spread<L: Ledger>(graph: &Counted<'_, L>, from: Seq, marks: &mut Marks, steps: &mut Steps<L>)
     requires there { IsSome (kind_of graph.now.nodes from.0) }
     requires room { HasRoom marks.old graph.now.nodes }
     ensures spread { IsSpread (ends graph.now.nodes from.0) (ends graph.now.nodes from.0) marks.old marks.new }

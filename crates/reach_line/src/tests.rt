@@ -52,7 +52,26 @@ fn may_follow(q: u64, node: &NodeFor) -> bool
     }
 }
 
+// The section is entered again at 33 once it was taken back.
+const LATER: [(u64, NodeFor); 8] = [
+    (33, NodeFor::Enter(MAIN)),
+    (34, NodeFor::Get(THREE, Seq(5))),
+    (35, NodeFor::Comm(MAIN, TWO)),
+    (37, NodeFor::Get(THREE, Seq(5))),
+    (38, NodeFor::Set(TWO)),
+    (41, NodeFor::Get(THREE, Seq(38))),
+    (43, NodeFor::Comm(THREE, MAIN)),
+    (47, NodeFor::Get(MAIN, Seq(38))),
+];
+
 impl Growing {
+    fn new(alloc: Global) -> Growing {
+        Growing {
+            graph: Graph::new(alloc),
+            top: 0,
+        }
+    }
+
     fn put(&mut self, q: u64, node: NodeFor) -> Result<(), NoMemory> {
         if q >= self.top && q < 1000 && may_follow(q, &node) {
             self.graph.reserve()?;
@@ -61,26 +80,36 @@ impl Growing {
         }
         Ok(())
     }
+
+    fn put_all(&mut self, nodes: &[(u64, NodeFor)]) -> Result<(), NoMemory> {
+        for (q, node) in nodes {
+            self.put(*q, *node)?;
+        }
+        Ok(())
+    }
+
+    fn strike<L: Ledger>(&mut self, q: u64, steps: &mut Steps<L>) {
+        if self.graph.node(Seq(q), steps).is_some() {
+            self.graph.strike(Seq(q));
+        }
+    }
+
+    fn cut(&mut self, q: u64) {
+        self.graph.cut(Seq(q));
+    }
 }
 
-// The numbers that are reached from one of the cascade, in rising order.
-fn reached<L: Ledger>(alloc: Global, blank: Blank, from: u64) -> Result<Vec<u64>, Fail>
-    requires name { blank.name ≡ L.name }
-    requires parts { blank.parts ≡ L.parts }
-    requires one { blank.parts ≡ 1 }
-{
-    let mut steps: Steps<L> = Steps::new(blank);
-    let mut growing = Growing {
-        graph: Graph::new(alloc),
-        top: 0,
-    };
-    for (q, node) in &CASCADE {
-        growing.put(*q, *node)?;
-    }
-    let mut marks = Marks::new(alloc);
-    marks.reserve(&growing.graph)?;
-    if growing.graph.node(Seq(from), &mut steps).is_some() {
-        reach(&growing.graph, Seq(from), &mut marks, &mut steps);
+// The numbers that are reached from one, in rising order.
+fn reached<L: Ledger>(
+    alloc: Global,
+    graph: &Graph,
+    from: u64,
+    marks: &mut Marks,
+    steps: &mut Steps<L>,
+) -> Result<Vec<u64>, Fail> {
+    marks.reserve(graph)?;
+    if graph.node(Seq(from), steps).is_some() {
+        reach(&graph.counted(), Seq(from), marks, steps);
     }
     let mut numbers = Vec::new(alloc);
     for q in marks.nodes() {
@@ -90,20 +119,40 @@ fn reached<L: Ledger>(alloc: Global, blank: Blank, from: u64) -> Result<Vec<u64>
     Ok(numbers)
 }
 
+// What is reached in the cascade, and with the same marks once its section was taken back and entered
+// again, once it was cut in the middle, and where no node is left.
+fn play<L: Ledger>(alloc: Global, blank: Blank) -> Result<[Vec<u64>; 6], Fail>
+    requires name { blank.name ≡ L.name }
+    requires parts { blank.parts ≡ L.parts }
+    requires one { blank.parts ≡ 1 }
+{
+    let mut steps: Steps<L> = Steps::new(blank);
+    let mut marks = Marks::new(alloc);
+    let mut growing = Growing::new(alloc);
+    growing.put_all(&CASCADE)?;
+    let last = reached(alloc, &growing.graph, 28, &mut marks, &mut steps)?;
+    let write = reached(alloc, &growing.graph, 23, &mut marks, &mut steps)?;
+    let section = reached(alloc, &growing.graph, 17, &mut marks, &mut steps)?;
+    for q in [17, 20, 23, 26, 28] {
+        growing.strike(q, &mut steps);
+    }
+    growing.put_all(&LATER)?;
+    let again = reached(alloc, &growing.graph, 33, &mut marks, &mut steps)?;
+    growing.cut(36);
+    let behind = reached(alloc, &growing.graph, 38, &mut marks, &mut steps)?;
+    growing.cut(50);
+    let nothing = reached(alloc, &growing.graph, 38, &mut marks, &mut steps)?;
+    Ok([last, write, section, again, behind, nothing])
+}
+
 #[test]
 fn a_cascade(rt: HostRuntime) -> Result<(), Fail> {
-    let alloc = rt.alloc();
-    assert_eq!(rt;
-        reached::<Brand>(alloc, Blank::new(1), 17)?.as_slice(),
-        [17, 20, 23, 26, 28].as_slice()
-    );
-    assert_eq!(rt;
-        reached::<Brand>(alloc, Blank::new(1), 23)?.as_slice(),
-        [23, 26, 28].as_slice()
-    );
-    assert_eq!(rt;
-        reached::<Brand>(alloc, Blank::new(1), 28)?.as_slice(),
-        [28].as_slice()
-    );
+    let [last, write, section, again, behind, nothing] = play::<Brand>(rt.alloc(), Blank::new(1))?;
+    assert_eq!(rt; last.as_slice(), [28].as_slice());
+    assert_eq!(rt; write.as_slice(), [23, 26, 28].as_slice());
+    assert_eq!(rt; section.as_slice(), [17, 20, 23, 26, 28].as_slice());
+    assert_eq!(rt; again.as_slice(), [33, 35, 38, 41, 43, 47].as_slice());
+    assert_eq!(rt; behind.as_slice(), [38, 41, 43, 47].as_slice());
+    assert!(rt; nothing.is_empty());
     Ok(())
 }

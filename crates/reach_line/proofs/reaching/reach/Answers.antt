@@ -91,5 +91,5 @@ returns-clause-steps g c =
     let inv = c.loop-from.invariant in
     let ms = c.loop-from.marks.nodes in
     let all : take c.loop-from.next ms ≡ ms = get_none ms c.loop-from.next (sym (ap (option_map (λ (q : Seq). q.0)) c.in_default.is) ∙ c.at.ensures.at) in
-    let few = four_a_node ns ms c.len-nodes.ensures.valid c.at.ensures.once (subst (AreClosed ns ms) all inv.closed) in
+    let few = four_a_node ns ms c.valid.ensures c.at.ensures.once (subst (AreClosed ns ms) all inv.closed) in
     omega (arith, inv.steps, ap (cost ns) all)
