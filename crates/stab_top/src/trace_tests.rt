@@ -1,6 +1,6 @@
 //! Calls that write a trace or judge one.
 
-use crate::trial::{Trial, is_answer};
+use crate::trial::{Trial, is_answer, repeated};
 use stab_base::Seq;
 use std::alloc::Global;
 use std::process::Abort;
@@ -139,13 +139,27 @@ fn traces_of_runs(rt: HostRuntime) -> Result<(), Fail> {
     Ok(())
 }
 
-// Programs that run today, each with its words.
+// Programs that can be run today, each with its words.
 const TRACED: &str = "\
-trace p -> fn main(): unit { print(-7 / 2) }\n\
+trace p --workers 1 -> fn main(): unit { print(1 + 2) }\n\
 trace p -> fn main(): unit { print(9223372036854775807 + 1) }\n\
-trace p -> fn main(): unit { print((\"a\", ())); print(true + 1) }\n\
+trace p -> fn main(): unit { print(-9223372036854775808) }\n\
+trace p -> fn main(): unit { print(-9223372036854775808 / -1) }\n\
+trace p -> fn main(): unit { print(-7 / 2) }\n\
+trace p -> fn main(): unit { print(-7 % 2) }\n\
+trace p -> fn main(): unit { print(1 / 0) }\n\
+trace p -> fn main(): unit { print(1 == true) }\n\
+trace p -> fn main(): unit { print(true + 1) }\n\
+trace p -> fn main(): unit { print((\"a\", ())) }\n\
+trace p --fuel 1 -> fn main(): unit { print(1); print(2) }\n\
+trace p --fuel 2 -> fn main(): unit { print(1); print(2) }\n\
+trace p --fuel 3 -> fn main(): unit { print(1); print(2) }\n\
 trace p --quantum 7 -> fn f(n: int): int { if n == 0 { 0 } else { 1 + f(n - 1) } } fn main(): unit { print(f(60)) }\n\
+trace p -> fn f(n: int): int { if n == 0 { 0 } else { 1 + f(n - 1) } } fn main(): unit { print(f(998)) }\n\
+trace p -> fn f(n: int): int { if n == 0 { 0 } else { 1 + f(n - 1) } } fn main(): unit { print(f(999)) }\n\
+trace p -> fn f(): int { 1 + f() } fn main(): unit { print(f()) }\n\
 trace p --fuel 2000 --quantum 999 -> fn f(): int { f() } fn main(): unit { print(1); f() }\n\
+trace p -> fn f(): int { f() } fn main(): unit { f() }\n\
 ";
 
 #[test]
@@ -153,23 +167,51 @@ fn traces_are_of_their_programs(rt: HostRuntime) -> Result<(), Fail> {
     let alloc = rt.alloc();
     for row in TRACED.lines() {
         let (line, program) = row.split_once(" -> ").ok_or("no arrow")?;
-        let traced = Trial::new(&rt, alloc, line, program.as_bytes(), [&[], &[]])?;
-        let files = [("p", program.as_bytes()), ("t", traced.written.as_slice())];
-        answers(&rt, alloc, &files, [&[], &[]], "verify p t -> 0 yes/")?;
-        // It isn't the trace of another program.
-        let other = [
-            ("p", b"fn main(): unit { cut() }".as_slice()),
-            ("t", traced.written.as_slice()),
-        ];
-        answers(
-            &rt,
-            alloc,
-            &other,
-            [&[], &[]],
-            "verify p t -> 13 no 1 NoStep/stab: No 1 NoStep/",
-        )?;
+        is_traced(&rt, alloc, line, program.as_bytes())?;
     }
     Ok(())
+}
+
+// A text of a million digits, one of the greatest length, and one whose branches are as deep as they may be.
+#[test]
+fn traces_of_long_programs(rt: HostRuntime) -> Result<(), Fail> {
+    let alloc = rt.alloc();
+    for (front, piece, count, end) in [
+        ("fn main(): unit { print(", "0", 1_000_000, "7) }"),
+        ("fn main(): unit { print(1 + 2) }", " ", 1_048_544, ""),
+        (
+            "fn main(): unit { if true {}",
+            " else if true {}",
+            198,
+            " }",
+        ),
+    ] {
+        let program = repeated(
+            alloc,
+            front.as_bytes(),
+            piece.as_bytes(),
+            count,
+            end.as_bytes(),
+        )?;
+        is_traced(&rt, alloc, "trace p", &program)?;
+    }
+    Ok(())
+}
+
+// The trace that the words give is one of the program, and none of a program that does nothing but cut.
+fn is_traced<R: Threads + Wait + Sync>(
+    rt: &R,
+    alloc: Global,
+    line: &str,
+    program: &[u8],
+) -> Result<(), Fail> {
+    let traced = Trial::new(rt, alloc, line, program, [&[], &[]])?;
+    let trace = ("t", traced.written.as_slice());
+    let files = [("p", program), trace];
+    answers(rt, alloc, &files, [&[], &[]], "verify p t -> 0 yes/")?;
+    let other = [("p", b"fn main(): unit { cut() }".as_slice()), trace];
+    let row = "verify p t -> 13 no 1 NoStep/stab: No 1 NoStep/";
+    answers(rt, alloc, &other, [&[], &[]], row)
 }
 
 // Traces of the program that prints a sum, behind their header: what a line is refused for, and what the verdict is.
