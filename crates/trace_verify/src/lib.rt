@@ -16,6 +16,8 @@ mod tests;
 #[cfg(test)]
 mod trial;
 mod verdict;
+#[cfg(test)]
+mod worked_tests;
 
 pub use laws::one_verdict;
 pub use verdict::{Verdict, Why, verify};
