@@ -5,6 +5,7 @@ use Rattle.stab_journal.specs.declared.event.Event.{Event}
 use Rattle.stab_journal.specs.declared.event.Numbered.{Numbered}
 use Rattle.stab_journal.specs.Journal.{Journal}
 use Rattle.stab_journal.specs.Event.{weight_of}
+use Rattle.stab_journal.specs.Script.{FollowsScript}
 use Rattle.stab_code.specs.JobParts.{JobParts}
 use Rattle.stab_code.specs.Program.{ProgramParts}
 use Rattle.plain_language.specs.Plain.{PlainState, language_of, look_in, standing}
@@ -30,6 +31,7 @@ ByOneWorker = AllByRecursion (λ (e : Event). e.worker ≡ 1)
 -- what every book keeps
 pub record IsBook (book : Book) : Type 0 where
   pub shown : IsShown book.job.program book.history book.state
+  pub follows : FollowsScript book.job.script book.history.events
   pub by_one : ByOneWorker book.history.events
   pub alone : IsAlone book.job.program book.state
 

@@ -18,7 +18,7 @@ use Rattle.stab_top.specs.Reason.{blame_of, no_blame}
 -- the book of a whole run
 pub is_run_of : (args : RunArgs) (program : ProgramParts) (book : Book) → IsSequential program → book.job ≡ job_of program [] args.fuel args.quantum → IsBook book → IsRunOf args program book book.state
 is_run_of args program book is job kept =
-    record { job = job; sequential = is; shown = subst (λ p. IsShown p book.history book.state) (ap (λ j. j.program) job) kept.shown; by_one = kept.by_one }
+    record { job = job; sequential = is; shown = subst (λ p. IsShown p book.history book.state) (ap (λ j. j.program) job) kept.shown; follows = kept.follows; by_one = kept.by_one }
 
 -- the end of a run, of which this text is written, is what its status says
 pub ended : (text_by : Book → PlainState → List ℕ) (status : Status) (args : RunArgs) (program : ProgramParts) (o : Outcome) (book : Book) → o.report.book ≡ Some book → blame_of o.report ≡ no_blame →

@@ -8,6 +8,7 @@ use Rattle.plain_run.specs.Sequential.{IsSequential}
 use Rattle.stab_code.specs.JobParts.{job_of}
 use Rattle.stab_code.specs.Program.{ProgramParts}
 use Rattle.stab_journal.specs.Journal.{Journal}
+use Rattle.stab_journal.specs.Script.{FollowsScript}
 use Rattle.stab_words.specs.declared.request.RunArgs.{RunArgs}
 use Rattle.trace_text.specs.Text.{trace}
 use Rattle.trace_verify.specs.declared.verdict.Verdict.{Verdict}
@@ -38,11 +39,13 @@ Refuses o cause = Blames o.report cause × Rests o.sink o.sink_after
 -- ---- a run
 
 -- The job is that of the program with the fuel and the quantum of the words, and an empty script; the program's only act is
--- `print`. The history stands for a run of the program from the start state that ends in this state. Worker 1 made it all.
+-- `print`. The history stands for a run of the program from the start state that ends in this state, and its probes got the script's
+-- numbers. Worker 1 made it all.
 pub record IsRunOf (args : RunArgs) (program : ProgramParts) (book : Book) (state : PlainState) : Type 0 where
   pub job : book.job ≡ job_of program [] args.fuel args.quantum
   pub sequential : IsSequential program
   pub shown : IsShown program book.history state
+  pub follows : FollowsScript book.job.script book.history.events
   pub by_one : ByOneWorker book.history.events
 
 -- what a command writes of a run: what the run shows that ends in the state, or the trace of what happened

@@ -1,4 +1,4 @@
-use Rattle.std.proofs.Common.{◌≡◌, ◌+◌, ◌++◌, Some, ap, subst, ◌∙◌}
+use Rattle.std.proofs.Common.{◌≡◌, ◌+◌, ◌++◌, Some, refl, ap, subst, ◌∙◌}
 use Rattle.stab_journal.specs.Journal.{survivors, step_at}
 use Rattle.stab_journal.specs.declared.event.Label.TheVariants.{Print}
 use Rattle.stab_journal.specs.declared.event.What.TheVariants.{Step}
@@ -21,4 +21,5 @@ returns-in-Ok-clause-keeps c =
     })
     (c.push.ensures.survivors ∙ ap (λ q. survivors c.args.history.now ++ step_at q (Step (Print main_thread))) c.push.ensures.number)
     (λ run. tt)
+    refl
     (λ _. print_alone p a.sequential a.valid s c.play.new.self.state (c.len.result + 1) a c.in-Ok.ensures.0)

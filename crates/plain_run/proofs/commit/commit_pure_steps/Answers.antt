@@ -1,4 +1,4 @@
-use Rattle.std.proofs.Common.{◌+◌, ◌++◌, ap, ◌∙◌, arith}
+use Rattle.std.proofs.Common.{◌+◌, ◌++◌, refl, ap, ◌∙◌, arith}
 use Rattle.stab_journal.specs.Journal.{survivors, step_at}
 use Rattle.stab_journal.specs.declared.event.Label.TheVariants.{Local}
 use Rattle.stab_journal.specs.declared.event.What.TheVariants.{Step}
@@ -28,6 +28,7 @@ returns-clause-keeps c =
     keeps_step c.args.state.now.program label c.args.history.now c.args.state.now.state c.push.new.self m.new.state.state (adds c)
     (c.push.ensures.survivors ∙ ap (λ q. survivors c.args.history.now ++ step_at q (Step label)) c.push.ensures.number)
     (λ run. tt)
+    refl
     (λ a. makes_alone c.args.state.now.program c.args.state.now.state m.new.state.state (c.len.result + 1) m.result.steps a m.ensures.made)
 
 pub returns-clause-ok : goal.returns-clause-ok

@@ -20,7 +20,7 @@ pub invariant_of-self-2 : goal.invariant_of-self-2
 invariant_of-self-2 c =
     let k = subst (λ q. Keeps q c.self.inside.history c.self.inside.state.state c.commit.new.history c.commit.new.state.state) c.self.invariant.1 c.commit.ensures.keeps in
     let b = c.self.invariant.0 in
-    (record { shown = k.shown b.shown; by_one = k.by_one b.by_one; alone = k.alone b.alone }, c.commit.ensures.program ∙ c.self.invariant.1)
+    (record { shown = k.shown b.shown; follows = k.follows c.self.inside.job.script b.follows; by_one = k.by_one b.by_one; alone = k.alone b.alone }, c.commit.ensures.program ∙ c.self.invariant.1)
 
 pub returns-clause-says : goal.returns-clause-says
 returns-clause-says c =
