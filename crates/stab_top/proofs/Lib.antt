@@ -4,3 +4,4 @@ pub mod Ending
 pub mod Complete
 pub mod Wording
 pub mod Executing
+pub mod OwnTraces

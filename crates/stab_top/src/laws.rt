@@ -1,10 +1,12 @@
 //! What the statuses say together: they leave no way round a good program or a trace, nor round a text that is none. The
 //! calls do nothing.
 ghost use Rattle.std.specs.Prelude.{◌≡◌, ◌⊎◌, ℕ, ℤ, List, Some, None, Ok, true};
+ghost use Rattle.plain_language.specs.Plain.{PlainState};
+ghost use Rattle.plain_run.specs.Book.{Book};
 ghost use Rattle.plain_run.specs.Sequential.{IsSequential};
 ghost use Rattle.probe_text.specs.declared.fault.ProbesFault.{ProbesFault};
 ghost use Rattle.stab_code.specs.Program.{ProgramParts};
-ghost use Rattle.stab_journal.specs.Journal.{Journal};
+ghost use Rattle.stab_journal.specs.Journal.{IsValid, Journal};
 ghost use Rattle.stab_text.specs.declared.fault.TextFault.{TextFault};
 ghost use Rattle.stab_text.specs.Text.{HasFault, IsTextOf};
 ghost use Rattle.stab_words.specs.Asked.{asked};
@@ -13,11 +15,14 @@ ghost use Rattle.stab_words.specs.declared.request.Request.TheVariants.{Check, R
 ghost use Rattle.stab_words.specs.declared.request.RunArgs.{RunArgs as Args};
 ghost use Rattle.stab_words.specs.declared.request.VerifyArgs.{VerifyArgs};
 ghost use Rattle.trace_text.specs.declared.fault.TraceFault.{TraceFault};
+ghost use Rattle.trace_text.specs.Text.{trace};
 ghost use Rattle.stab_top.specs.Call.{Call, CountedFault, Says, status_of};
 ghost use Rattle.stab_top.specs.Words.{is_built};
 ghost use Rattle.stab_top.specs.Complete.{Checked, IsHeld, IsHeldFor, IsRefused, IsScriptFor, Ran, WasJudged};
+ghost use Rattle.stab_top.specs.Ending.{IsRunOf};
 ghost use Rattle.stab_top.specs.Reading.{probes_form, program_form, trace_form};
 ghost use Rattle.stab_top.specs.declared.report.Role.TheVariants.{Probes as ProbesFile, Program as ProgramFile, Trace as TraceFile};
+ghost use Rattle.stab_top.specs.declared.report.Status.TheVariants.{Done as DoneStatus, NoMemory as NoMemoryStatus};
 
 /// Where the words ask for a run that is built, and the files tell that the text of a program whose only act is `print` is
 /// held within the limit under its name, the run came to its end, or memory was refused, or a fault was counted.
@@ -50,6 +55,16 @@ pub fn traces_are_judged()
         IsHeld ProgramFile c args.file text → IsTextOf text program → IsScriptFor c args.probes script →
         IsHeld TraceFile c args.trace bytes → trace_form.IsOf bytes history →
         WasJudged c program script bytes ⊎ CountedFault c }
+{}
+
+/// Where the words ask for a verdict without a script, and the files tell that the program and the trace of a run of it, as `run`
+/// and `trace` make one, are held within their limits, the verdict is yes, or memory was refused, or a fault was counted.
+pub fn traces_of_runs_pass()
+    ensures { (ran : Args) (program : ProgramParts) (book : Book) (state : PlainState) (words : List (List ℕ)) (c : Call)
+        (args : VerifyArgs) (text : List ℕ) → IsRunOf ran program book state → IsValid book.history → Says words c →
+        asked words ≡ Ok (Verify args) → IsHeld ProgramFile c args.file text → IsTextOf text program → args.probes ≡ None →
+        IsHeld TraceFile c args.trace (trace book.history) →
+        ((status_of c ≡ DoneStatus) ⊎ (status_of c ≡ NoMemoryStatus)) ⊎ CountedFault c }
 {}
 
 /// Where the words ask for what is built, and the files tell that bytes with a fault are held within the limit under the name

@@ -27,6 +27,7 @@ mod writing;
 pub use laws::{
     bad_probes_are_refused, bad_texts_are_refused, bad_traces_are_refused,
     good_programs_are_traced, good_programs_check, good_programs_run, traces_are_judged,
+    traces_of_runs_pass,
 };
 pub use program::command;
 pub use reason_line::reason;

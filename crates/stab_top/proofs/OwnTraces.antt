@@ -1,0 +1,91 @@
+-- The trace of a run has the verdict yes.
+use Rattle.std.proofs.Common.{◌≡◌, ◌⊎◌, inl, inr, ℕ, ℤ, suc, cond, List, [], ◌∷◌, ◌++◌, Result, Ok, refl, sym, ap, subst, ◌∙◌}
+use Rattle.std.specs.Prelude.{map, None}
+use Rattle.std.specs.FinSet.{FinSet, contains}
+use Rattle.std.specs.Ordering.{nat_cmp}
+use Rattle.stab_code.specs.Program.{ProgramParts}
+use Rattle.stab_journal.specs.declared.event.Event.{Event}
+use Rattle.stab_journal.specs.declared.event.Numbered.{Numbered}
+use Rattle.stab_journal.specs.Journal.{IsValid, Journal, step_at, survivors, survivors_from}
+use Rattle.stab_journal.specs.Script.{FollowsScript}
+use Rattle.plain_language.specs.Plain.{PlainState}
+use Rattle.plain_language.specs.Standing.{StandsFor}
+use Rattle.plain_run.specs.Book.{Book}
+use Rattle.stab_text.specs.Text.{IsTextOf}
+use Rattle.stab_words.specs.Asked.{asked}
+use Rattle.stab_words.specs.declared.request.Request.TheVariants.{Verify}
+use Rattle.stab_words.specs.declared.request.RunArgs.{RunArgs}
+use Rattle.stab_words.specs.declared.request.VerifyArgs.{VerifyArgs}
+use Rattle.trace_text.specs.declared.fault.TraceFault.{TraceFault}
+use Rattle.trace_text.specs.declared.line.Entry.{Entry}
+use Rattle.trace_text.specs.Reading.{reading}
+use Rattle.trace_text.specs.Text.{entries, entries_from, trace}
+use Rattle.trace_text.proofs.Once.{few}
+use Rattle.trace_text.proofs.Texts.{trace-read}
+use Rattle.trace_verify.specs.declared.verdict.Verdict.TheVariants.{Yes}
+use Rattle.trace_verify.specs.Verdict.{IsOfRun, passes}
+use Rattle.trace_verify.proofs.OneVerdict.{one_verdict}
+use Rattle.stab_top.specs.declared.report.Role.TheVariants as roles
+use Rattle.stab_top.specs.declared.report.Status.TheVariants.{Done, NoMemory}
+use Rattle.stab_top.specs.Call.{Call, CountedFault, Says, status_of}
+use Rattle.stab_top.specs.Complete.{HasVerdict, IsHeld, IsScriptFor, WasJudged}
+use Rattle.stab_top.specs.Ending.{IsRunOf, verdict_status}
+use Rattle.stab_top.proofs.Complete.{trace_is_judged}
+
+-- ---- a journal by its entries
+
+events_are : (struck : FinSet nat_cmp) (q : ℕ) (es : List Event) → map (λ (e : Entry). e.event) (entries_from struck q es) ≡ es
+events_are struck q [] = refl
+events_are struck q (e ∷ es) = ap (λ xs. e ∷ xs) (events_are struck (suc q) es)
+
+abbrev kept_of : ℕ → List Entry → List Numbered
+kept_of q [] = []
+kept_of q (e ∷ es) = cond e.struck [] (step_at q e.event.what) ++ kept_of (suc q) es
+
+kept_are : (struck : FinSet nat_cmp) (q : ℕ) (es : List Event) → kept_of q (entries_from struck q es) ≡ survivors_from struck q es
+kept_are struck q [] = refl
+kept_are struck q (e ∷ es) = ap (λ ns. cond (contains struck q) [] (step_at q e.what) ++ ns) (kept_are struck (suc q) es)
+
+same_run : (p : ProgramParts) (script : List ℤ) (a b : Journal) → entries a ≡ entries b → IsOfRun p script b → IsOfRun p script a
+same_run p script a b same x =
+    let events : a.events ≡ b.events = sym (events_are a.struck 1 a.events) ∙ ap (map (λ (e : Entry). e.event)) same ∙ events_are b.struck 1 b.events in
+    let left : survivors a ≡ survivors b = sym (kept_are a.struck 1 a.events) ∙ ap (kept_of 1) same ∙ kept_are b.struck 1 b.events in
+    record {
+      run = x.run;
+      state = x.state;
+      shows = record { stands = subst (λ es. StandsFor p es x.run x.state) (sym events) x.shows.stands; left = left ∙ x.shows.left };
+      follows = subst (FollowsScript script) (sym events) x.follows;
+    }
+
+same_ok : (r : Result (List Entry) TraceFault) (xs ys : List Entry) → r ≡ Ok xs → r ≡ Ok ys → xs ≡ ys
+same_ok r xs ys e f = cc
+
+-- ---- a run
+
+-- the history of a run is one of its program and of no script
+is_of_run : (args : RunArgs) (program : ProgramParts) (book : Book) (state : PlainState) → IsRunOf args program book state → IsOfRun program [] book.history
+is_of_run args program book state r = record {
+  run = r.shown.0;
+  state = state;
+  shows = r.shown.1;
+  follows = subst (λ script. FollowsScript script book.history.events) (ap (λ j. j.script) r.job) r.follows;
+}
+
+module _ (c : Call) (program : ProgramParts) (history : Journal) (valid : IsValid history) (run : IsOfRun program [] history) where
+  yes : HasVerdict c program [] (trace history) → status_of c ≡ Done
+  yes h =
+      let same = same_ok (reading (trace history)) (entries h.history) (entries history) h.is (trace-read history valid (few history valid)) in
+      h.status ∙ ap verdict_status (one_verdict program [] h.history h.verdict Yes h.given (passes (same_run program [] h.history history same run)))
+
+  passed : WasJudged c program [] (trace history) ⊎ CountedFault c → ((status_of c ≡ Done) ⊎ (status_of c ≡ NoMemory)) ⊎ CountedFault c
+  passed (inl (inl h)) = inl (inl (yes h))
+  passed (inl (inr none)) = inl (inr none)
+  passed (inr counted) = inr counted
+
+pub trace_of_run_passes : (ran : RunArgs) (program : ProgramParts) (book : Book) (state : PlainState) (words : List (List ℕ)) (c : Call) (args : VerifyArgs) (text : List ℕ) → IsRunOf ran program book state → IsValid book.history →
+    Says words c → asked words ≡ Ok (Verify args) → IsHeld roles.Program c args.file text → IsTextOf text program → args.probes ≡ None → IsHeld roles.Trace c args.trace (trace book.history) →
+    ((status_of c ≡ Done) ⊎ (status_of c ≡ NoMemory)) ⊎ CountedFault c
+trace_of_run_passes ran program book state words c args text run valid says is held of none there =
+    passed c program book.history valid (is_of_run ran program book state run)
+    (trace_is_judged words c args text (trace book.history) program [] book.history says is held of (subst (λ probes. IsScriptFor c probes []) (sym none) refl) there
+    (trace-read book.history valid (few book.history valid)))
