@@ -18,6 +18,9 @@ fn main(rt: HostRuntime) -> io::Result<()> {
         "run prints.stab --fuel 1",
         "check prints.stab",
         "types sum.stab",
+        "trace sum.stab",
+        "verify cascade.stab cascade.trace --probes cascade.probes",
+        "verify cascade.stab cascade.trace",
     ] {
         let mut files = DiskFiles::new(&rt);
         let mut output = OutSink::new(io::writer(&rt));
