@@ -155,19 +155,31 @@ trace p --fuel 1 -> fn main(): unit { print(1); print(2) }\n\
 trace p --fuel 2 -> fn main(): unit { print(1); print(2) }\n\
 trace p --fuel 3 -> fn main(): unit { print(1); print(2) }\n\
 trace p --quantum 7 -> fn f(n: int): int { if n == 0 { 0 } else { 1 + f(n - 1) } } fn main(): unit { print(f(60)) }\n\
+trace p --fuel 2000 --quantum 999 -> fn f(): int { f() } fn main(): unit { print(1); f() }\n\
+";
+
+// Runs to the bound of the forms that stand in each other, beyond it, and without an end.
+const DEEP: &str = "\
 trace p -> fn f(n: int): int { if n == 0 { 0 } else { 1 + f(n - 1) } } fn main(): unit { print(f(998)) }\n\
 trace p -> fn f(n: int): int { if n == 0 { 0 } else { 1 + f(n - 1) } } fn main(): unit { print(f(999)) }\n\
 trace p -> fn f(): int { 1 + f() } fn main(): unit { print(f()) }\n\
-trace p --fuel 2000 --quantum 999 -> fn f(): int { f() } fn main(): unit { print(1); f() }\n\
 trace p -> fn f(): int { f() } fn main(): unit { f() }\n\
 ";
 
 #[test]
-fn traces_are_of_their_programs(rt: HostRuntime) -> Result<(), Fail> {
-    let alloc = rt.alloc();
-    for row in TRACED.lines() {
+fn traces_of_short_runs(rt: HostRuntime) -> Result<(), Fail> {
+    are_traced(&rt, rt.alloc(), TRACED)
+}
+
+#[test]
+fn traces_of_long_runs(rt: HostRuntime) -> Result<(), Fail> {
+    are_traced(&rt, rt.alloc(), DEEP)
+}
+
+fn are_traced<R: Threads + Wait + Sync>(rt: &R, alloc: Global, table: &str) -> Result<(), Fail> {
+    for row in table.lines() {
         let (line, program) = row.split_once(" -> ").ok_or("no arrow")?;
-        is_traced(&rt, alloc, line, program.as_bytes())?;
+        is_traced(rt, alloc, line, program.as_bytes())?;
     }
     Ok(())
 }
