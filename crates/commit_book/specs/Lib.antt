@@ -17,3 +17,8 @@ pub mod Layout
 pub mod Started
 pub mod Restated
 pub mod Turns
+pub mod Limits
+pub mod Rows
+pub mod Commits
+pub mod Acting
+pub mod Meetings

@@ -23,8 +23,8 @@ use thread_slots::State;
 /// A job with its history, and the state to which the history leads: what is kept follows from these two.
 #[derive(Drop)]
 pub struct Book {
-    job: Job,
-    parts: Parts,
+    pub(crate) job: Job,
+    pub(crate) parts: Parts,
 }
 
 impl Model for Book {

@@ -1,14 +1,23 @@
 //! The book: a job, its history, and the state to which the history leads.
 #![tactic(auto)]
 
+mod alone;
 mod book;
+mod commit;
 mod counts;
+mod create;
+mod done;
+mod exchange;
 mod lease;
 mod parts;
+mod perform;
+mod references;
 mod turn;
 
 pub use book::Book;
+pub use commit::COMMIT_RESERVE;
 pub use counts::Counts;
+pub use done::{CommitRefused, Done};
 pub use lease::Lease;
 pub use turn::Turn;
 

@@ -1,0 +1,139 @@
+-- What a commit does, by what is asked of its thread.
+use Rattle.std.proofs.Common.{◌≡◌, ℕ, true, List, None, refl, sym, ap, subst, ◌∙◌}
+use Rattle.std.specs.Prelude.{Err, IfErr, IfOk, Ok, OnErr, OnOk, Result}
+use Rattle.std.proofs.lemmas.Bool.{false≢true}
+use Rattle.stab_base.specs.Datum.{Datum}
+use Rattle.stab_code.specs.JobParts.{JobParts}
+use Rattle.stab_code.specs.Program.{ProgramParts}
+use Rattle.plain_language.specs.Expression.{Expr}
+use Rattle.plain_language.specs.Plain.{look_in}
+use Rattle.plain_language.specs.Program.{body}
+use Rattle.plain_language.specs.Table.{Look, act, done, fault, pure}
+use Rattle.step_eval.specs.declared.act.Act.{Act}
+use Rattle.step_eval.specs.declared.act.Act.TheVariants as own
+use Rattle.step_eval.specs.declared.ask.Ask.{Ask}
+use Rattle.step_eval.specs.declared.ask.Ask.TheVariants as ask
+use Rattle.step_eval.specs.Acts.{act_of}
+use Rattle.step_eval.specs.Asked.{AsksRightly, IsAsked, act_in, act_next, operands_of}
+use Rattle.step_eval.specs.ControlView.{ControlView, expr_of}
+use Rattle.step_eval.specs.Progress.{ProgressView}
+use Rattle.commit_book.specs.declared.done.Outcome.TheVariants as outcome
+use Rattle.commit_book.specs.declared.parts.Parts.{Parts}
+use Rattle.commit_book.specs.Acting.{IsDone, IsDoneBy, IsPerformed, StandsAt, is_simple, offer_of, outcome_of, row_by, stands_at_none}
+use Rattle.commit_book.specs.Book.{BookView}
+use Rattle.commit_book.specs.Commits.{IsMoved, row_at}
+use Rattle.commit_book.specs.Layout.{view_of}
+use Rattle.commit_book.specs.Leases.{LeaseView}
+use Rattle.commit_book.specs.Rows.{Row, alone, starts, meets, waits, stays, unbuilt}
+use Rattle.commit_book.proofs.Rowing.{row_cut, row_none, row_simple}
+
+-- ---- what is asked
+
+module _ (fs : ℕ → Expr) (vs : List Datum) where
+  asked_act : (k : Look Expr) (a : Act) → IsAsked fs vs k (ask.Act a) → k ≡ act (act_of fs vs a)
+  asked_act (done v) a is = cc
+  asked_act (fault f) a is = cc
+  asked_act (pure e) a is = cc
+  asked_act (act x) a is = ap act is
+
+  asked_none : (k : Look Expr) (q : Ask) → act_in q ≡ None → IsAsked fs vs k q → stands_at_none k ≡ true
+  asked_none (done v) q unasked is = refl
+  asked_none (fault f) q unasked is = refl
+  asked_none (pure e) q unasked is = refl
+  asked_none (act x) (ask.Act a) unasked is = absurd (cc)
+  asked_none (act x) _ unasked is = absurd is
+
+module _ (p : ProgramParts) (c : ControlView) (q : Ask) (look : IsAsked (body p) (operands_of c) (look_in p (expr_of p c)) q) where
+  -- an act
+  pub at_act : (a : Act) → q ≡ ask.Act a → act_in q ≡ act_next c → AsksRightly p (operands_of c) q → StandsAt p c a
+  at_act a is next operands = record {
+    look = asked_act (body p) (operands_of c) (look_in p (expr_of p c)) a (subst (IsAsked (body p) (operands_of c) (look_in p (expr_of p c))) is look);
+    next = sym next ∙ ap act_in is;
+    operands = subst (AsksRightly p (operands_of c)) is operands;
+  }
+
+  -- none
+  pub at_none : act_in q ≡ None → stands_at_none (look_in p (expr_of p c)) ≡ true
+  at_none unasked = asked_none (body p) (operands_of c) (look_in p (expr_of p c)) q unasked look
+
+-- ---- which act it is
+
+-- an act that is on no channel, no stabilize and no cut
+pub simple_left : (a : Act) → offer_of a ≡ None → (a ≡ own.Stabilize → ⊥) → (a ≡ own.Cut → ⊥) → is_simple a ≡ true
+simple_left (own.Send c) none unstable uncut = absurd (cc)
+simple_left (own.Recv c) none unstable uncut = absurd (cc)
+simple_left (own.Pick c d) none unstable uncut = absurd (cc)
+simple_left own.Stabilize none unstable uncut = absurd (unstable refl)
+simple_left own.Cut none unstable uncut = absurd (uncut refl)
+simple_left _ none unstable uncut = refl
+
+simple_taken : (b : BookView) (t : ℕ) (a : Act) → is_simple a ≡ true → outcome_of (row_by b t a) ≡ outcome.Taken
+simple_taken b t (own.Spawn f) h = refl
+simple_taken b t own.NewChan h = refl
+simple_taken b t own.NewRef h = refl
+simple_taken b t (own.Get r) h = refl
+simple_taken b t (own.Set r) h = refl
+simple_taken b t (own.Enter f) h = refl
+simple_taken b t own.Pin h = refl
+simple_taken b t own.Print h = refl
+simple_taken b t own.Probe h = refl
+simple_taken b t own.Attempt h = refl
+simple_taken b t _ h = absurd (false≢true h)
+
+-- ---- what became of the thread
+
+taken_by : (old new : BookView) (lease : LeaseView) (progress : ProgressView) (row : Row) → outcome_of row ≡ outcome.Taken → IsMoved old new lease.worker lease.thread progress.steps row → IsDoneBy old new lease progress row
+taken_by old new lease progress (alone l) taken is = is
+taken_by old new lease progress (starts u) taken is = is
+taken_by old new lease progress (meets u l) taken is = is
+taken_by old new lease progress (waits o) taken is = is
+taken_by old new lease progress stays taken is = is
+taken_by old new lease progress unbuilt taken is = absurd (cc)
+
+module _ (job : JobParts) (old : Parts) (lease : LeaseView) (progress : ProgressView) where
+  performed_as : (new : Parts) (row : Row) → row_at (view_of job old) lease progress ≡ row → outcome_of row ≡ outcome.Taken → IsDone job old new lease progress row → IsPerformed job old new lease progress outcome.Taken
+  performed_as new row at taken is = record {
+    becomes = sym (ap outcome_of at ∙ taken);
+    done = subst (λ (r : Row). IsDoneBy (view_of job old) (view_of job new) lease progress r) (sym at) (taken_by (view_of job old) (view_of job new) lease progress row taken is);
+  }
+
+  pub simple_performed : (new : Parts) (a : Act) → StandsAt job.program progress.end a → is_simple a ≡ true → IsDone job old new lease progress (row_by (view_of job old) lease.thread a) → IsPerformed job old new lease progress outcome.Taken
+  simple_performed new a at simple is =
+      performed_as new (row_by (view_of job old) lease.thread a) (row_simple (view_of job old) lease progress a at simple) (simple_taken (view_of job old) lease.thread a simple) is
+
+  pub rest_performed : (new : Parts) → stands_at_none (look_in job.program (expr_of job.program progress.end)) ≡ true → IsDone job old new lease progress (alone None) → IsPerformed job old new lease progress outcome.Taken
+  rest_performed new none is = performed_as new (alone None) (row_none (view_of job old) lease progress none) refl is
+
+  -- a cut isn't built
+  pub cut_performed : StandsAt job.program progress.end own.Cut → IsPerformed job old old lease progress outcome.NotBuilt
+  cut_performed at =
+      let row : row_at (view_of job old) lease progress ≡ unbuilt = row_cut (view_of job old) lease progress at in
+      record { becomes = sym (ap outcome_of row); done = subst (λ (r : Row). IsDoneBy (view_of job old) (view_of job old) lease progress r) (sym row) refl }
+
+-- ---- where an answer is passed on
+
+pub still_ok : {A E : Type 0} (P Q : Type 0) (r : Result A E) → (P → Q) → OnOk r P → OnOk r Q
+still_ok P Q (Ok a) f h = f h
+still_ok P Q (Err e) f h = tt
+
+module _ {A B E : Type 0} (r : Result A E) (s : Result B E) (b : B) (ok : OnOk r (s ≡ Ok b)) (err : IfErr r (λ e. s ≡ Err e)) where
+  pub on_done : (P : B → Type 0) → OnOk r (P b) → IfOk s P
+  on_done P h = by r ok err h
+    where
+      by : (k : Result A E) → OnOk k (s ≡ Ok b) → IfErr k (λ e. s ≡ Err e) → OnOk k (P b) → IfOk s P
+      by (Ok a) is refused at = subst (λ (x : Result B E). IfOk x P) (sym is) at
+      by (Err e) taken is at = subst (λ (x : Result B E). IfOk x P) (sym is) tt
+
+  pub on_back : (P : E → Type 0) → IfErr r P → IfErr s P
+  on_back P h = by r ok err h
+    where
+      by : (k : Result A E) → OnOk k (s ≡ Ok b) → IfErr k (λ e. s ≡ Err e) → IfErr k P → IfErr s P
+      by (Ok a) is refused at = subst (λ (x : Result B E). IfErr x P) (sym is) tt
+      by (Err e) taken is at = subst (λ (x : Result B E). IfErr x P) (sym is) at
+
+  pub on_refusal : (P : Type 0) → OnErr r P → OnErr s P
+  on_refusal P h = by r ok err h
+    where
+      by : (k : Result A E) → OnOk k (s ≡ Ok b) → IfErr k (λ e. s ≡ Err e) → OnErr k P → OnErr s P
+      by (Ok a) is refused at = subst (λ (x : Result B E). OnErr x P) (sym is) tt
+      by (Err e) taken is at = subst (λ (x : Result B E). OnErr x P) (sym is) at

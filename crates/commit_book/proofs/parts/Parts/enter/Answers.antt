@@ -1,0 +1,88 @@
+use Rattle.std.proofs.Common.{◌≤◌, refl, sym, ap, subst, ◌∙◌}
+use Rattle.commit_book.specs.declared.parts.Parts.{Parts}
+use Rattle.commit_book.proofs.Acted.{named_so, needs_few, needs_there}
+use Rattle.commit_book.proofs.Lasted.{enter_lasts}
+use Rattle.commit_book.proofs.Needed.{nodes_above, save_behind}
+use Rattle.commit_book.proofs.SeenAfter.{kept_same}
+use Rattle.commit_book.proofs.SingleActs.{few_at, may_begin}
+use Rattle.comm_graph.specs.Edge.{NodeList}
+use Rattle.std.proofs.lemmas.Bool.{false≢true}
+use Rattle.checkpoint_store.specs.Saved.{Saved}
+use Rattle.step_eval.specs.ControlView.{ControlView, Fits, expr_of}
+use Rattle.std.proofs.Common.{◌≡◌}
+use Rattle.step_eval.specs.Asked.{IsEntry}
+use Rattle.commit_book.proofs.Acted.{needs_fits}
+use Rattle.stab_code.specs.Program.{ProgramParts}
+use Rattle.plain_language.specs.Look.{entered}
+use Rattle.plain_language.specs.Outcome.{called}
+use Rattle.plain_language.specs.Program.{body}
+use Rattle.step_eval.specs.Asked.{operands_of}
+use Rattle.commit_book.specs.Acting.{number_after}
+use Rattle.commit_book.proofs.parts.Parts.enter.Goals as goal
+
+pub plan_enter-requires-clause-few : goal.plan_enter-requires-clause-few
+plan_enter-requires-clause-few c =
+    few_at c.args.job.now c.args.self.now c.args.lease.now c.args.progress c.requires.may
+
+pub plan_enter-requires-clause-act : goal.plan_enter-requires-clause-act
+plan_enter-requires-clause-act c = subst IsEntry (sym c.requires.at.1.next) tt
+
+pub plan_enter-requires-clause-fits : goal.plan_enter-requires-clause-fits
+plan_enter-requires-clause-fits c =
+    needs_fits c.args.job.now c.args.self.now c.args.lease.now c.args.progress c.requires.may c.deref.result.now c.args.progress.end (c.deref.ensures ∙ c.program.ensures.value) refl
+
+pub returns-in_default-clause-back : goal.returns-in_default-clause-back
+returns-in_default-clause-back c = refl
+
+pub returns-in_default-clause-err : goal.returns-in_default-clause-err
+returns-in_default-clause-err c = c.in_default.ensures.before
+
+pub returns-in_default-clause-kept : goal.returns-in_default-clause-kept
+returns-in_default-clause-kept c =
+    kept_same c.args.job.now c.args.self.now c.plan_enter.new.self c.in_default.ensures.before c.requires.may.kept
+
+pub begin-end-requires : goal.begin-end-requires
+begin-end-requires c =
+    may_begin c.args.job.now c.args.self.now c.args.lease.now c.args.progress c.requires.may (c.plan_enter.new.self) (c.in-Ok.ensures.before) (c.in-Ok.ensures.spare)
+
+pub push-q-requires-clause-more : goal.push-q-requires-clause-more
+push-q-requires-clause-more c = c.begin-end.ensures.more
+
+pub push-q-requires-clause-label : goal.push-q-requires-clause-label
+push-q-requires-clause-label c =
+    named_so c.args.job.now c.args.self.now c.args.lease.now c.args.progress c.requires.may c.thread.result c.thread.ensures
+
+pub save-requires-clause-spare : goal.save-requires-clause-spare
+save-requires-clause-spare c =
+    subst (λ (k : Saved ControlView). 1 ≤ k.spare) (sym (ap (λ (k : Parts). k.store) c.push-q.ensures.rest ∙ ap (λ (k : Parts). k.store) c.begin-end.ensures.rest)) c.in-Ok.ensures.place
+
+pub save-requires-clause-last : goal.save-requires-clause-last
+save-requires-clause-last c =
+    save_behind c.args.job.now c.args.self.now c.args.lease.now c.args.progress c.requires.may (c.plan_enter.new.self) c.begin-end.new.self (c.in-Ok.ensures.before) c.begin-end.ensures.history c.begin-end.ensures.rest c.push-q.new.self.store (ap (λ (k : Parts). k.store.controls) c.push-q.ensures.rest) c.push-q.result c.thread-2.result c.push-q.ensures.number
+
+pub add-requires-clause-spare : goal.add-requires-clause-spare
+add-requires-clause-spare c =
+    subst (λ (k : NodeList). 1 ≤ k.spare) (sym (ap (λ (k : Parts). k.graph) c.push-q.ensures.rest ∙ ap (λ (k : Parts). k.graph) c.begin-end.ensures.rest)) (c.in-Ok.ensures.node)
+
+pub add-requires-clause-above : goal.add-requires-clause-above
+add-requires-clause-above c =
+    nodes_above c.args.job.now c.args.self.now c.args.lease.now c.args.progress c.requires.may (c.plan_enter.new.self) c.begin-end.new.self (c.in-Ok.ensures.before) c.begin-end.ensures.history c.begin-end.ensures.rest c.push-q.new.self.graph.nodes (ap (λ (k : Parts). k.graph.nodes) c.push-q.ensures.rest) c.push-q.result.0 c.push-q.ensures.number
+
+pub add-requires-clause-read : goal.add-requires-clause-read
+add-requires-clause-read c = λ p h. absurd (false≢true h)
+
+pub go_on-requires-clause-there : goal.go_on-requires-clause-there
+go_on-requires-clause-there c =
+    needs_there c.args.job.now c.args.self.now c.args.lease.now c.args.progress c.requires.may (c.plan_enter.new.self) c.begin-end.new.self (record c.push-q.new.self { store = c.save.new.self; graph = c.add.new.self }) (c.in-Ok.ensures.before) c.begin-end.ensures.rest (ap (λ k. k.slots) c.push-q.ensures.rest) c.thread-4.result c.thread-4.ensures
+
+pub go_on-requires-clause-few : goal.go_on-requires-clause-few
+go_on-requires-clause-few c =
+    needs_few c.args.job.now c.args.self.now c.args.lease.now c.args.progress c.requires.may (c.plan_enter.new.self) c.begin-end.new.self (record c.push-q.new.self { store = c.save.new.self; graph = c.add.new.self }) (c.in-Ok.ensures.before) c.begin-end.ensures.rest (ap (λ k. k.slots) c.push-q.ensures.rest) (ap (λ (k : Parts). k.tallies.faulted) c.push-q.ensures.rest)
+
+pub returns-clause-done : goal.returns-clause-done
+returns-clause-done c =
+    (enter_lasts c.args.job.now c.args.self.now c.args.lease.now c.args.progress c.requires.may (c.plan_enter.new.self) c.begin-end.new.self (c.in-Ok.ensures.before) c.begin-end.ensures.history c.begin-end.ensures.rest c.push-q.new.self c.go_on.new.self c.thread.result c.thread.ensures c.push-q.ensures.rest c.thread-4.result c.thread-4.ensures c.go_on.result c.in-Ok.control (subst (λ (p : ProgramParts). Fits p c.in-Ok.control) (c.deref.ensures ∙ c.program.ensures.value) c.in-Ok.ensures.fits) c.push-q.result c.push-q.ensures.number c.thread-2.result c.thread-3.result c.thread-2.ensures c.thread-3.ensures c.save.new.self c.begin-end.result c.begin-end.ensures.end c.save.ensures.saved c.add.new.self c.go_on.ensures.before c.go_on.ensures.gone c.requires.at.0 c.requires.at.1 c.push-q.ensures.history (ap (λ (k : NodeList). k.nodes) c.add.ensures) (subst (λ (p : ProgramParts). expr_of p c.in-Ok.control ≡ entered (expr_of p c.args.progress.end) (number_after c.args.self.now.history c.args.progress) (called (body p) c.requires.at.0.0 (operands_of c.args.progress.end))) (c.deref.ensures ∙ c.program.ensures.value) (c.in-Ok.ensures.expr c.requires.at.0 c.requires.at.1.next))).0
+
+pub returns-clause-kept : goal.returns-clause-kept
+returns-clause-kept c =
+    (enter_lasts c.args.job.now c.args.self.now c.args.lease.now c.args.progress c.requires.may (c.plan_enter.new.self) c.begin-end.new.self (c.in-Ok.ensures.before) c.begin-end.ensures.history c.begin-end.ensures.rest c.push-q.new.self c.go_on.new.self c.thread.result c.thread.ensures c.push-q.ensures.rest c.thread-4.result c.thread-4.ensures c.go_on.result c.in-Ok.control (subst (λ (p : ProgramParts). Fits p c.in-Ok.control) (c.deref.ensures ∙ c.program.ensures.value) c.in-Ok.ensures.fits) c.push-q.result c.push-q.ensures.number c.thread-2.result c.thread-3.result c.thread-2.ensures c.thread-3.ensures c.save.new.self c.begin-end.result c.begin-end.ensures.end c.save.ensures.saved c.add.new.self c.go_on.ensures.before c.go_on.ensures.gone c.requires.at.0 c.requires.at.1 c.push-q.ensures.history (ap (λ (k : NodeList). k.nodes) c.add.ensures) (subst (λ (p : ProgramParts). expr_of p c.in-Ok.control ≡ entered (expr_of p c.args.progress.end) (number_after c.args.self.now.history c.args.progress) (called (body p) c.requires.at.0.0 (operands_of c.args.progress.end))) (c.deref.ensures ∙ c.program.ensures.value) (c.in-Ok.ensures.expr c.requires.at.0 c.requires.at.1.next))).1

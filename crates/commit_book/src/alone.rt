@@ -1,0 +1,182 @@
+//! Acts that concern no other thread: print, probe, pin, attempt, and a stabilize outside of sections.
+ghost use Rattle.std.specs.Prelude.{◌≡◌, ◌+◌, ◌<◌, ◌≤◌, length, Some, IfErr, IfOk, OnErr, OnOk, vec_len};
+ghost use Rattle.std.specs.Vec.{vec_capacity};
+ghost use Rattle.stab_journal.specs.Generation.{generation};
+ghost use Rattle.stab_journal.specs.Script.{probed, script_at};
+ghost use Rattle.step_eval.specs.Acts.{first_of};
+ghost use Rattle.step_eval.specs.Asked.{operands_of};
+ghost use Rattle.commit_book.specs.Acting.{AreAsBefore, IsDone, IsPerformed, MayAct, StandsAt};
+ghost use Rattle.commit_book.specs.Layout.{IsKept};
+ghost use Rattle.commit_book.specs.Rows.{alone, thread};
+
+use crate::done::Outcome;
+use crate::lease::Lease;
+use crate::parts::Parts;
+use crate::perform::first;
+use comm_graph::NodeFor;
+use stab_base::{Fault, NoMemory, Value};
+use stab_code::Job;
+use stab_journal::Label;
+use step_eval::{Act, Control, Progress};
+
+impl Parts {
+    pub(crate) fn print(
+        &mut self,
+        job: &Job,
+        lease: &Lease,
+        progress: Progress,
+    ) -> Result<(), Progress>
+        requires may { MayAct job.now self.old lease.now progress }
+        requires at { StandsAt job.now.program progress.end Act.Print }
+        ensures done { OnOk result (IsDone job.now self.old self.new lease.now progress
+            (alone (Some (Label.Print (thread lease.now.thread))))) }
+        ensures back { IfErr result (λ g. g ≡ progress) }
+        ensures err { OnErr result (AreAsBefore self.old self.new) }
+        ensures kept { IsKept job.now self.new }
+    {
+        let Ok(v) = self.plan_print(progress.end()) else {
+            return Err(progress);
+        };
+        let control = self.begin(lease, progress);
+        self.push(lease, Label::Print(lease.thread()));
+        self.printed.push_reserved(v);
+        self.answer(job.program(), lease.thread(), control, Value::unit());
+        Ok(())
+    }
+
+    fn plan_print(&mut self, end: &Control) -> Result<Value, NoMemory>
+        requires few { length self.old.history.events + 2 ≤ 4294967294 }
+        requires operand { 1 ≤ length (operands_of end.now) }
+        ensures before { AreAsBefore self.old self.new }
+        ensures spare { OnOk result (2 ≤ self.new.history.spare) }
+        ensures place { OnOk result (vec_len self.new.printed < vec_capacity self.new.printed) }
+        ensures value { IfOk result (λ v. v ≡ first_of (operands_of end.now)) }
+    {
+        self.history.reserve(2)?;
+        self.printed.reserve(1)?;
+        first(end.operands()).copy(self.alloc())
+    }
+
+    pub(crate) fn probe(
+        &mut self,
+        job: &Job,
+        lease: &Lease,
+        progress: Progress,
+    ) -> Result<(), Progress>
+        requires may { MayAct job.now self.old lease.now progress }
+        requires at { StandsAt job.now.program progress.end Act.Probe }
+        ensures done { OnOk result (IsDone job.now self.old self.new lease.now progress
+            (alone (Some (Label.Probe (thread lease.now.thread)
+            (script_at job.now.script (length (probed self.old.history.events))))))) }
+        ensures back { IfErr result (λ g. g ≡ progress) }
+        ensures err { OnErr result (AreAsBefore self.old self.new) }
+        ensures kept { IsKept job.now self.new }
+    {
+        if self.history.reserve(2).is_err() {
+            return Err(progress);
+        }
+        let control = self.begin(lease, progress);
+        let n = script_at(job.script(), self.tallies.probes);
+        self.push(lease, Label::Probe(lease.thread(), n));
+        self.tallies.probes += 1;
+        self.answer(job.program(), lease.thread(), control, Value::int(n));
+        Ok(())
+    }
+
+    pub(crate) fn attempt(
+        &mut self,
+        job: &Job,
+        lease: &Lease,
+        progress: Progress,
+    ) -> Result<(), Progress>
+        requires may { MayAct job.now self.old lease.now progress }
+        requires at { StandsAt job.now.program progress.end Act.Attempt }
+        ensures done { OnOk result (IsDone job.now self.old self.new lease.now progress
+            (alone (Some (Label.Attempt (thread lease.now.thread) (generation lease.now.thread self.old.history.events))))) }
+        ensures back { IfErr result (λ g. g ≡ progress) }
+        ensures err { OnErr result (AreAsBefore self.old self.new) }
+        ensures kept { IsKept job.now self.new }
+    {
+        if self.history.reserve(2).is_err() {
+            return Err(progress);
+        }
+        let control = self.begin(lease, progress);
+        let n = lease.generation().0;
+        self.push(lease, Label::Attempt(lease.thread(), n));
+        self.answer(job.program(), lease.thread(), control, Value::int(n as i64));
+        Ok(())
+    }
+
+    pub(crate) fn pin(
+        &mut self,
+        job: &Job,
+        lease: &Lease,
+        progress: Progress,
+    ) -> Result<(), Progress>
+        requires may { MayAct job.now self.old lease.now progress }
+        requires at { StandsAt job.now.program progress.end Act.Pin }
+        ensures done { OnOk result (IsDone job.now self.old self.new lease.now progress
+            (alone (Some (Label.Pin (thread lease.now.thread))))) }
+        ensures back { IfErr result (λ g. g ≡ progress) }
+        ensures err { OnErr result (AreAsBefore self.old self.new) }
+        ensures kept { IsKept job.now self.new }
+    {
+        if self.plan_node().is_err() {
+            return Err(progress);
+        }
+        let control = self.begin(lease, progress);
+        let q = self.push(lease, Label::Pin(lease.thread()));
+        self.graph.add(q, NodeFor::Pin(lease.thread()));
+        self.answer(job.program(), lease.thread(), control, Value::unit());
+        Ok(())
+    }
+
+    /// A stabilize in no section is refused.
+    pub(crate) fn stabilize(
+        &mut self,
+        job: &Job,
+        lease: &Lease,
+        progress: Progress,
+    ) -> Result<Outcome, Progress>
+        requires may { MayAct job.now self.old lease.now progress }
+        requires at { StandsAt job.now.program progress.end Act.Stabilize }
+        ensures done { IfOk result (λ outcome. IsPerformed job.now self.old self.new lease.now progress outcome) }
+        ensures back { IfErr result (λ g. g ≡ progress) }
+        ensures err { OnErr result (AreAsBefore self.old self.new) }
+        ensures kept { IsKept job.now self.new }
+    {
+        if progress.end().mark().is_some() {
+            return Ok(Outcome::NotBuilt);
+        }
+        if self.history.reserve(2).is_err() {
+            return Err(progress);
+        }
+        let mut control = self.begin(lease, progress);
+        self.push(lease, Label::Refuse(lease.thread()));
+        control.fail(Fault::NoSection);
+        self.go_on(lease.thread(), control);
+        Ok(Outcome::Taken)
+    }
+
+    /// Room for two events and a node.
+    pub(crate) fn plan_node(&mut self) -> Result<(), NoMemory>
+        requires few { length self.old.history.events + 2 ≤ 4294967294 }
+        ensures before { AreAsBefore self.old self.new }
+        ensures spare { OnOk result (2 ≤ self.new.history.spare) }
+        ensures node { OnOk result (1 ≤ self.new.graph.spare) }
+        ensures rest { self.new ≡ record self.old { history = self.new.history; graph = self.new.graph } }
+    {
+        self.history.reserve(2)?;
+        self.graph.reserve()
+    }
+}
+
+/// What the probe gets that comes after so many others.
+fn script_at(script: &[i64], probes: u64) -> i64
+    ensures { result ≡ script_at script.now probes }
+{
+    match script.get(probes as usize) {
+        Some(n) => *n,
+        None => 0,
+    }
+}
