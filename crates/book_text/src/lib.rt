@@ -1,0 +1,6 @@
+//! The text that a run shows which ends with a book.
+#![tactic(auto)]
+
+mod shown;
+
+pub use shown::shown_text;
