@@ -218,10 +218,12 @@ fn is_traced<R: Threads + Wait + Sync>(
     program: &[u8],
 ) -> Result<(), Fail> {
     let traced = Trial::new(rt, alloc, line, program, [&[], &[]])?;
-    let trace = ("t", traced.written.as_slice());
-    let files = [("p", program), trace];
+    let files = [("p", program), ("t", traced.written.as_slice())];
     answers(rt, alloc, &files, [&[], &[]], "verify p t -> 0 yes/")?;
-    let other = [("p", b"fn main(): unit { cut() }".as_slice()), trace];
+    let other = [
+        ("p", b"fn main(): unit { cut() }".as_slice()),
+        ("t", traced.written.as_slice()),
+    ];
     let row = "verify p t -> 13 no 1 NoStep/stab: No 1 NoStep/";
     answers(rt, alloc, &other, [&[], &[]], row)
 }
