@@ -16,8 +16,6 @@ mod same;
 mod settle;
 mod site;
 mod step;
-#[cfg(test)]
-mod tests;
 mod values;
 
 pub use act::Act;

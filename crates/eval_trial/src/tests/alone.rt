@@ -1,11 +1,11 @@
 //! The evaluator alone, where the machine of the plain language takes too long, and two ways from one control.
 
 use super::thread::{Thread, number, program_of};
-use crate::*;
 use stab_base::{RefId, Seq, Value};
 use std::alloc::Global;
 use std::process::Abort;
 use std::test::Fail;
+use step_eval::{Act, Ask};
 
 // What a program prints whose probes get -7, and how it ends.
 fn told_alone(alloc: Global, text: &str) -> Result<String, Fail> {
@@ -14,7 +14,7 @@ fn told_alone(alloc: Global, text: &str) -> Result<String, Fail> {
     let mut told = String::new(alloc);
     for q in 1..10_000u64 {
         main.advance(1000)?;
-        match main.control.ask() {
+        match main.ask() {
             Ask::More => {}
             Ask::Done => return Ok(told),
             Ask::Failed(k) => {
@@ -22,7 +22,7 @@ fn told_alone(alloc: Global, text: &str) -> Result<String, Fail> {
                 return Ok(told);
             }
             Ask::Act(Act::Print) => {
-                if let Some(n) = main.control.operands().first().and_then(number) {
+                if let Some(n) = main.operands().first().and_then(number) {
                     told.push_str(&format!(in alloc; "{n}")?)?;
                 }
                 main.answer(Value::unit())?;
@@ -81,7 +81,7 @@ const FORK: &str =
 // The number that a thread prints next.
 fn next_printed(thread: &mut Thread) -> Result<Option<i64>, Fail> {
     thread.advance(1000)?;
-    Ok(thread.control.operands().first().and_then(number))
+    Ok(thread.operands().first().and_then(number))
 }
 
 fn at_probe(alloc: Global) -> Result<Thread, Fail> {
@@ -115,7 +115,7 @@ const GETS: &str =
 fn answers(thread: &mut Thread, act: Act, n: i64) -> Result<u32, Fail> {
     for count in 0..10_000u32 {
         thread.advance(1000)?;
-        if thread.control.ask() != Ask::Act(act) {
+        if thread.ask() != Ask::Act(act) {
             return Ok(count);
         }
         thread.answer(Value::int(n))?;

@@ -1,7 +1,6 @@
 //! The evaluator beside the machine of the plain language, step by step, over programs that use every form.
 
 use super::thread::{Thread, number, program_of};
-use crate::*;
 use plain_language::{ActKind, Look, PlainState};
 use stab_base::{ChanId, Fault, FnId, RefId, Seq, ThreadId, Value};
 use stab_code::Program;
@@ -10,6 +9,7 @@ use std::alloc::Global;
 use std::process::Abort;
 use std::sync::Arc;
 use std::test::Fail;
+use step_eval::{Act, Ask, Rest};
 
 // What every probe gets.
 const PROBED: i64 = -7;
@@ -101,11 +101,11 @@ impl Walk {
         let Some(thread) = self.threads.get(k) else {
             return Err(Fail::from("no thread"));
         };
-        let ask = thread.control.ask();
+        let ask = thread.ask();
         if self.state.look(id(k)) != Some(seen(ask)) {
             return Err(Fail::from("the machines say something else"));
         }
-        if self.state.mark(id(k)) != thread.control.mark() {
+        if self.state.mark(id(k)) != thread.mark() {
             return Err(Fail::from("the machines have other marks"));
         }
         Ok(ask)
@@ -132,7 +132,7 @@ impl Walk {
         let Some(thread) = self.threads.get(k) else {
             return Err(Fail::from("no thread"));
         };
-        match thread.control.operands().get(i) {
+        match thread.operands().get(i) {
             Some(v) => Ok(v.copy(self.alloc)?),
             None => Err(Fail::from("no operand")),
         }
@@ -177,7 +177,7 @@ impl Walk {
     fn spawn(&mut self, k: usize, f: FnId) -> Result<bool, Fail> {
         let u = id(self.threads.len());
         let child = match self.threads.get(k) {
-            Some(thread) => Thread::new(self.alloc, &self.program, f, thread.control.operands())?,
+            Some(thread) => Thread::new(self.alloc, &self.program, f, thread.operands())?,
             None => return Err(Fail::from("no thread")),
         };
         self.threads.push(child)?;
@@ -211,7 +211,7 @@ impl Walk {
     fn send(&mut self, k: usize, c: ChanId) -> Result<bool, Fail> {
         for r in 0..self.threads.len() {
             let ask = match self.threads.get(r) {
-                Some(thread) => thread.control.ask(),
+                Some(thread) => thread.ask(),
                 None => Ask::Done,
             };
             if let Some(which) = received(ask, c) {
@@ -299,7 +299,7 @@ impl Walk {
             }
         }
         for thread in &self.threads {
-            match thread.control.rest() {
+            match thread.rest() {
                 Rest::Done => told.push_str("done ")?,
                 Rest::Going => told.push_str("waits ")?,
                 Rest::Failed(k) => told.push_str(&format!(in self.alloc; "{k:?} ")?)?,
@@ -342,11 +342,13 @@ fn main(): unit { print(1 + 2 * 3 - 4) } -> 3 done
 fn main(): unit { let a = 1; let b = { let a = a + 1; a * 10 }; print(a + b) } -> 21 done
 fn main(): unit { if 1 < 2 { print(5) } else { print(6) }; if false { print(7) } } -> 5 done
 fn main(): unit { if (false && 1 / 0 == 0) || true && !false { print(1) } } -> 1 done
+fn main(): unit { if true || 1 / 0 == 0 { print(1) }; if false || true { print(2) }; if true && false { print(3) } } -> 1 2 done
+fn main(): unit { print(true && 5); print(false || 6) } -> 5 6 done
 fn main(): unit { print(--5 / -2); print(-7 / 2); print(-7 % 2); print(7 % -2) } -> -2 -3 -1 1 done
 fn main(): unit { let p = (1, (2, 3)); print(fst(p) + snd(snd(p))) } -> 4 done
 fn f(a: int, b: int): int { a - b } fn main(): unit { print(f(f(9, 4), 1)) } -> 4 done
 fn f(a: int): int { { let b = a; { let c = b + a; let d = c * c; d } } } fn main(): unit { { 1; 2 }; print(f(3)) } -> 36 done
-fn b(x: bool): int { if x { 1 } else { 0 } } fn main(): unit { print(b(2 <= 2)); print(b(3 > 4)); print(b(3 >= 4)); print(b(() == ())); print(b(\"a\" != \"b\")); print(b(1 == true)) } -> 1 0 0 1 1 0 done
+fn b(x: bool): int { if x { 1 } else { 0 } } fn main(): unit { print(b(2 <= 2)); print(b(3 > 4)); print(b(3 >= 4)); print(b(() == ())); print(b(\"a\" != \"b\")); print(b(1 == true)); print(b(1 != true)); print(b(2 < 2)); print(b(4 > 3)) } -> 1 0 0 1 1 0 1 0 1 done
 ";
 
 // Of several threads, references, sections and the other acts.
@@ -366,9 +368,35 @@ fn main(): unit { let c = chan[int](); print(3); recv(c) } -> 3 waits
 // That fail.
 const FAULTS: &str = "\
 fn main(): unit { print(1 / 0) } -> ZeroDivisor
+fn main(): unit { print(1 % 0) } -> ZeroDivisor
 fn main(): unit { print(-9223372036854775808 / -1) } -> Overflow
+fn main(): unit { print(-9223372036854775808 % -1) } -> Overflow
 fn main(): unit { print(9223372036854775807 + 1) } -> Overflow
+fn main(): unit { print(-9223372036854775808 - 1) } -> Overflow
+fn main(): unit { print(9223372036854775807 * 2) } -> Overflow
+fn main(): unit { print(-(-9223372036854775808)) } -> Overflow
+fn main(): unit { print(true + 1) } -> WrongKind
+fn main(): unit { print(() - 1) } -> WrongKind
+fn main(): unit { print(2 * false) } -> WrongKind
+fn main(): unit { print(1 / ()) } -> WrongKind
+fn main(): unit { print(1 % \"a\") } -> WrongKind
+fn main(): unit { if 1 < true { print(1) } } -> WrongKind
+fn main(): unit { if \"a\" <= \"a\" { print(1) } } -> WrongKind
+fn main(): unit { if () > () { print(1) } } -> WrongKind
+fn main(): unit { if true >= 1 { print(1) } } -> WrongKind
+fn main(): unit { if 1 && true { print(1) } } -> WrongKind
+fn main(): unit { if () || true { print(1) } } -> WrongKind
+fn main(): unit { if !1 { print(1) } } -> WrongKind
+fn main(): unit { print(-true) } -> WrongKind
+fn main(): unit { print(fst(1)) } -> WrongKind
+fn main(): unit { print(snd(())) } -> WrongKind
+fn deep(n: int, v: int): int { if n == 0 { v } else { deep(n - 1, (0, v)) } } fn main(): unit { deep(65, 0); print(1) } -> DeepValue
 fn main(): unit { print(1); get(2) } -> 1 WrongKind
+fn main(): unit { set(1, 2) } -> WrongKind
+fn main(): unit { recv(1) } -> WrongKind
+fn main(): unit { pick(chan[int](), 2) } -> WrongKind
+fn main(): unit { pick(2, chan[int]()) } -> WrongKind
+fn part(): int { 1 / 0 } fn main(): unit { print(stable part()) } -> ZeroDivisor
 fn main(): unit { let c = chan[int](); send(1, c) } -> WrongKind
 fn main(): unit { if 1 { print(1) } } -> WrongKind
 fn deep(n: int, v: int): int { if n == 0 { v } else { deep(n - 1, (0, v)) } } fn p(c: chan[int]): unit { send(c, deep(64, 0)) } fn main(): unit { let c = chan[int](); spawn p(c); pick(c, c); print(1) } -> DeepValue done

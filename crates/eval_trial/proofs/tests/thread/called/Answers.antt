@@ -2,7 +2,7 @@
 use Rattle.std.proofs.Common.{length, sym, ◌∙◌}
 use Rattle.std.specs.Prelude.{slice_get}
 use Rattle.step_eval.proofs.Calls.{takes-counted}
-use Rattle.step_eval.proofs.tests.thread.called.Goals as goal
+use Rattle.eval_trial.proofs.tests.thread.called.Goals as goal
 
 pub call-requires : goal.call-requires
 call-requires c =

@@ -4,12 +4,12 @@ mod alone;
 mod thread;
 mod walks;
 
-use super::*;
 use stab_base::{Fault, FnId, NoMemory, Value};
 use stab_code::Program;
 use std::alloc::Global;
 use std::sync::Arc;
 use std::test::Fail;
+use step_eval::{Act, Ask, Rest};
 use thread::{Thread, program_of};
 
 const SMALL: &str =
@@ -38,7 +38,7 @@ fn called(alloc: Global, program: &Arc<Program>, f: FnId, args: &[i64]) -> Resul
 }
 
 fn rest_of(alloc: Global, program: &Arc<Program>, f: FnId, args: &[i64]) -> Result<Rest, Fail> {
-    Ok(called(alloc, program, f, args)?.control.rest())
+    Ok(called(alloc, program, f, args)?.rest())
 }
 
 #[test]
@@ -60,7 +60,7 @@ fn compared(
 ) -> Result<bool, Fail> {
     let one = called(alloc, program, left.0, left.1)?;
     let other = called(alloc, program, right.0, right.1)?;
-    Ok(one.control.same(&other.control))
+    Ok(one.same(&other))
 }
 
 #[test]
@@ -83,8 +83,8 @@ fn one_that_is_kept_stays(rt: HostRuntime) -> Result<(), Fail> {
     let mut one = called(alloc, &program, TWICE, &[2])?;
     let other = one.keep()?;
     one.fail(Fault::NoSection);
-    assert_eq!(rt; one.control.rest(), Rest::Failed(Fault::NoSection));
-    assert_eq!(rt; other.control.rest(), Rest::Going);
+    assert_eq!(rt; one.rest(), Rest::Failed(Fault::NoSection));
+    assert_eq!(rt; other.rest(), Rest::Going);
     Ok(())
 }
 
@@ -93,7 +93,7 @@ fn next_of(alloc: Global, f: FnId, args: &[i64], quantum: u32) -> Result<(u32, A
     let program = program_of(alloc, SMALL)?;
     let mut thread = called(alloc, &program, f, args)?;
     let steps = thread.advance(quantum)?;
-    Ok((steps, thread.control.ask(), thread.control.rest()))
+    Ok((steps, thread.ask(), thread.rest()))
 }
 
 // A call and a sum are a step each, and a print is none.
@@ -118,8 +118,8 @@ fn what_is_printed(rt: HostRuntime) -> Result<(), Fail> {
     let mut main = called(alloc, &program, MAIN, &[])?;
     let before = main.keep()?;
     main.advance(10)?;
-    assert!(rt; matches!(main.control.operands(), [v] if v.same(&Value::int(8))));
-    assert_eq!(rt; main.control.mark(), None);
-    assert!(rt; !main.control.same(&before.control));
+    assert!(rt; matches!(main.operands(), [v] if v.same(&Value::int(8))));
+    assert_eq!(rt; main.mark(), None);
+    assert!(rt; !main.same(&before));
     Ok(())
 }

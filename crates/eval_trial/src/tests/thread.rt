@@ -2,7 +2,6 @@
 ghost use Rattle.std.specs.Prelude.{◌≡◌, IfOk};
 ghost use Rattle.step_eval.specs.ControlView.{Fits};
 
-use crate::*;
 use stab_base::{Fault, FnId, NoMemory, Seq, Shape, Value};
 use stab_code::Program;
 use stab_text::read_program;
@@ -12,6 +11,7 @@ use std::sync::Arc;
 use std::sync::ledger::{Blank, Ledger};
 use std::test::Fail;
 use step_counter::Steps;
+use step_eval::{Act, Ask, Control, Rest, advance};
 
 // The program of a short text.
 pub(super) fn program_of(alloc: Global, text: &str) -> Result<Arc<Program>, Fail> {
@@ -52,7 +52,7 @@ fn copy_of(control: &Control) -> Result<Control, NoMemory>
 #[derive(Drop)]
 pub(super) struct Thread {
     program: Arc<Program>,
-    pub(super) control: Control,
+    control: Control,
 }
 
 impl Model for Thread {
@@ -122,6 +122,26 @@ impl Thread {
 
     pub(super) fn fail(&mut self, k: Fault) {
         self.control.fail(k);
+    }
+
+    pub(super) fn ask(&self) -> Ask {
+        self.control.ask()
+    }
+
+    pub(super) fn operands(&self) -> &[Value] {
+        self.control.operands()
+    }
+
+    pub(super) fn mark(&self) -> Option<Seq> {
+        self.control.mark()
+    }
+
+    pub(super) fn rest(&self) -> Rest {
+        self.control.rest()
+    }
+
+    pub(super) fn same(&self, other: &Thread) -> bool {
+        self.control.same(&other.control)
     }
 
     // Another thread that is the same.
