@@ -81,6 +81,7 @@ impl Env {
 }
 
 /// An equal value. A number, which most values are, is copied at once.
+#[inline(always)]
 pub(crate) fn twin(alloc: Global, v: &Value) -> Result<Value, NoMemory>
     ensures { IfOk result (λ w. w ≡ v.now) }
 {

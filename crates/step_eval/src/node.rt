@@ -14,6 +14,7 @@ use stab_code::{Head, Node, NodeId, Program};
 use std::alloc::Global;
 
 /// The node of a number that is there.
+#[inline(always)]
 pub(crate) fn node_at(p: &Program, n: NodeId) -> Node<'_>
     requires { n.0 < length p.now.nodes }
     ensures node { result ≡ node_at p.now n }
@@ -23,6 +24,7 @@ pub(crate) fn node_at(p: &Program, n: NodeId) -> Node<'_>
 }
 
 /// A part among those of a node, by its place.
+#[inline(always)]
 pub(crate) fn item_of(parts: &[NodeId], k: usize) -> NodeId
     requires { k < length parts.now }
     ensures { slice_get parts.now k ≡ Some result }
@@ -39,6 +41,7 @@ pub(crate) fn slot_of(slots: &[Option<u32>], k: usize) -> Option<u32>
 }
 
 /// The value of a slot.
+#[inline(always)]
 fn value_at(values: &[Value], slot: u32) -> &Value
     requires { slot < length values.now }
     ensures { slice_get values.now slot ≡ Some result.now }
@@ -47,6 +50,7 @@ fn value_at(values: &[Value], slot: u32) -> &Value
 }
 
 /// The value of a literal or a variable, where the variables have these values.
+#[inline(always)]
 pub(crate) fn leaf(
     alloc: Global,
     p: &Program,

@@ -31,6 +31,7 @@ use std::mem;
 use std::sync::Arc;
 
 /// Room for so many values, and for two at least, in a list that has none yet.
+#[inline(always)]
 fn make_room(values: &mut Vec<Value>, many: usize) -> Result<(), NoMemory>
     ensures { values.new.items ≡ values.old.items }
 {
@@ -42,6 +43,7 @@ fn make_room(values: &mut Vec<Value>, many: usize) -> Result<(), NoMemory>
 
 /// Puts the values of the next parts behind those so far, as long as they are literals or variables. Answers
 /// the first part that has to be a value and isn't, if there is one.
+#[inline(always)]
 fn take_leaves(
     alloc: Global,
     p: &Program,
@@ -71,6 +73,7 @@ fn take_leaves(
 
 impl Machine {
     /// The values so far, which are then gone. Where there are none, the room for them stays.
+    #[inline(always)]
     fn take_done(&mut self) -> Vec<Value>
         ensures done { result.items ≡ self.old.done.items }
         ensures none { self.new.done.items ≡ [] }
@@ -88,6 +91,7 @@ impl Machine {
     }
 
     /// The form at hand becomes the innermost frame, and a part's form is at hand.
+    #[inline(always)]
     fn go_in(&mut self, part: NodeId) -> Result<(), NoMemory>
         ensures round { OnOk result (round_of self.new ≡ here_of self.old ∷ round_of self.old) }
         ensures here { OnOk result (here_of self.new ≡ at_start part (arc_value self.old.env)) }
@@ -106,6 +110,7 @@ impl Machine {
     }
 
     /// Goes in as long as a part that has to be a value isn't one.
+    #[inline(always)]
     fn settle(&mut self, p: &Program, n: NodeId, from: usize) -> Result<(), NoMemory>
         requires site { self.old.site ≡ Form n from }
         requires fits { FormFits p.now n from (length (arc_value self.old.env)) }
@@ -133,6 +138,7 @@ impl Machine {
     }
 
     /// The act that the form at hand is, if it is one.
+    #[inline(always)]
     fn act(&self, p: &Program) -> Option<Act>
         requires { IsSettled p.now (here_of self.now) }
         ensures act { option_map (act_of (body p.now) self.now.done.items) result ≡ told (turn_at p.now (here_of self.now)) }
@@ -159,6 +165,7 @@ impl Machine {
     }
 
     /// Finds the redex in the form at hand.
+    #[inline(always)]
     pub(crate) fn arrive(&mut self, p: &Program, n: NodeId, from: usize) -> Result<(), NoMemory>
         requires site { self.old.site ≡ Form n from }
         requires fits { FormFits p.now n from (length (arc_value self.old.env)) }
@@ -173,6 +180,7 @@ impl Machine {
     }
 
     /// The innermost frame, which stands round the focus no more.
+    #[inline(always)]
     fn pop_frame(&mut self) -> Option<Popped>
         ensures round { round_of self.old ≡ option_to_list (option_map popped_view result) ++ round_of self.new }
         ensures last { IfNone result (round_of self.new ≡ []) }
@@ -189,6 +197,7 @@ impl Machine {
     }
 
     /// The values of a frame's parts are those at hand.
+    #[inline(always)]
     fn put_done(&mut self, done: Vec<Value>)
         ensures done { self.new.done.items ≡ done.items }
         ensures site { self.new.site ≡ self.old.site }
@@ -204,6 +213,7 @@ impl Machine {
     }
 
     /// A frame's form is at hand again.
+    #[inline(always)]
     fn open_own(&mut self, frame: Frame)
         ensures here { here_of self.new ≡ frame }
         ensures round { round_of self.new ≡ round_of self.old }
@@ -228,6 +238,7 @@ impl Machine {
     }
 
     /// A frame's form is at hand, and has one value more.
+    #[inline(always)]
     fn open(&mut self, frame: Popped, v: Value) -> Result<(), NoMemory>
         ensures here { OnOk result (here_of self.new ≡ with_value (popped_view frame) v) }
         ensures round { round_of self.new ≡ round_of self.old }

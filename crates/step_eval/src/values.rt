@@ -34,6 +34,7 @@ pub(crate) fn two(values: &[Value]) -> Option<(&Value, &Value)>
 }
 
 /// The only value, out of its list.
+#[inline(always)]
 pub(crate) fn take_one(values: &mut Vec<Value>) -> Option<Value>
     ensures value { result ≡ one_of values.old.items }
     ensures none_left { IfSome result (λ _. values.new.items ≡ []) }
@@ -65,6 +66,7 @@ pub(crate) fn condition(values: &[Value]) -> Option<bool>
 }
 
 /// What an operator that looks at both sides makes.
+#[inline(always)]
 fn operator(op: Op, values: &[Value]) -> Result<Value, Fault>
     ensures { outcome_of result ≡ with_two values.now (by_operator op) }
 {
@@ -115,6 +117,7 @@ fn pair(alloc: Global, values: &mut Vec<Value>) -> Result<Result<Value, Fault>, 
 }
 
 /// A part of a pair.
+#[inline(always)]
 fn part_of(values: &mut Vec<Value>, second: bool) -> Result<Value, Fault>
     ensures { outcome_of result ≡ with_one values.old.items (λ v. with_pair v (λ a b. becomes (value (if second then b else a)))) }
 {
@@ -128,6 +131,7 @@ fn part_of(values: &mut Vec<Value>, second: bool) -> Result<Value, Fault>
 }
 
 /// What a form that is no act makes of the values of its parts, where all its parts count.
+#[inline(always)]
 pub(crate) fn made(
     alloc: Global,
     head: &Head,
