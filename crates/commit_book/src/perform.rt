@@ -1,5 +1,5 @@
 //! What a commit does: the pure steps, and then the act at which the thread stands.
-ghost use Rattle.std.specs.Prelude.{◌≡◌, ◌↔◌, ◌<◌, ◌≤◌, ◌+◌, [], ◌∷◌, length, slice_get, Some, None, IfErr, IfOk, IfSome, IsSome, IsTrue, OnErr, OnOk};
+ghost use Rattle.std.specs.Prelude.{◌≡◌, ◌↔◌, ◌<◌, ◌≤◌, ◌+◌, [], ◌∷◌, length, Some, None, IfErr, IfOk, IfSome, IsSome, IsTrue, OnErr, OnOk};
 ghost use Rattle.std.specs.FinMap as map;
 ghost use Rattle.stab_code.specs.Program.{ProgramParts};
 ghost use Rattle.stab_code.specs.Valid.{IsValid};
@@ -21,7 +21,7 @@ use crate::done::Outcome;
 use crate::lease::Lease;
 use crate::parts::{Parts, is_failed, is_over};
 use rendezvous::Offer;
-use stab_base::{Fault, NoMemory, Seq, ThreadId, Value};
+use stab_base::{Seq, ThreadId, Value};
 use stab_code::{Job, Program};
 use stab_journal::{Event, Label, What};
 use std::alloc::Global;
