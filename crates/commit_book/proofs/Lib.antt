@@ -83,3 +83,5 @@ pub mod UndoneMarks
 pub mod UndoneEdges
 pub mod UndoneLines
 pub mod Committed
+pub mod Holding
+pub mod Chosen
