@@ -1,0 +1,6 @@
+//! A run of a book by one worker.
+#![tactic(auto)]
+
+mod worker;
+
+pub use worker::{RunEnd, run};
