@@ -29,6 +29,17 @@ fn a_control_comes_back_once(rt: HostRuntime) -> Result<(), Fail> {
     Ok(())
 }
 
+#[test]
+fn both_actors_of_an_event_are_saved(rt: HostRuntime) {
+    let mut store = Store::new(rt.alloc());
+    assert_eq!(rt; store.reserve(2), Ok(()));
+    store.save(Seq(3), ThreadId(2), 20);
+    store.save(Seq(3), ThreadId(5), 50);
+    assert_eq!(rt; store.reserve(100_000), Ok(()));
+    assert_eq!(rt; store.take(Seq(3), ThreadId(5)), Some(50));
+    assert_eq!(rt; store.take(Seq(3), ThreadId(2)), Some(20));
+}
+
 type Plain = Vec<(u64, u32, u64)>;
 
 // Saves a control of an event behind all those that have one.
