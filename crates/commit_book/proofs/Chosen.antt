@@ -93,4 +93,3 @@ release_due b is = by (nat_lt 0 (due b.history.events)) (is_empty b.queue && nat
     by false true z some is = absurd (cc)
     by false false true some is = absurd (cc)
     by false false false some is = absurd (front b.queue is)
-
