@@ -1,0 +1,5 @@
+//! Books of short texts.
+
+mod lists;
+mod plain;
+mod turns;
