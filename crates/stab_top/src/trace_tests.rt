@@ -217,8 +217,9 @@ fn is_traced<R: Threads + Wait + Sync>(
     line: &str,
     program: &[u8],
 ) -> Result<(), Fail> {
+    let own = program.to_vec(alloc)?;
     let traced = Trial::new(rt, alloc, line, program, [&[], &[]])?;
-    let files = [("p", program), ("t", traced.written.as_slice())];
+    let files = [("p", own.as_slice()), ("t", traced.written.as_slice())];
     answers(rt, alloc, &files, [&[], &[]], "verify p t -> 0 yes/")?;
     let other = [
         ("p", b"fn main(): unit { cut() }".as_slice()),
