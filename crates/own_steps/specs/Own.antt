@@ -1,0 +1,30 @@
+-- Steps of threads, as callers see them.
+use Rattle.std.specs.Prelude.{ℕ, List, [], ◌∷◌, Option, Some, None, slice_index_or, refl}
+use Rattle.std.specs.List.{last_or}
+use Rattle.std.specs.Coded.{Coded, code_by, coded×, coded_ℕ, coded_list}
+
+-- the numbers of the steps of each thread in rising order, by the thread's number; how many were pushed since the last time that all were forgotten, with those that were popped; and for how many more there is room
+pub record Seen : Type 0 where
+  pub steps : List (List ℕ)
+  pub count : ℕ
+  pub spare : ℕ
+
+-- it is stored as the tuple of its fields
+abbrev pub seen_code : Coded Seen
+seen_code =
+    code_by (List (List ℕ) × (ℕ × ℕ)) (coded× (coded_list (coded_list coded_ℕ)) (coded× coded_ℕ coded_ℕ)) (λ s. (s.steps, (s.count, s.spare))) (λ p. record { steps = p.0; count = p.1.0; spare = p.1.1 }) (λ _. refl)
+
+-- the steps of the thread t, none where it has no place
+abbrev pub steps_of : Seen → ℕ → List ℕ
+steps_of s t = slice_index_or s.steps t []
+
+-- the last of some steps
+abbrev pub last_step : List ℕ → Option ℕ
+last_step [] = None
+last_step (q ∷ qs) = Some (last_or q qs)
+
+-- all but the last
+abbrev pub but_last : List ℕ → List ℕ
+but_last [] = []
+but_last (q ∷ []) = []
+but_last (q ∷ r ∷ qs) = q ∷ but_last (r ∷ qs)
