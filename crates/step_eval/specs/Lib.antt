@@ -3,6 +3,7 @@ pub mod Arrival
 pub mod Asked
 pub mod ControlView
 pub mod Entries
+pub mod Few
 pub mod Fits
 pub mod FrameView
 pub mod Meaning

@@ -13,6 +13,7 @@ ghost use Rattle.step_eval.specs.declared.act.Act.TheVariants.{Enter};
 ghost use Rattle.step_eval.specs.declared.machine.Focus.TheVariants as Focus;
 
 use crate::env::Env;
+use crate::few::Few;
 use crate::frame::Frame;
 use crate::machine::{Focus, Machine};
 use crate::node::entry;
@@ -75,11 +76,11 @@ impl Machine {
         ensures mark { self.new.mark ≡ self.old.mark }
         ensures top { self.new.top ≡ self.old.top }
     {
-        let args = mem::replace(&mut self.done, Vec::new(self.alloc));
+        let args = Few::take(&mut self.done);
         match Arc::new(self.alloc, Env::new(args)) {
             Ok(env) => Ok(env),
             Err(refused) => {
-                self.done = refused.value.into_values();
+                refused.value.into_values().put_back(&mut self.done);
                 Err(NoMemory)
             }
         }
@@ -108,7 +109,7 @@ impl Machine {
     {
         let frame = Frame {
             site: Site::Section(q, self.mark),
-            done: Vec::new(self.alloc),
+            done: Few::none(self.alloc),
             env: mem::replace(&mut self.env, env),
         };
         self.top = Some(frame);
