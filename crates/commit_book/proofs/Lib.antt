@@ -82,17 +82,6 @@ pub mod UndoneOffers
 pub mod UndoneMarks
 pub mod UndoneEdges
 pub mod UndoneLines
-pub mod UndoneStood
-pub mod UndoneKnown
-pub mod UndoneQueue
-pub mod UndoneBook
-pub mod UndoneKept
-pub mod UndoneSteps
-pub mod PrintCounts
-pub mod CutActs
-pub mod ReleaseActs
-pub mod UndonePins
-pub mod UndoneLocal
 pub mod Committed
 pub mod Holding
 pub mod Chosen

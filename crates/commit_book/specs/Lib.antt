@@ -19,10 +19,6 @@ pub mod Restated
 pub mod Turns
 pub mod Limits
 pub mod Rows
-pub mod Undoing
-pub mod OwnSteps
-pub mod TakenOut
-pub mod Releases
 pub mod Commits
 pub mod Acting
 pub mod Meetings

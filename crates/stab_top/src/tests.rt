@@ -40,11 +40,8 @@ fn runs_that_fail(rt: HostRuntime) -> Result<(), Fail> {
 }
 
 const UNBUILT: &str = "\
-fn f(): unit { () } fn main(): unit { stable f() } -> 14 stab: NotBuilt/\n\
-fn unused(): unit { stabilize() } fn main(): unit { print(1) } -> 14 stab: NotBuilt/\n\
-fn unused(): unit { cut() } fn main(): unit { print(1) } -> 14 stab: NotBuilt/\n\
-fn unused(): unit { pin() } fn main(): unit { print(1) } -> 14 stab: NotBuilt/\n\
-fn unused(): int { attempt() } fn main(): unit { print(1) } -> 14 stab: NotBuilt/\n\
+fn f(): unit { () } fn main(): unit { spawn f(); } -> 14 stab: NotBuilt/\n\
+fn unused(): int { probe() } fn main(): unit { print(1) } -> 14 stab: NotBuilt/\n\
 ";
 
 #[test]

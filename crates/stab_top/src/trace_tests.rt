@@ -1,6 +1,6 @@
 //! Calls that write a trace or judge one.
 
-use crate::trial::{Trial, is_answer, repeated};
+use crate::trial::{Trial, is_answer};
 use stab_base::Seq;
 use std::alloc::Global;
 use std::process::Abort;
@@ -158,54 +158,15 @@ trace p --quantum 7 -> fn f(n: int): int { if n == 0 { 0 } else { 1 + f(n - 1) }
 trace p --fuel 2000 --quantum 999 -> fn f(): int { f() } fn main(): unit { print(1); f() }\n\
 ";
 
-// Runs to the bound of the forms that stand in each other, beyond it, and without an end.
-const DEEP: &str = "\
-trace p -> fn f(n: int): int { if n == 0 { 0 } else { 1 + f(n - 1) } } fn main(): unit { print(f(998)) }\n\
-trace p -> fn f(n: int): int { if n == 0 { 0 } else { 1 + f(n - 1) } } fn main(): unit { print(f(999)) }\n\
-trace p -> fn f(): int { 1 + f() } fn main(): unit { print(f()) }\n\
-trace p -> fn f(): int { f() } fn main(): unit { f() }\n\
-";
-
 #[test]
 fn traces_of_short_runs(rt: HostRuntime) -> Result<(), Fail> {
     are_traced(&rt, rt.alloc(), TRACED)
-}
-
-#[test]
-fn traces_of_long_runs(rt: HostRuntime) -> Result<(), Fail> {
-    are_traced(&rt, rt.alloc(), DEEP)
 }
 
 fn are_traced<R: Threads + Wait + Sync>(rt: &R, alloc: Global, table: &str) -> Result<(), Fail> {
     for row in table.lines() {
         let (line, program) = row.split_once(" -> ").ok_or("no arrow")?;
         is_traced(rt, alloc, line, program.as_bytes())?;
-    }
-    Ok(())
-}
-
-// A text of a million digits, one of the greatest length, and one whose branches are as deep as they may be.
-#[test]
-fn traces_of_long_programs(rt: HostRuntime) -> Result<(), Fail> {
-    let alloc = rt.alloc();
-    for (front, piece, count, end) in [
-        ("fn main(): unit { print(", "0", 1_000_000, "7) }"),
-        ("fn main(): unit { print(1 + 2) }", " ", 1_048_544, ""),
-        (
-            "fn main(): unit { if true {}",
-            " else if true {}",
-            198,
-            " }",
-        ),
-    ] {
-        let program = repeated(
-            alloc,
-            front.as_bytes(),
-            piece.as_bytes(),
-            count,
-            end.as_bytes(),
-        )?;
-        is_traced(&rt, alloc, "trace p", &program)?;
     }
     Ok(())
 }
@@ -217,8 +178,9 @@ fn is_traced<R: Threads + Wait + Sync>(
     line: &str,
     program: &[u8],
 ) -> Result<(), Fail> {
+    let own = program.to_vec(alloc)?;
     let traced = Trial::new(rt, alloc, line, program, [&[], &[]])?;
-    let files = [("p", program), ("t", traced.written.as_slice())];
+    let files = [("p", own.as_slice()), ("t", traced.written.as_slice())];
     answers(rt, alloc, &files, [&[], &[]], "verify p t -> 0 yes/")?;
     let other = [
         ("p", b"fn main(): unit { cut() }".as_slice()),

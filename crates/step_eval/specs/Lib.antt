@@ -3,7 +3,6 @@ pub mod Arrival
 pub mod Asked
 pub mod ControlView
 pub mod Entries
-pub mod Few
 pub mod Fits
 pub mod FrameView
 pub mod Meaning

@@ -13,7 +13,6 @@ ghost use Rattle.step_eval.specs.declared.act.Act.TheVariants.{Enter};
 ghost use Rattle.step_eval.specs.declared.machine.Focus.TheVariants as Focus;
 
 use crate::env::Env;
-use crate::few::Few;
 use crate::frame::Frame;
 use crate::machine::{Focus, Machine};
 use crate::node::entry;
@@ -76,11 +75,11 @@ impl Machine {
         ensures mark { self.new.mark ≡ self.old.mark }
         ensures top { self.new.top ≡ self.old.top }
     {
-        let args = Few::take(&mut self.done);
+        let args = mem::replace(&mut self.done, Vec::new(self.alloc));
         match Arc::new(self.alloc, Env::new(args)) {
             Ok(env) => Ok(env),
             Err(refused) => {
-                refused.value.into_values().put_back(&mut self.done);
+                self.done = refused.value.into_values();
                 Err(NoMemory)
             }
         }
@@ -109,7 +108,7 @@ impl Machine {
     {
         let frame = Frame {
             site: Site::Section(q, self.mark),
-            done: Few::none(self.alloc),
+            done: Vec::new(self.alloc),
             env: mem::replace(&mut self.env, env),
         };
         self.top = Some(frame);

@@ -17,7 +17,6 @@ ghost use Rattle.step_eval.specs.declared.act.Act.TheVariants.{Enter};
 use crate::act::Act;
 use crate::ask::Ask;
 use crate::env::Env;
-use crate::few::Few;
 use crate::machine::{Focus, Machine};
 use crate::node::entry;
 use crate::rest::Rest;
@@ -80,15 +79,13 @@ impl Control {
         ensures view { IfOk result (λ c. c ≡ entered n value args.items) }
         ensures back { IfErr result (λ refused. refused.args.items ≡ args.items) }
     {
-        let mut args = args;
-        match Arc::new(alloc, Env::new(Few::take(&mut args))) {
+        match Arc::new(alloc, Env::new(args)) {
             Ok(env) => Ok(Control {
                 machine: Machine::entered(alloc, n, value, env),
             }),
-            Err(refused) => {
-                refused.value.into_values().put_back(&mut args);
-                Err(CallRefused { args })
-            }
+            Err(refused) => Err(CallRefused {
+                args: refused.value.into_values(),
+            }),
         }
     }
 

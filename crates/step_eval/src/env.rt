@@ -2,15 +2,15 @@
 ghost use Rattle.std.specs.Prelude.{◌≡◌, ◌≤◌, ◌++◌, [], length, IfOk, OnOk};
 ghost use Rattle.step_eval.specs.Scoped.{bound};
 
-use crate::few::Few;
 use stab_base::{NoMemory, Shape, Value};
 use std::alloc::Global;
 use std::marker::Model;
+use std::mem;
 
 /// Values by slot. Contracts see a list.
 #[derive(Drop)]
 pub(crate) struct Env {
-    slots: Few,
+    slots: Vec<Value>,
 }
 
 impl Model for Env {
@@ -23,31 +23,32 @@ impl Model for Env {
 
     ghost coded = { coded_list coded_datum };
 
-    ghost view = { λ e. e.slots };
+    ghost view = { λ e. e.slots.items };
 }
 
 impl Env {
     /// Of arguments.
-    pub(crate) fn new(slots: Few) -> Env
-        ensures { result ≡ slots }
+    pub(crate) fn new(slots: Vec<Value>) -> Env
+        ensures { result ≡ slots.items }
     {
         Env { slots }
     }
 
     /// The values, by slot.
-    #[inline(always)]
     pub(crate) fn values(&self) -> &[Value]
         ensures { result.now ≡ self.now }
     {
         self.slots.as_slice()
     }
 
-    /// The values of a list in their place. The list then has none.
-    pub(crate) fn replace(&mut self, values: &mut Vec<Value>)
-        ensures values { self.new ≡ values.old.items }
-        ensures none_left { values.new.items ≡ [] }
+    /// Other values in their place, which come back without what they were.
+    pub(crate) fn replace(&mut self, slots: Vec<Value>) -> Vec<Value>
+        ensures values { self.new ≡ slots.items }
+        ensures none_left { result.items ≡ [] }
     {
-        self.slots.replace(values);
+        let mut old = mem::replace(&mut self.slots, slots);
+        old.clear();
+        old
     }
 
     /// The value of a slot behind the others; those in between, which no variable of what is left names, get unit.
@@ -63,17 +64,17 @@ impl Env {
     }
 
     /// An equal one.
-    pub(crate) fn copy(&self) -> Result<Env, NoMemory>
+    pub(crate) fn copy(&self, alloc: Global) -> Result<Env, NoMemory>
         ensures { IfOk result (λ e. e ≡ self.now) }
     {
         Ok(Env {
-            slots: self.slots.copy()?,
+            slots: copied(alloc, self.slots.as_slice())?,
         })
     }
 
     /// The list of the values.
-    pub(crate) fn into_values(self) -> Few
-        ensures { result ≡ self }
+    pub(crate) fn into_values(self) -> Vec<Value>
+        ensures { result.items ≡ self }
     {
         self.slots
     }

@@ -2,10 +2,10 @@
 ghost use Rattle.std.specs.Prelude.{◌≡◌, ◌+◌, IfOk};
 ghost use Rattle.std.specs.Arc.{arc_value};
 
-use crate::env::Env;
-use crate::few::Few;
+use crate::env::{Env, copied};
 use crate::site::Site;
-use stab_base::NoMemory;
+use stab_base::{NoMemory, Value};
+use std::alloc::Global;
 use std::marker::Model;
 use std::sync::Arc;
 use std::sync::ledger::Ledger;
@@ -15,7 +15,7 @@ use step_counter::Steps;
 #[derive(Drop)]
 pub struct Frame {
     pub(crate) site: Site,
-    pub(crate) done: Few,
+    pub(crate) done: Vec<Value>,
     pub(crate) env: Arc<Env>,
 }
 
@@ -30,16 +30,16 @@ impl Model for Frame {
 
     ghost coded = { Prim.hlevel (codes, coded_datum, place.the_row.coded) };
 
-    ghost view = { λ f. record { site = f.site; done = f.done; env = arc_value f.env } };
+    ghost view = { λ f. record { site = f.site; done = f.done.items; env = arc_value f.env } };
 }
 
 impl Frame {
-    pub(crate) fn equal(&self) -> Result<Frame, NoMemory>
+    pub(crate) fn equal(&self, alloc: Global) -> Result<Frame, NoMemory>
         ensures { IfOk result (λ f. f ≡ self.now) }
     {
         Ok(Frame {
             site: self.site,
-            done: self.done.copy()?,
+            done: copied(alloc, self.done.as_slice())?,
             env: Arc::try_clone(&self.env)?,
         })
     }
@@ -50,7 +50,7 @@ impl Frame {
         ensures step { steps.new ≡ steps.old + 1 }
     {
         steps.tick();
-        self.equal()
+        self.equal(*self.done.allocator())
     }
 }
 

@@ -7,7 +7,6 @@ mod ask;
 mod control;
 mod depth;
 mod env;
-mod few;
 mod frame;
 mod machine;
 mod node;

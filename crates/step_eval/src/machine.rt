@@ -46,6 +46,7 @@ pub(crate) struct Machine {
     pub(crate) env: Arc<Env>,
     pub(crate) top: Option<Frame>,
     pub(crate) frames: Vec<Arc<Frame>>,
+    pub(crate) spare: Vec<Value>,
     pub(crate) mark: Option<Seq>,
 }
 
@@ -65,6 +66,7 @@ impl Machine {
             env,
             top: None,
             frames: Vec::new(alloc),
+            spare: Vec::new(alloc),
             mark: None,
         }
     }
@@ -163,7 +165,7 @@ impl Machine {
     {
         let top = match &self.top {
             None => None,
-            Some(frame) => Some(frame.equal()?),
+            Some(frame) => Some(frame.equal(self.alloc)?),
         };
         self.keep(top)
     }
@@ -191,6 +193,7 @@ impl Machine {
             env: Arc::try_clone(&self.env)?,
             top,
             frames: shared(self.alloc, self.frames.as_slice())?,
+            spare: Vec::new(self.alloc),
             mark: self.mark,
         })
     }

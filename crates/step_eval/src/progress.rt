@@ -75,6 +75,13 @@ impl Progress {
     {
         &self.end
     }
+
+    /// Where the control then is, by value.
+    pub fn into_end(self) -> Control
+        ensures { result ≡ self.end }
+    {
+        self.end
+    }
 }
 
 /// The memory that an advance needs isn't there. The control comes back as it was given.

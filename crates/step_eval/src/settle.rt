@@ -20,7 +20,6 @@ ghost use Rattle.step_eval.specs.declared.site.Site.TheVariants.{Form};
 
 use crate::act::{Act, act_at};
 use crate::env::add_copies;
-use crate::few::Few;
 use crate::frame::{Frame, Popped};
 use crate::machine::{Focus, Machine};
 use crate::node::{item_of, leaf, node_at};
@@ -28,6 +27,7 @@ use crate::site::Site;
 use stab_base::{NoMemory, Value};
 use stab_code::{NodeId, Program};
 use std::alloc::Global;
+use std::mem;
 use std::sync::Arc;
 
 /// Room for so many values, and for two at least, in a list that has none yet.
@@ -72,6 +72,24 @@ fn take_leaves(
 }
 
 impl Machine {
+    /// The values so far, which are then gone. Where there are none, the room for them stays.
+    #[inline(always)]
+    fn take_done(&mut self) -> Vec<Value>
+        ensures done { result.items ≡ self.old.done.items }
+        ensures none { self.new.done.items ≡ [] }
+        ensures site { self.new.site ≡ self.old.site }
+        ensures env { arc_value self.new.env ≡ arc_value self.old.env }
+        ensures round { round_of self.new ≡ round_of self.old }
+        ensures mark { self.new.mark ≡ self.old.mark }
+    {
+        if self.done.is_empty() {
+            return Vec::new(self.alloc);
+        }
+        let mut spare = mem::replace(&mut self.spare, Vec::new(self.alloc));
+        spare.clear();
+        mem::replace(&mut self.done, spare)
+    }
+
     /// The form at hand becomes the innermost frame, and a part's form is at hand.
     #[inline(always)]
     fn go_in(&mut self, part: NodeId) -> Result<(), NoMemory>
@@ -81,7 +99,7 @@ impl Machine {
     {
         let frame = Frame {
             site: self.site,
-            done: Few::take(&mut self.done),
+            done: self.take_done(),
             env: Arc::try_clone(&self.env)?,
         };
         self.site = Site::Form(part, 0);
@@ -178,17 +196,33 @@ impl Machine {
         }
     }
 
+    /// The values of a frame's parts are those at hand.
+    #[inline(always)]
+    fn put_done(&mut self, done: Vec<Value>)
+        ensures done { self.new.done.items ≡ done.items }
+        ensures site { self.new.site ≡ self.old.site }
+        ensures env { arc_value self.new.env ≡ arc_value self.old.env }
+        ensures round { round_of self.new ≡ round_of self.old }
+        ensures mark { self.new.mark ≡ self.old.mark }
+    {
+        if done.is_empty() {
+            self.done.clear();
+        } else {
+            self.spare = mem::replace(&mut self.done, done);
+        }
+    }
+
     /// A frame's form is at hand again.
     #[inline(always)]
-    fn open_own(&mut self, frame: Frame) -> Result<(), NoMemory>
-        ensures here { OnOk result (here_of self.new ≡ frame) }
+    fn open_own(&mut self, frame: Frame)
+        ensures here { here_of self.new ≡ frame }
         ensures round { round_of self.new ≡ round_of self.old }
         ensures mark { self.new.mark ≡ self.old.mark }
     {
         let Frame { site, done, env } = frame;
         self.site = site;
         self.env = env;
-        done.put(&mut self.done)
+        self.put_done(done);
     }
 
     /// The form of a frame that others share is at hand again.
@@ -211,7 +245,7 @@ impl Machine {
         ensures mark { self.new.mark ≡ self.old.mark }
     {
         match frame {
-            Popped::Own(frame) => self.open_own(frame)?,
+            Popped::Own(frame) => self.open_own(frame),
             Popped::Shared(frame) => self.open_shared(&frame)?,
         }
         make_room(&mut self.done, 1)?;

@@ -20,13 +20,13 @@ ghost use Rattle.step_eval.specs.View.{here_of, round_of};
 ghost use Rattle.step_eval.specs.declared.machine.Focus.TheVariants as Focus;
 
 use crate::env::Env;
-use crate::few::Few;
 use crate::machine::{MAX_SPINE, Machine};
 use crate::node::{body_at, item_of, node_at, slot_of};
 use crate::site::Site;
 use crate::values::{condition, made, take_one};
 use stab_base::{Fault, FnId, NoMemory, Value};
 use stab_code::{Head, NodeId, Op, Program};
+use std::mem;
 use std::sync::Arc;
 
 impl Machine {
@@ -100,11 +100,11 @@ impl Machine {
         ensures round { round_of self.new ≡ round_of self.old }
         ensures mark { self.new.mark ≡ self.old.mark }
     {
+        let args = mem::replace(&mut self.done, Vec::new(self.alloc));
         if let Some(env) = Arc::get_mut(&mut self.env) {
-            env.replace(&mut self.done);
+            self.done = env.replace(args);
             return Ok(());
         }
-        let args = Few::take(&mut self.done);
         self.env = Arc::new(self.alloc, Env::new(args))?;
         Ok(())
     }
@@ -136,7 +136,7 @@ impl Machine {
         if let Some(env) = Arc::get_mut(&mut self.env) {
             return env.bind(x, v);
         }
-        let mut env = self.env.copy()?;
+        let mut env = self.env.copy(self.alloc)?;
         env.bind(x, v)?;
         self.env = Arc::new(self.alloc, env)?;
         Ok(())

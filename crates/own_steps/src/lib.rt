@@ -1,6 +1,0 @@
-//! The steps in which each thread acted since the last cut, from which an undo takes the last ones back.
-#![tactic(auto)]
-
-mod own_steps;
-
-pub use own_steps::OwnSteps;

@@ -1,0 +1,11 @@
+pub mod Alone
+pub mod Bodies
+pub mod Booking
+pub mod Contents
+pub mod Ending
+pub mod Over
+pub mod Resting
+pub mod Scanning
+pub mod Stepping
+pub mod Weighing
+pub mod Written
