@@ -22,7 +22,7 @@ use Rattle.commit_book.specs.Acting.{AreAsBefore, HasGoneOn, IsDone, IsLonger, M
 use Rattle.commit_book.specs.Book.{ShowsThreads, offered, over}
 use Rattle.commit_book.specs.Counts.{faulted_in}
 use Rattle.commit_book.specs.Doing.{IsDoing, is_failed, is_over}
-use Rattle.commit_book.specs.Layout.{IsKept, view_of, without_room}
+use Rattle.commit_book.specs.Layout.{IsKept, view_of, without_spare}
 use Rattle.commit_book.specs.Leases.{LeaseView}
 use Rattle.commit_book.specs.Rows.{local_of, meets, thread}
 use Rattle.commit_book.proofs.Adding.{resting_ended, resting_state, resting_unparked}
@@ -155,7 +155,7 @@ module _ (job : JobParts) (old : Parts) (lease : LeaseView) (progress : Progress
     view_met =
         ap (view_of job) whole
         ∙ ap (λ k. record (view_of job begins) {
-          history = without_room k.history;
+          history = without_spare k.history;
           threads = new.slots.threads;
           queue = new.slots.queue;
           offers = k.offers;

@@ -23,7 +23,7 @@ use Rattle.step_eval.specs.Progress.{ProgressView}
 use Rattle.commit_book.specs.declared.parts.Parts.{Parts}
 use Rattle.commit_book.specs.Acting.{AreAsBefore, HasAnswered, IsDone, IsLonger, MayAct, StandsAt}
 use Rattle.commit_book.specs.Book.{BookView}
-use Rattle.commit_book.specs.Layout.{IsKept, view_of, without_room}
+use Rattle.commit_book.specs.Layout.{IsKept, view_of, without_spare}
 use Rattle.commit_book.specs.Leases.{LeaseView}
 use Rattle.commit_book.specs.Rows as rows
 use Rattle.commit_book.specs.Rows.{alone, local_of, thread}
@@ -92,11 +92,11 @@ module _ (job : JobParts) (old : Parts) (lease : LeaseView) (progress : Progress
     done_is : done ≡ record begun { history = pushed.history; next_chan = begun.next_chan + 1 }
     done_is = ap (λ (k : Parts). record k { next_chan = k.next_chan + 1 }) more
 
-    seen_now : view_of job done ≡ record (view_of job begins) { history = without_room done.history; offers = done.offers; next = record { thread = begins.slots.next; chan = begins.next_chan + 1; ref = begins.next_ref } }
+    seen_now : view_of job done ≡ record (view_of job begins) { history = without_spare done.history; offers = done.offers; next = record { thread = begins.slots.next; chan = begins.next_chan + 1; ref = begins.next_ref } }
     seen_now =
-        let seen : view_of job done ≡ record (view_of job begins) { history = without_room done.history; offers = begun.offers; next = record { thread = begins.slots.next; chan = begins.next_chan + 1; ref = begins.next_ref } } = ap (view_of job) done_is in
-        let also : record (view_of job begins) { history = without_room done.history; offers = begun.offers; next = record { thread = begins.slots.next; chan = begins.next_chan + 1; ref = begins.next_ref } } ≡ record (view_of job begins) { history = without_room done.history; offers = done.offers; next = record { thread = begins.slots.next; chan = begins.next_chan + 1; ref = begins.next_ref } } =
-        ap (with_offers (record (view_of job begins) { history = without_room done.history; next = record { thread = begins.slots.next; chan = begins.next_chan + 1; ref = begins.next_ref } })) (sym (ap (λ k. k.offers) more)) in
+        let seen : view_of job done ≡ record (view_of job begins) { history = without_spare done.history; offers = begun.offers; next = record { thread = begins.slots.next; chan = begins.next_chan + 1; ref = begins.next_ref } } = ap (view_of job) done_is in
+        let also : record (view_of job begins) { history = without_spare done.history; offers = begun.offers; next = record { thread = begins.slots.next; chan = begins.next_chan + 1; ref = begins.next_ref } } ≡ record (view_of job begins) { history = without_spare done.history; offers = done.offers; next = record { thread = begins.slots.next; chan = begins.next_chan + 1; ref = begins.next_ref } } =
+        ap (with_offers (record (view_of job begins) { history = without_spare done.history; next = record { thread = begins.slots.next; chan = begins.next_chan + 1; ref = begins.next_ref } })) (sym (ap (λ k. k.offers) more)) in
         seen ∙ also
 
     module _ (at : StandsAt job.program progress.end own.NewChan) (history : IsLonger begun.history pushed.history lease.worker (NewChan (thread lease.thread) d ∷ [])) where

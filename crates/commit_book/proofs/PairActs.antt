@@ -41,7 +41,7 @@ use Rattle.commit_book.specs.Acting.{AreAsBefore, HasAnswered, HasJoined, IsDone
 use Rattle.commit_book.specs.Book.{ShowsThreads, offered, over}
 use Rattle.commit_book.specs.Counts.{faulted_in, is_undo}
 use Rattle.commit_book.specs.Doing.{is_failed, offer_at}
-use Rattle.commit_book.specs.Layout.{IsKept, view_of, without_room}
+use Rattle.commit_book.specs.Layout.{IsKept, view_of, without_spare}
 use Rattle.commit_book.specs.Leases.{LeaseView}
 use Rattle.commit_book.specs.Numbers.{threads_by}
 use Rattle.commit_book.specs.Rows.{local_of, starts, thread}
@@ -144,7 +144,7 @@ module _ (job : JobParts) (old : Parts) (lease : LeaseView) (progress : Progress
               ∙ sym (ap (λ es. length (probed es)) is.history.events);
           finals =
               ap (λ k. k.finals) tallies ∙ may.kept.tallied.finals ∙ sym ready.finals
-              ∙ sym (finals_now p (without_room begins.history) (without_room new.history) ready.run ready.state l ready.journal.history is.uncut is.history.survivors);
+              ∙ sym (finals_now p (without_spare begins.history) (without_spare new.history) ready.run ready.state l ready.journal.history is.uncut is.history.survivors);
           released = ap (λ k. k.released) tallies ∙ may.kept.tallied.released ∙ sym ready.released ∙ sym (released_now begins.history.events lease.worker l) ∙ sym (ap released is.history.events);
           undos = ap (λ k. k.undos) tallies ∙ may.kept.tallied.undos ∙ sym ready.undos ∙ sym (undos_now begins.history.events lease.worker l) ∙ sym (ap (count_by is_undo) is.history.events);
           faulted = faulted;
@@ -239,7 +239,7 @@ module _ (job : JobParts) (old : Parts) (lease : LeaseView) (progress : Progress
     view_is =
         ap (view_of job) whole
         ∙ ap (λ k. record (view_of job begins) {
-          history = without_room k.history;
+          history = without_spare k.history;
           threads = new.slots.threads;
           queue = new.slots.queue;
           offers = k.offers;

@@ -25,7 +25,7 @@ use Rattle.commit_book.specs.Acting.{AreAsBefore, IsLonger}
 use Rattle.commit_book.specs.Book.{BookView, IsShown}
 use Rattle.commit_book.specs.Counts.{faulted_in, is_undo}
 use Rattle.commit_book.specs.Commits.{events_by}
-use Rattle.commit_book.specs.Layout.{IsKept, view_of, without_room}
+use Rattle.commit_book.specs.Layout.{IsKept, view_of, without_spare}
 use Rattle.commit_book.specs.Rows.{local_of, thread}
 use Rattle.commit_book.proofs.KeptLocal.{IsBegun}
 use Rattle.commit_book.proofs.KeptSteps.{IsPushed}
@@ -50,19 +50,19 @@ seen job h a q o k r s g p n c f y = record {
 -- room isn't seen
 pub view_same : (job : JobParts) (old new : Parts) → AreAsBefore old new → view_of job new ≡ view_of job old
 view_same job old new before =
-    ap (λ x. seen job x new.slots.threads new.slots.queue new.offers new.log.last_cut new.log.references new.store.controls new.graph.nodes new.printed.items new.slots.next new.next_chan new.next_ref new.tallies) (ap without_room before.history)
-    ∙ ap (λ x. seen job (without_room old.history) x new.slots.queue new.offers new.log.last_cut new.log.references new.store.controls new.graph.nodes new.printed.items new.slots.next new.next_chan new.next_ref new.tallies) before.threads
-    ∙ ap (λ x. seen job (without_room old.history) old.slots.threads x new.offers new.log.last_cut new.log.references new.store.controls new.graph.nodes new.printed.items new.slots.next new.next_chan new.next_ref new.tallies) before.queue
-    ∙ ap (λ x. seen job (without_room old.history) old.slots.threads old.slots.queue x new.log.last_cut new.log.references new.store.controls new.graph.nodes new.printed.items new.slots.next new.next_chan new.next_ref new.tallies) before.offers
-    ∙ ap (λ x. seen job (without_room old.history) old.slots.threads old.slots.queue old.offers x new.log.references new.store.controls new.graph.nodes new.printed.items new.slots.next new.next_chan new.next_ref new.tallies) before.last_cut
-    ∙ ap (λ x. seen job (without_room old.history) old.slots.threads old.slots.queue old.offers old.log.last_cut x new.store.controls new.graph.nodes new.printed.items new.slots.next new.next_chan new.next_ref new.tallies) before.references
-    ∙ ap (λ x. seen job (without_room old.history) old.slots.threads old.slots.queue old.offers old.log.last_cut old.log.references x new.graph.nodes new.printed.items new.slots.next new.next_chan new.next_ref new.tallies) before.saved
-    ∙ ap (λ x. seen job (without_room old.history) old.slots.threads old.slots.queue old.offers old.log.last_cut old.log.references old.store.controls x new.printed.items new.slots.next new.next_chan new.next_ref new.tallies) before.nodes
-    ∙ ap (λ x. seen job (without_room old.history) old.slots.threads old.slots.queue old.offers old.log.last_cut old.log.references old.store.controls old.graph.nodes x new.slots.next new.next_chan new.next_ref new.tallies) before.printed
-    ∙ ap (λ x. seen job (without_room old.history) old.slots.threads old.slots.queue old.offers old.log.last_cut old.log.references old.store.controls old.graph.nodes old.printed.items x new.next_chan new.next_ref new.tallies) before.next
-    ∙ ap (λ x. seen job (without_room old.history) old.slots.threads old.slots.queue old.offers old.log.last_cut old.log.references old.store.controls old.graph.nodes old.printed.items old.slots.next x new.next_ref new.tallies) before.chan
-    ∙ ap (λ x. seen job (without_room old.history) old.slots.threads old.slots.queue old.offers old.log.last_cut old.log.references old.store.controls old.graph.nodes old.printed.items old.slots.next old.next_chan x new.tallies) before.ref
-    ∙ ap (λ x. seen job (without_room old.history) old.slots.threads old.slots.queue old.offers old.log.last_cut old.log.references old.store.controls old.graph.nodes old.printed.items old.slots.next old.next_chan old.next_ref x) before.tallies
+    ap (λ x. seen job x new.slots.threads new.slots.queue new.offers new.log.last_cut new.log.references new.store.controls new.graph.nodes new.printed.items new.slots.next new.next_chan new.next_ref new.tallies) (ap without_spare before.history)
+    ∙ ap (λ x. seen job (without_spare old.history) x new.slots.queue new.offers new.log.last_cut new.log.references new.store.controls new.graph.nodes new.printed.items new.slots.next new.next_chan new.next_ref new.tallies) before.threads
+    ∙ ap (λ x. seen job (without_spare old.history) old.slots.threads x new.offers new.log.last_cut new.log.references new.store.controls new.graph.nodes new.printed.items new.slots.next new.next_chan new.next_ref new.tallies) before.queue
+    ∙ ap (λ x. seen job (without_spare old.history) old.slots.threads old.slots.queue x new.log.last_cut new.log.references new.store.controls new.graph.nodes new.printed.items new.slots.next new.next_chan new.next_ref new.tallies) before.offers
+    ∙ ap (λ x. seen job (without_spare old.history) old.slots.threads old.slots.queue old.offers x new.log.references new.store.controls new.graph.nodes new.printed.items new.slots.next new.next_chan new.next_ref new.tallies) before.last_cut
+    ∙ ap (λ x. seen job (without_spare old.history) old.slots.threads old.slots.queue old.offers old.log.last_cut x new.store.controls new.graph.nodes new.printed.items new.slots.next new.next_chan new.next_ref new.tallies) before.references
+    ∙ ap (λ x. seen job (without_spare old.history) old.slots.threads old.slots.queue old.offers old.log.last_cut old.log.references x new.graph.nodes new.printed.items new.slots.next new.next_chan new.next_ref new.tallies) before.saved
+    ∙ ap (λ x. seen job (without_spare old.history) old.slots.threads old.slots.queue old.offers old.log.last_cut old.log.references old.store.controls x new.printed.items new.slots.next new.next_chan new.next_ref new.tallies) before.nodes
+    ∙ ap (λ x. seen job (without_spare old.history) old.slots.threads old.slots.queue old.offers old.log.last_cut old.log.references old.store.controls old.graph.nodes x new.slots.next new.next_chan new.next_ref new.tallies) before.printed
+    ∙ ap (λ x. seen job (without_spare old.history) old.slots.threads old.slots.queue old.offers old.log.last_cut old.log.references old.store.controls old.graph.nodes old.printed.items x new.next_chan new.next_ref new.tallies) before.next
+    ∙ ap (λ x. seen job (without_spare old.history) old.slots.threads old.slots.queue old.offers old.log.last_cut old.log.references old.store.controls old.graph.nodes old.printed.items old.slots.next x new.next_ref new.tallies) before.chan
+    ∙ ap (λ x. seen job (without_spare old.history) old.slots.threads old.slots.queue old.offers old.log.last_cut old.log.references old.store.controls old.graph.nodes old.printed.items old.slots.next old.next_chan x new.tallies) before.ref
+    ∙ ap (λ x. seen job (without_spare old.history) old.slots.threads old.slots.queue old.offers old.log.last_cut old.log.references old.store.controls old.graph.nodes old.printed.items old.slots.next old.next_chan old.next_ref x) before.tallies
 
 -- and what is kept stays kept
 pub kept_same : (job : JobParts) (old new : Parts) → AreAsBefore old new → IsKept job old → IsKept job new
@@ -85,10 +85,10 @@ events_same : (old new : Parts) → AreAsBefore old new → new.history.events �
 events_same old new before = ap (λ (j : Journal). j.events) before.history
 
 -- a journal to which nothing was pushed
-unpushed : (old new : Journal) (worker : ℕ) → IsLonger old new worker [] → without_room new ≡ without_room old
+unpushed : (old new : Journal) (worker : ℕ) → IsLonger old new worker [] → without_spare new ≡ without_spare old
 unpushed old new worker longer =
-    ap (λ (es : List Event). without_room (record new { events = es })) (longer.events ∙ append-nil old.events)
-    ∙ ap (λ k. without_room (record old { struck = k })) longer.struck
+    ap (λ (es : List Event). without_spare (record new { events = es })) (longer.events ∙ append-nil old.events)
+    ∙ ap (λ k. without_spare (record old { struck = k })) longer.struck
 
 abbrev with_printed : BookView → List Datum → BookView
 with_printed b vs = record b { printed = vs }
@@ -97,17 +97,17 @@ abbrev with_history : BookView → Journal → BookView
 with_history b j = record b { history = j }
 
 -- what callers see where nothing was printed
-pub unprinted : (job : JobParts) (begins done : Parts) → view_of job done ≡ record (view_of job begins) { history = without_room done.history } → view_of job done ≡ record (view_of job begins) { history = without_room done.history; printed = done.printed.items }
+pub unprinted : (job : JobParts) (begins done : Parts) → view_of job done ≡ record (view_of job begins) { history = without_spare done.history } → view_of job done ≡ record (view_of job begins) { history = without_spare done.history; printed = done.printed.items }
 unprinted job begins done is =
     let same : begins.printed.items ≡ done.printed.items = sym (ap (λ (b : BookView). b.printed) is) in
-    let also : record (view_of job begins) { history = without_room done.history } ≡ record (view_of job begins) { history = without_room done.history; printed = done.printed.items } = ap (with_printed (with_history (view_of job begins) (without_room done.history))) same in
+    let also : record (view_of job begins) { history = without_spare done.history } ≡ record (view_of job begins) { history = without_spare done.history; printed = done.printed.items } = ap (with_printed (with_history (view_of job begins) (without_spare done.history))) same in
     is ∙ also
 
 -- the pure steps were pushed once there was room
 pub begun_of : (job : JobParts) (old planned begun : Parts) (worker t n : ℕ) → AreAsBefore old planned → IsLonger planned.history begun.history worker (local_of t n) → begun ≡ record planned { history = begun.history } → IsBegun (view_of job old) (view_of job begun) worker (thread t) n
 begun_of job old planned begun worker t zero before longer rest =
-    let begins : view_of job begun ≡ record (view_of job planned) { history = without_room begun.history } = ap (view_of job) rest in
-    let none : record (view_of job planned) { history = without_room begun.history } ≡ view_of job planned = ap (with_history (view_of job planned)) (unpushed planned.history begun.history worker longer) in
+    let begins : view_of job begun ≡ record (view_of job planned) { history = without_spare begun.history } = ap (view_of job) rest in
+    let none : record (view_of job planned) { history = without_spare begun.history } ≡ view_of job planned = ap (with_history (view_of job planned)) (unpushed planned.history begun.history worker longer) in
     begins ∙ none ∙ view_same job old planned before
 begun_of job old planned begun worker t (suc n) before longer rest =
     let l = Local (thread t) (suc n) in
@@ -119,7 +119,7 @@ begun_of job old planned begun worker t (suc n) before longer rest =
             ∙ ap (λ ns. ns ++ step_at (length planned.history.events + 1) (Step l)) (ap survivors before.history)
             ∙ ap (λ (es : List Event). survivors old.history ++ step_at (length es + 1) (Step l)) (events_same old planned before);
       },
-      ap (view_of job) rest ∙ ap (λ (v : BookView). with_history v (without_room begun.history)) (view_same job old planned before),
+      ap (view_of job) rest ∙ ap (λ (v : BookView). with_history v (without_spare begun.history)) (view_same job old planned before),
     )
 
 -- the step of the act was pushed
@@ -132,11 +132,11 @@ each-append worker (x ∷ xs) ys = ap (λ es. event worker (Step x) ∷ es) (eac
 
 -- the journal after some steps and some more
 pub journal_after : (old planned begun new : Journal) (worker : ℕ) (xs ys : List Label) → planned ≡ record old { spare = planned.spare } → IsLonger planned begun worker xs → IsLonger begun new worker ys
-    → without_room new ≡ record (without_room old) { events = old.events ++ events_by worker (xs ++ ys) }
+    → without_spare new ≡ record (without_spare old) { events = old.events ++ events_by worker (xs ++ ys) }
 journal_after old planned begun new worker xs ys before first second =
-    ap (λ (es : List Event). without_room (record new { events = es }))
+    ap (λ (es : List Event). without_spare (record new { events = es }))
     (second.events
     ∙ ap (λ (es : List Event). es ++ events_by worker ys) (first.events ∙ ap (λ (j : Journal). j.events ++ events_by worker xs) before)
     ∙ append_assoc old.events (events_by worker xs) (events_by worker ys)
     ∙ ap (λ (es : List Event). old.events ++ es) (sym (each-append worker xs ys)))
-    ∙ ap (λ k. without_room (record old { events = old.events ++ events_by worker (xs ++ ys); struck = k })) (second.struck ∙ first.struck ∙ ap (λ (j : Journal). j.struck) before)
+    ∙ ap (λ k. without_spare (record old { events = old.events ++ events_by worker (xs ++ ys); struck = k })) (second.struck ∙ first.struck ∙ ap (λ (j : Journal). j.struck) before)

@@ -30,7 +30,7 @@ use Rattle.commit_book.specs.Book.{Answered, BookView, ShowsJournal, offered, ov
 use Rattle.commit_book.specs.Commits.{IsCurrent}
 use Rattle.commit_book.specs.Counts.{faulted_in, is_undo}
 use Rattle.commit_book.specs.Doing.{IsDoing, is_failed}
-use Rattle.commit_book.specs.Layout.{IsKept, view_of, without_room}
+use Rattle.commit_book.specs.Layout.{IsKept, view_of, without_spare}
 use Rattle.commit_book.specs.Leases.{LeaseView}
 use Rattle.commit_book.specs.Rows.{alone, local_of, thread}
 use Rattle.commit_book.specs.Step.{next_seq}
@@ -257,7 +257,7 @@ module _ (job : JobParts) (old : Parts) (lease : LeaseView) (progress : Progress
                   ∙ sym (probes_now begins.history.events lease.worker l) ∙ sym (ap (λ es. length (probed es)) longer_now.events);
               finals =
                   ap (λ k. k.finals) tallies_now ∙ may.kept.tallied.finals ∙ sym ready_at.finals
-                  ∙ sym (finals_now p (without_room begins.history) (without_room new.history) ready_at.run ready_at.state l ready_at.journal.history is.stepped.uncut longer_now.survivors);
+                  ∙ sym (finals_now p (without_spare begins.history) (without_spare new.history) ready_at.run ready_at.state l ready_at.journal.history is.stepped.uncut longer_now.survivors);
               released = ap (λ k. k.released) tallies_now ∙ may.kept.tallied.released ∙ sym ready_at.released ∙ sym (released_now begins.history.events lease.worker l) ∙ sym (ap released longer_now.events);
               undos = ap (λ k. k.undos) tallies_now ∙ may.kept.tallied.undos ∙ sym ready_at.undos ∙ sym (undos_now begins.history.events lease.worker l) ∙ sym (ap (count_by is_undo) longer_now.events);
               faulted =

@@ -35,7 +35,7 @@ use Rattle.commit_book.specs.declared.counts.Tallies.{Tallies}
 use Rattle.commit_book.specs.declared.parts.Parts.{Parts}
 use Rattle.commit_book.specs.Acting.{AreAsBefore, IsLonger, MayAct, StandsAt}
 use Rattle.commit_book.specs.Book.{BookView}
-use Rattle.commit_book.specs.Layout.{view_of, without_room}
+use Rattle.commit_book.specs.Layout.{view_of, without_spare}
 use Rattle.commit_book.specs.Leases.{LeaseView}
 use Rattle.commit_book.specs.Rows.{local_of, thread}
 use Rattle.commit_book.specs.Step.{next_seq, wrote_after}
@@ -69,7 +69,7 @@ module _ (job : JobParts) (old : Parts) (lease : LeaseView) (progress : Progress
         → IsStepped job old lease progress may planned begins before longer rest done (Refuse (thread lease.thread)) (to (language_of job.program) (failed NoSection))
     refused at unmarked history is =
         let l = Refuse (thread lease.thread) in
-        let seen : view_of job done ≡ record (view_of job begins) { history = without_room done.history } = ap (view_of job) is in
+        let seen : view_of job done ≡ record (view_of job begins) { history = without_spare done.history } = ap (view_of job) is in
         let pushed = pushed_of job begins done lease.worker l history in
         record {
           one = refl;
@@ -95,7 +95,7 @@ module _ (job : JobParts) (old : Parts) (lease : LeaseView) (progress : Progress
     attempted at g same low history is =
         let l = Attempt (thread lease.thread) g in
         let e = to (language_of job.program) (answered (expr_of job.program progress.end) (int (pos g))) in
-        let seen : view_of job done ≡ record (view_of job begins) { history = without_room done.history } = ap (view_of job) is in
+        let seen : view_of job done ≡ record (view_of job begins) { history = without_spare done.history } = ap (view_of job) is in
         let pushed = pushed_of job begins done lease.worker l history in
         record {
           one = refl;
@@ -121,7 +121,7 @@ module _ (job : JobParts) (old : Parts) (lease : LeaseView) (progress : Progress
     probed_next at i next fits history is =
         let l = Probe (thread lease.thread) i in
         let e = to (language_of job.program) (answered (expr_of job.program progress.end) (int i)) in
-        let seen : view_of job done ≡ record (view_of job begins) { history = without_room done.history } = ap (view_of job) is in
+        let seen : view_of job done ≡ record (view_of job begins) { history = without_spare done.history } = ap (view_of job) is in
         let pushed = pushed_of job begins done lease.worker l history in
         record {
           one = refl;
@@ -220,8 +220,8 @@ module _ (job : JobParts) (old : Parts) (lease : LeaseView) (progress : Progress
     set_to r at there low history after nodes is =
         let l = Set (thread lease.thread) r in
         let v = second_of (operands_of progress.end) in
-        let seen : view_of job done ≡ record (view_of job begins) { history = without_room done.history; last_cut = done.log.last_cut; references = done.log.references; nodes = done.graph.nodes } = ap (view_of job) is in
-        let uncut_by : record (view_of job begins) { history = without_room done.history; last_cut = done.log.last_cut; references = done.log.references; nodes = done.graph.nodes } ≡ record (view_of job begins) { history = without_room done.history; references = done.log.references; nodes = done.graph.nodes } = ap (with_cut (record (view_of job begins) { history = without_room done.history; references = done.log.references; nodes = done.graph.nodes })) after.last_cut in
+        let seen : view_of job done ≡ record (view_of job begins) { history = without_spare done.history; last_cut = done.log.last_cut; references = done.log.references; nodes = done.graph.nodes } = ap (view_of job) is in
+        let uncut_by : record (view_of job begins) { history = without_spare done.history; last_cut = done.log.last_cut; references = done.log.references; nodes = done.graph.nodes } ≡ record (view_of job begins) { history = without_spare done.history; references = done.log.references; nodes = done.graph.nodes } = ap (with_cut (record (view_of job begins) { history = without_spare done.history; references = done.log.references; nodes = done.graph.nodes })) after.last_cut in
         record {
           one = refl;
           uncut = refl;
@@ -250,8 +250,8 @@ module _ (job : JobParts) (old : Parts) (lease : LeaseView) (progress : Progress
         let r : RefId = record { 0 = begins.next_ref } in
         let l = NewRef (thread lease.thread) r in
         let v = first_of (operands_of progress.end) in
-        let seen : view_of job done ≡ record (view_of job begins) { history = without_room done.history; last_cut = done.log.last_cut; references = done.log.references; nodes = done.graph.nodes; next = record { thread = begins.slots.next; chan = begins.next_chan; ref = begins.next_ref + 1 } } = ap (view_of job) is in
-        let uncut_by : record (view_of job begins) { history = without_room done.history; last_cut = done.log.last_cut; references = done.log.references; nodes = done.graph.nodes; next = record { thread = begins.slots.next; chan = begins.next_chan; ref = begins.next_ref + 1 } } ≡ record (view_of job begins) { history = without_room done.history; references = done.log.references; nodes = done.graph.nodes; next = record { thread = begins.slots.next; chan = begins.next_chan; ref = begins.next_ref + 1 } } = ap (with_cut (record (view_of job begins) { history = without_room done.history; references = done.log.references; nodes = done.graph.nodes; next = record { thread = begins.slots.next; chan = begins.next_chan; ref = begins.next_ref + 1 } })) after.last_cut in
+        let seen : view_of job done ≡ record (view_of job begins) { history = without_spare done.history; last_cut = done.log.last_cut; references = done.log.references; nodes = done.graph.nodes; next = record { thread = begins.slots.next; chan = begins.next_chan; ref = begins.next_ref + 1 } } = ap (view_of job) is in
+        let uncut_by : record (view_of job begins) { history = without_spare done.history; last_cut = done.log.last_cut; references = done.log.references; nodes = done.graph.nodes; next = record { thread = begins.slots.next; chan = begins.next_chan; ref = begins.next_ref + 1 } } ≡ record (view_of job begins) { history = without_spare done.history; references = done.log.references; nodes = done.graph.nodes; next = record { thread = begins.slots.next; chan = begins.next_chan; ref = begins.next_ref + 1 } } = ap (with_cut (record (view_of job begins) { history = without_spare done.history; references = done.log.references; nodes = done.graph.nodes; next = record { thread = begins.slots.next; chan = begins.next_chan; ref = begins.next_ref + 1 } })) after.last_cut in
         record {
           one = refl;
           uncut = refl;

@@ -11,13 +11,13 @@ use Rattle.commit_book.specs.Book.{BookView, IsShown}
 use Rattle.commit_book.specs.Counts.{is_undo, faulted_in}
 
 -- a journal without the room that it has
-abbrev pub without_room : Journal → Journal
-without_room j = record j { spare = 0 }
+abbrev pub without_spare : Journal → Journal
+without_spare j = record j { spare = 0 }
 
 abbrev pub view_of : JobParts → Parts → BookView
 view_of job p = record {
   job = job;
-  history = without_room p.history;
+  history = without_spare p.history;
   threads = p.slots.threads;
   queue = p.slots.queue;
   offers = p.offers;

@@ -4,7 +4,7 @@ ghost use Rattle.stab_journal.specs.Due.{due};
 ghost use Rattle.stab_journal.specs.Event.{IsWorker};
 ghost use Rattle.commit_book.specs.Book.{IsShown, IsAtStart, fault_at};
 ghost use Rattle.commit_book.specs.Counts.{AreCounts};
-ghost use Rattle.commit_book.specs.Layout.{without_room};
+ghost use Rattle.commit_book.specs.Layout.{without_spare};
 ghost use Rattle.commit_book.specs.Turns.{choice_of, IsTurn, IsWork, Lends, RestsIfQuiet, given_back, IsRecalled};
 ghost use Rattle.commit_book.specs.declared.turn.Choice.TheVariants as choice;
 
@@ -68,7 +68,7 @@ impl Book {
 
     /// All that happened, in order.
     pub fn history(&self) -> &History
-        ensures history { without_room result.now ≡ self.now.history }
+        ensures history { without_spare result.now ≡ self.now.history }
         ensures shown { IsShown self.now }
     {
         &self.parts.history

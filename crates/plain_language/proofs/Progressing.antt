@@ -13,7 +13,7 @@ use Rattle.stab_journal.specs.Names.{read}
 use Rattle.plain_language.specs.Steps.{State, Effect, allows, apply, exprs_at, held_at, effect_in, plain}
 use Rattle.plain_language.specs.Table.{spawns, makes_chan, makes_ref, gets, sets, sends, receives, picks, enters, stabilizes, cuts, pins, prints, probes, attempts, Look, done, fault, act, pure, Language, pure_of, pure_steps, to, spawn_by, chan_by, ref_by, get_by, set_by, sent_by, received_by, comm_by, enter_by, cut_by, pin_by, print_by, probe_by, refuse_by, attempt_by, effect}
 use Rattle.plain_language.specs.Quiet.{is_resting, sends_on, receives_on, IsQuiet}
-use Rattle.plain_language.specs.Progress.{reference_named, HasRoom}
+use Rattle.plain_language.specs.Progress.{reference_named, HasFreeNumber}
 
 some_none : {X : Type 0} (o : Option X) (x : X) → o ≡ Some x → o ≡ None → ⊥
 some_none o x is none = cc
@@ -75,7 +75,7 @@ module _ {E : Type 0} (g : Language E) where
         ∙ ap (option_map (apply s (Comm (thread t) (thread u) (record { 0 = c })))) is in
         some_none _ _ made none
 
-    module _ (n : ℕ) (room : HasRoom g s n) (none : (q : ℕ) (l : Label) → plain (effect g) s q l ≡ None) where
+    module _ (n : ℕ) (free : HasFreeNumber g s n) (none : (q : ℕ) (l : Label) → plain (effect g) s q l ≡ None) where
       rests_at : (t : ℕ) (e : E) (k : Look E) → map.get s.threads t ≡ Some e → g.look e ≡ k →
           IfSome (reference_named k) (λ r. map.contains_key s.references r ≡ true) → is_resting k ≡ true
       rests_at t e (done v) at is h = refl
@@ -84,9 +84,9 @@ module _ {E : Type 0} (g : Language E) where
       rests_at t e (act (receives c)) at is h = refl
       rests_at t e (act (picks c d)) at is h = refl
       rests_at t e (pure x) at is h = absurd (alone 0 (Local (thread t) 1) t e _ refl at refl (ap (λ k. option_map (to g) (option_and_then (pure_steps g 0) (pure_of g k))) is) (none 0 (Local (thread t) 1)))
-      rests_at t e (act (spawns b)) at is h = absurd (alone 0 (Spawn (thread t) (thread n)) t e _ refl at (ap not room.thread) (ap (spawn_by g e) is) (none 0 (Spawn (thread t) (thread n))))
-      rests_at t e (act makes_chan) at is h = absurd (alone 0 (NewChan (thread t) (record { 0 = n })) t e _ refl at (ap not room.channel) (ap (chan_by g n e) is) (none 0 (NewChan (thread t) (record { 0 = n }))))
-      rests_at t e (act (makes_ref v)) at is h = absurd (alone 0 (NewRef (thread t) (record { 0 = n })) t e _ refl at (ap not room.reference) (ap (ref_by g n e) is) (none 0 (NewRef (thread t) (record { 0 = n }))))
+      rests_at t e (act (spawns b)) at is h = absurd (alone 0 (Spawn (thread t) (thread n)) t e _ refl at (ap not free.thread) (ap (spawn_by g e) is) (none 0 (Spawn (thread t) (thread n))))
+      rests_at t e (act makes_chan) at is h = absurd (alone 0 (NewChan (thread t) (record { 0 = n })) t e _ refl at (ap not free.channel) (ap (chan_by g n e) is) (none 0 (NewChan (thread t) (record { 0 = n }))))
+      rests_at t e (act (makes_ref v)) at is h = absurd (alone 0 (NewRef (thread t) (record { 0 = n })) t e _ refl at (ap not free.reference) (ap (ref_by g n e) is) (none 0 (NewRef (thread t) (record { 0 = n }))))
       rests_at t e (act (gets r)) at is h =
           let v : (v : Datum) × (map.get s.references r ≡ Some v) = held (map.get s.references r) h in
           absurd (alone 0 (Get (thread t) (record { 0 = r })) t e (to g (g.answered e v.0)) refl at refl
@@ -125,6 +125,6 @@ module _ {E : Type 0} (g : Language E) where
 
       pub quiet : IsQuiet g s
       quiet = record {
-        rests = λ t. rests_if t (map.get s.threads t) refl (room.named t);
+        rests = λ t. rests_if t (map.get s.threads t) refl (free.named t);
         apart = λ t u c. apart_if t u c (map.get s.threads t) (map.get s.threads u) refl refl;
       }

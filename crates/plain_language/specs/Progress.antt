@@ -13,7 +13,7 @@ module _ {E : Type 0} where
   reference_named _ = None
 
   -- the references that threads are about to read or set are there, and n is no thread, no channel and no reference
-  pub record HasRoom (g : Language E) (s : State E) (n : ℕ) : Type 0 where
+  pub record HasFreeNumber (g : Language E) (s : State E) (n : ℕ) : Type 0 where
     pub named : (t : ℕ) → IfSome (map.get s.threads t) (λ e. IfSome (reference_named (g.look e)) (λ r. map.contains_key s.references r ≡ true))
     pub thread : map.contains_key s.threads n ≡ false
     pub channel : set.contains s.channels n ≡ false

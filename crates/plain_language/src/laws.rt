@@ -13,7 +13,7 @@ ghost use Rattle.stab_journal.specs.declared.event.Label.TheVariants.{Cut, Pin, 
 ghost use Rattle.plain_language.specs.Expression.{Expr as Expression};
 ghost use Rattle.plain_language.specs.Frames.{AreFrames, IsRedexItself};
 ghost use Rattle.plain_language.specs.Plain.{PlainState, language_of, plain_step};
-ghost use Rattle.plain_language.specs.Progress.{HasRoom};
+ghost use Rattle.plain_language.specs.Progress.{HasFreeNumber};
 ghost use Rattle.plain_language.specs.Quiet.{IsQuiet};
 ghost use Rattle.plain_language.specs.Redex.{Frame, Redex, redex, within};
 ghost use Rattle.plain_language.specs.Sample as by_hand;
@@ -37,7 +37,7 @@ pub fn quiet_states_rest()
 
 /// A state without a step is quiet, where its threads read and set references that are there and a number is free.
 pub fn states_without_steps_are_quiet()
-    ensures { (p : ProgramParts) (s : PlainState) (n : ℕ) → HasRoom (language_of p) s n → ((q : ℕ) (l : Label) → plain_step p s q l ≡ None) → IsQuiet (language_of p) s }
+    ensures { (p : ProgramParts) (s : PlainState) (n : ℕ) → HasFreeNumber (language_of p) s n → ((q : ℕ) (l : Label) → plain_step p s q l ≡ None) → IsQuiet (language_of p) s }
 {}
 
 /// A step changes nothing but what its label names.

@@ -14,7 +14,7 @@ use Rattle.comm_graph.specs.Edge.{next_of, readers_of, thread_ends, read_ends, f
 use Rattle.comm_graph.specs.Left.{left_of, IsTurn, number_of}
 use Rattle.reach_line.specs.Reached.{has, Reached}
 use Rattle.reach_line.specs.Reached.Reached.{itself, edge}
-use Rattle.reach_line.specs.MarkList.{MarkList, HasRoom}
+use Rattle.reach_line.specs.MarkList.{MarkList, HasSpare}
 use Rattle.reach_line.specs.Progress.{IsSpread, IsPart, named, AreClosed, cost}
 use Rattle.reach_line.proofs.Marking.{apart, has_append, has_push}
 
@@ -101,8 +101,8 @@ of_named P x (n ∷ ns) all h = elim (cases_Bool (nat_eq x n.number)) [
   | inr z ↦ of_named P x ns all.1 (sym (ap (λ b. b || named x ns) z) ∙ h)
 ]
 
-pub in_room : (m : MarkList) (ns : List Node) (x : ℕ) → HasRoom m ns → named x ns ≡ true → (m.lowest ≤ x) × (x < m.beyond)
-in_room m ns x room h = of_named (λ q. (m.lowest ≤ q) × (q < m.beyond)) x ns (recursion_from_All (λ (n : Node). (m.lowest ≤ n.number) × (n.number < m.beyond)) ns room) h
+pub in_room : (m : MarkList) (ns : List Node) (x : ℕ) → HasSpare m ns → named x ns ≡ true → (m.lowest ≤ x) × (x < m.beyond)
+in_room m ns x spare h = of_named (λ q. (m.lowest ≤ q) × (q < m.beyond)) x ns (recursion_from_All (λ (n : Node). (m.lowest ≤ n.number) × (n.number < m.beyond)) ns spare) h
 
 pub kind_named : (x : ℕ) (ns : List Node) → IsSome (kind_of ns x) → named x ns ≡ true
 kind_named x [] some = absurd (cc)

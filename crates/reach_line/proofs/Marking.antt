@@ -84,7 +84,7 @@ room_left qs lowest q seen capacity k lo hi out =
     let most = count_by-le-length (λ (b : Bool). b) (slice_set seen (q - lowest) true) in
     let len = length-set seen (q - lowest) true in
     let n = numbers_length qs in
-    let r = k.room in
+    let r = k.spare in
     let e = k.count in
     omega arith
 
@@ -103,7 +103,7 @@ kept_more qs lowest q seen capacity k lo hi out =
       within = subst (λ n. AllByRecursion (λ p. (lowest ≤ p) × (p < lowest + n)) (qs ++ q ∷ [])) (sym len) (all_push (λ p. (lowest ≤ p) × (p < lowest + length seen)) qs q k.within (lo, hi));
       once = once_push qs q k.once here;
       count = (let c = count_set seen i true (omega arith) in let z : cond {A = ℕ} (get_or seen (q - lowest) false) 1 0 ≡ 0 = ap (λ (b : Bool). cond {A = ℕ} b 1 0) out in let n = length-append qs (q ∷ []) in let e = k.count in omega arith);
-      room = (let r = k.room in omega arith);
+      spare = (let r = k.spare in omega arith);
     }
 
 pub kept_less : (qs : List ℕ) (lowest q : ℕ) (seen : List Bool) (capacity more : ℕ) → IsKept (qs ++ q ∷ []) lowest seen capacity → capacity ≤ more → IsKept qs lowest (slice_set seen (q - lowest) false) more
@@ -121,7 +121,7 @@ kept_less qs lowest q seen capacity more k le =
       within = subst (λ n. AllByRecursion (λ p. (lowest ≤ p) × (p < lowest + n)) qs) (sym len) (all_front (λ p. (lowest ≤ p) × (p < lowest + length seen)) qs (q ∷ []) k.within);
       once = o.0;
       count = (let c = count_set seen i false (omega (arith, b.0, b.1)) in let z : cond {A = ℕ} (get_or seen i false) 1 0 ≡ 1 = ap (λ (x : Bool). cond {A = ℕ} x 1 0) was in let n = length-append qs (q ∷ []) in let e = k.count in omega arith);
-      room = (let r = k.room in omega arith);
+      spare = (let r = k.spare in omega arith);
     }
 
 -- the last mark is within the room
@@ -139,5 +139,5 @@ kept_moved qs lowest lowest' seen capacity none k = record {
   within = subst (AllByRecursion (λ q. (lowest' ≤ q) × (q < lowest' + length seen))) (sym none) tt;
   once = k.once;
   count = k.count;
-  room = k.room;
+  spare = k.spare;
 }

@@ -18,8 +18,8 @@ abbrev pub mark_list_code : Coded MarkList
 mark_list_code = code_by (List ℕ × (ℕ × ℕ)) (coded× (coded_list coded_ℕ) (coded× coded_ℕ coded_ℕ)) (λ m. (m.nodes, (m.lowest, m.beyond))) (λ p. record { nodes = p.0; lowest = p.1.0; beyond = p.1.1 }) (λ _. refl)
 
 -- there is room for each of some nodes
-abbrev pub HasRoom : MarkList → List Node → Type 0
-HasRoom m nodes = All (λ (n : Node). (m.lowest ≤ n.number) × (n.number < m.beyond)) nodes
+abbrev pub HasSpare : MarkList → List Node → Type 0
+HasSpare m nodes = All (λ (n : Node). (m.lowest ≤ n.number) × (n.number < m.beyond)) nodes
 
 -- the numbers of marks
 abbrev pub numbers : List Seq → List ℕ
@@ -34,4 +34,4 @@ pub record IsKept (qs : List ℕ) (lowest : ℕ) (seen : List Bool) (capacity : 
   pub within : AllByRecursion (λ q. (lowest ≤ q) × (q < lowest + length seen)) qs
   pub once : IsOnce qs
   pub count : count_by (λ b. b) seen ≡ length qs
-  pub room : length seen ≤ capacity
+  pub spare : length seen ≤ capacity

@@ -34,7 +34,7 @@ impl Model for Marks {
 }
 
 impl Marks {
-    ghost use Rattle.reach_line.specs.MarkList.{HasRoom, numbers};
+    ghost use Rattle.reach_line.specs.MarkList.{HasSpare, numbers};
 
     /// No marks, and no room for any. It takes no memory yet.
     pub fn new(alloc: Global) -> Self
@@ -52,7 +52,7 @@ impl Marks {
     /// from the graph's first node to its last: where these are no more than it has room for, it costs
     /// what was marked, and else it takes half as many again.
     pub fn reserve(&mut self, graph: &Graph) -> Result<(), NoMemory>
-        ensures room { OnOk result (HasRoom self.new graph.now.nodes) }
+        ensures spare { OnOk result (HasSpare self.new graph.now.nodes) }
         ensures none { OnOk result (self.new.nodes ≡ []) }
         ensures err { OnErr result (self.new ≡ self.old) }
     {
@@ -60,7 +60,7 @@ impl Marks {
             Some((first, last)) => (first.0, room_between(first, last)?),
             None => (0, 0),
         };
-        if count > self.room() {
+        if count > self.spare() {
             *self = with_room(self.alloc, lowest, half_as_many_again(count))?;
             return Ok(());
         }
@@ -69,7 +69,7 @@ impl Marks {
     }
 
     // For how many numbers there is room.
-    fn room(&self) -> usize
+    fn spare(&self) -> usize
         ensures { result ≡ self.now.beyond - self.now.lowest }
     {
         self.seen.len()
@@ -129,14 +129,14 @@ impl Marks {
     /// Forgets all marks.
     pub(crate) fn clear(&mut self)
         ensures nodes { self.new.nodes ≡ [] }
-        ensures room { (self.new.lowest ≡ self.old.lowest) × (self.new.beyond ≡ self.old.beyond) }
+        ensures spare { (self.new.lowest ≡ self.old.lowest) × (self.new.beyond ≡ self.old.beyond) }
     {
         while self.forget_last() {}
     }
 
     // Forgets the last mark, and says whether there was one.
     fn forget_last(&mut self) -> bool
-        ensures room { (self.new.lowest ≡ self.old.lowest) × (self.new.beyond ≡ self.old.beyond) }
+        ensures spare { (self.new.lowest ≡ self.old.lowest) × (self.new.beyond ≡ self.old.beyond) }
         ensures some { result ≡ true → length self.new.nodes + 1 ≡ length self.old.nodes }
         ensures none { result ≡ false → self.new.nodes ≡ [] }
     {

@@ -2,7 +2,7 @@
 ghost use Rattle.std.specs.Prelude.{◌≡◌, ◌≤◌, ◌+◌, ◌*◌, length, IsSome};
 ghost use Rattle.comm_graph.specs.Edge.{ends, kind_of};
 ghost use Rattle.reach_line.specs.Reached.{AreReached};
-ghost use Rattle.reach_line.specs.MarkList.{HasRoom};
+ghost use Rattle.reach_line.specs.MarkList.{HasSpare};
 ghost use Rattle.reach_line.specs.Progress.{IsSpread};
 
 use crate::marks::Marks;
@@ -16,9 +16,9 @@ use step_counter::Steps;
 /// threads, a node is the reader of one write at most, and one step more finds that no edge is left.
 pub fn reach<L: Ledger>(graph: &Counted<'_, L>, node: Seq, marks: &mut Marks, steps: &mut Steps<L>)
     requires there { IsSome (kind_of graph.now.nodes node.0) }
-    requires room { HasRoom marks.old graph.now.nodes }
+    requires spare { HasSpare marks.old graph.now.nodes }
     ensures reached { AreReached graph.now.nodes node.0 marks.new.nodes }
-    ensures room { HasRoom marks.new graph.now.nodes }
+    ensures spare { HasSpare marks.new graph.now.nodes }
     ensures steps { steps.new ≤ steps.old + 4 * length marks.new.nodes }
 {
     marks.clear();
@@ -34,7 +34,7 @@ pub fn reach<L: Ledger>(graph: &Counted<'_, L>, node: Seq, marks: &mut Marks, st
 // Marks where the edges of a node lead.
 fn spread<L: Ledger>(graph: &Counted<'_, L>, from: Seq, marks: &mut Marks, steps: &mut Steps<L>)
     requires there { IsSome (kind_of graph.now.nodes from.0) }
-    requires room { HasRoom marks.old graph.now.nodes }
+    requires spare { HasSpare marks.old graph.now.nodes }
     ensures spread { IsSpread (ends graph.now.nodes from.0) (ends graph.now.nodes from.0) marks.old marks.new }
     ensures steps { steps.new ≡ steps.old + length (ends graph.now.nodes from.0) + 1 }
 {

@@ -133,7 +133,7 @@ module _ (lines : Table) where
         (λ same. subst (λ k. is_some (get (by_number 0 lines) k) ≡ is_some (get (by_number 0 (slice_set lines t (Some line))) k)) (sym same) (ap is_some (at_place lines t ∙ was) ∙ sym (ap is_some (set_here t (Some line) low))))
         (λ other. sym (ap is_some (set_other t u (Some line) other)));
     count = (let c = count_set t (Some line) low in let z : cond {A = ℕ} (is_some (get_or lines t None)) 1 0 ≡ 1 = ap (λ (o : Option Line). cond {A = ℕ} (is_some o) 1 0) was in let e = is.count in omega arith);
-    room = (let r = is.room in let l = length-set lines t (Some line) in omega arith);
+    spare = (let r = is.spare in let l = length-set lines t (Some line) in omega arith);
   }
 
   -- the first line of a thread
@@ -146,7 +146,7 @@ module _ (lines : Table) where
             (λ same. ap (λ b. is_listed u touched || (b || false)) (alike u t same) ∙ or_true (is_listed u touched) ∙ sym (subst (λ k. is_some (get (by_number 0 (slice_set lines t (Some line))) k) ≡ true) (sym same) (ap is_some (set_here t (Some line) low))))
             (λ other. ap (λ b. is_listed u touched || (b || false)) other ∙ or_false (is_listed u touched) ∙ is.listed u ∙ sym (ap is_some (set_other t u (Some line) other)));
         count = (let c = count_set t (Some line) low in let z : cond {A = ℕ} (is_some (get_or lines t None)) 1 0 ≡ 0 = ap (λ (o : Option Line). cond {A = ℕ} (is_some o) 1 0) was in let e = is.count in let n = length-append touched (t ∷ []) in omega arith);
-        room = (let r = is.room in let l = length-set lines t (Some line) in omega arith);
+        spare = (let r = is.spare in let l = length-set lines t (Some line) in omega arith);
       }
 
   -- fewer threads have a line than there is memory for, where one has none
@@ -157,7 +157,7 @@ module _ (lines : Table) where
       let most = count_by-le-length (λ (o : Option Line). is_some o) (slice_set lines t (Some (From (record { 0 = 0 })))) in
       let l = length-set lines t (Some (From (record { 0 = 0 }))) in
       let e = is.count in
-      let r = is.room in
+      let r = is.spare in
       omega arith
 
   -- the last thread that has a line loses it
@@ -173,7 +173,7 @@ module _ (lines : Table) where
             (λ same. subst (λ k. is_listed k touched ≡ is_some (get (by_number 0 (slice_set lines t None)) k)) (sym same) (parts.1 ∙ sym (ap is_some (set_here t None low))))
             (λ other. sym (ap (λ b. is_listed u touched || (b || false)) other ∙ or_false (is_listed u touched)) ∙ split u ∙ sym (ap is_some (set_other t u None other)));
         count = (let c = count_set t None low in let z : cond {A = ℕ} (is_some (get_or lines t None)) 1 0 ≡ 1 = ap (λ b. cond {A = ℕ} b 1 0) there in let e = is.count in let n = length-append touched (t ∷ []) in omega arith);
-        room = (let r = is.room in let l = length-set lines t None in omega arith);
+        spare = (let r = is.spare in let l = length-set lines t None in omega arith);
       }
 
   -- no thread has a line where none is listed
@@ -197,12 +197,12 @@ module _ (lines : Table) where
     once = is.once;
     listed = λ u. is.listed u ∙ sym (ap (λ m. contains_key m u) (opened_map n le));
     count = is.count ∙ sym (ap (λ l. count_by (λ (o : Option Line). is_some o) (l ++ replicate (n - length lines) None)) (take_all n lines le) ∙ none_more lines (n - length lines));
-    room = (let a = length-append (take n lines) (replicate {A = Option Line} (n - length lines) None) in let b = length-replicate {A = Option Line} (n - length lines) None in let c : length (take n lines) ≡ length lines = ap length (take_all n lines le) in omega arith);
+    spare = (let a = length-append (take n lines) (replicate {A = Option Line} (n - length lines) None) in let b = length-replicate {A = Option Line} (n - length lines) None in let c : length (take n lines) ≡ length lines = ap length (take_all n lines le) in omega arith);
   }
 
   -- with as much memory or more
   pub found_within : (touched : List ℕ) (capacity more : ℕ) → capacity ≤ more → IsFound lines touched capacity → IsFound lines touched more
-  found_within touched capacity more le is = record { once = is.once; listed = is.listed; count = is.count; room = (let r = is.room in omega arith) }
+  found_within touched capacity more le is = record { once = is.once; listed = is.listed; count = is.count; spare = (let r = is.spare in omega arith) }
 
   -- the same, from what the calls leave
   pub found_reserved : (new : Table) (ts us : List ThreadId) (capacity more n k : ℕ) → k ≡ length lines → length lines ≤ n → n ≤ more → us ≡ ts → new ≡ take n lines ++ replicate (n - k) None → IsFound lines (numbers ts) capacity → IsFound new (numbers us) more
@@ -218,7 +218,7 @@ module _ (lines : Table) where
     once = IsDistinct-IsPermutation nat_eq flips (numbers ts) (numbers us) (IsPermutation-map (λ (t : ThreadId). t.0) ts us moved) is.once;
     listed = λ t. sym (list_any-IsPermutation (nat_eq t) (numbers ts) (numbers us) (IsPermutation-map (λ (t : ThreadId). t.0) ts us moved)) ∙ is.listed t;
     count = length_permutation (numbers ts) (numbers us) (IsPermutation-map (λ (t : ThreadId). t.0) ts us moved) ∙ is.count;
-    room = (let r = is.room in omega arith);
+    spare = (let r = is.spare in omega arith);
   }
 
   pub sorted_touched : (ts us : List ThreadId) (capacity : ℕ) → IsPermutation ts us → IsNonDecreasingBy (λ (t : ThreadId). t.0) us → IsFound lines (numbers ts) capacity → numbers us ≡ keys (by_number 0 lines)
@@ -229,7 +229,7 @@ module _ (lines : Table) where
 -- a table without places
 pub nothing_found : (lines : Table) (ts : List ThreadId) (capacity : ℕ) → lines ≡ [] → ts ≡ [] → IsFound lines (numbers ts) capacity
 nothing_found lines ts capacity none nobody =
-    subst (λ l. IsFound l (numbers ts) capacity) (sym none) (subst (λ us. IsFound [] (numbers us) capacity) (sym nobody) (record { once = IsDistinct-nil; listed = λ t. sym (ap is_some (get-empty nat_cmp t)); count = refl; room = omega arith }))
+    subst (λ l. IsFound l (numbers ts) capacity) (sym none) (subst (λ us. IsFound [] (numbers us) capacity) (sym nobody) (record { once = IsDistinct-nil; listed = λ t. sym (ap is_some (get-empty nat_cmp t)); count = refl; spare = omega arith }))
 
 -- the last of a list is listed
 pub last_listed : (xs : List ℕ) (t : ℕ) → is_listed t (xs ++ t ∷ []) ≡ true

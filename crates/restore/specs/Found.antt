@@ -13,20 +13,20 @@ use Rattle.restore.specs.declared.line.Line.{Line}
 -- the lines by the numbers of threads, and the number below which threads have room
 pub record Lines : Type 0 where
   pub lines : FinMap nat_cmp Line
-  pub room : ℕ
+  pub spare : ℕ
 
 abbrev pub lines_code : Coded Line → Coded Lines
-lines_code line = code_by (FinMap nat_cmp Line × ℕ) (coded× (map.code coded_ℕ line) coded_ℕ) (λ s. (s.lines, s.room)) (λ p. record { lines = p.0; room = p.1 }) (λ _. refl)
+lines_code line = code_by (FinMap nat_cmp Line × ℕ) (coded× (map.code coded_ℕ line) coded_ℕ) (λ s. (s.lines, s.spare)) (λ p. record { lines = p.0; spare = p.1 }) (λ _. refl)
 
 -- the same while they are found, with the threads that have one
 pub record Finding : Type 0 where
   pub lines : FinMap nat_cmp Line
   pub touched : List ℕ
-  pub room : ℕ
+  pub spare : ℕ
 
 abbrev pub finding_code : Coded Line → Coded Finding
 finding_code line =
-    code_by (FinMap nat_cmp Line × (List ℕ × ℕ)) (coded× (map.code coded_ℕ line) (coded× (coded_list coded_ℕ) coded_ℕ)) (λ s. (s.lines, (s.touched, s.room))) (λ p. record { lines = p.0; touched = p.1.0; room = p.1.1 }) (λ _. refl)
+    code_by (FinMap nat_cmp Line × (List ℕ × ℕ)) (coded× (map.code coded_ℕ line) (coded× (coded_list coded_ℕ) coded_ℕ)) (λ s. (s.lines, (s.touched, s.spare))) (λ p. record { lines = p.0; touched = p.1.0; spare = p.1.1 }) (λ _. refl)
 
 -- the numbers of threads
 abbrev pub numbers : List ThreadId → List ℕ
@@ -37,4 +37,4 @@ pub record IsFound (lines : List (Option Line)) (touched : List ℕ) (capacity :
   pub once : IsDistinct nat_eq touched
   pub listed : (t : ℕ) → is_listed t touched ≡ map.contains_key (by_number 0 lines) t
   pub count : length touched ≡ count_by (λ (o : Option Line). is_some o) lines
-  pub room : length lines ≤ capacity
+  pub spare : length lines ≤ capacity

@@ -30,6 +30,6 @@ IsLineOf nodes marks t (Some (From first)) = ((q : ℕ) → IsMarkedAs nodes mar
 abbrev pub AreThere : List Node → List ℕ → Type 0
 AreThere nodes marks = (q : ℕ) → has q marks ≡ true → IsSome (kind_of nodes q)
 
--- each thread that a marked node touches has a number below `room`
-abbrev pub HasRoom : ℕ → List Node → List ℕ → Type 0
-HasRoom room nodes marks = (q t : ℕ) → IsMarkedAs nodes marks (touches t) q → t < room
+-- each thread that a marked node touches has a number below `spare`
+abbrev pub HasSpare : ℕ → List Node → List ℕ → Type 0
+HasSpare spare nodes marks = (q t : ℕ) → IsMarkedAs nodes marks (touches t) q → t < spare

@@ -32,7 +32,7 @@ impl Model for Found {
     ghost view = { λ f. record {
       lines = by_number 0 f.lines.items;
       touched = numbers f.touched.items;
-      room = length f.lines.items;
+      spare = length f.lines.items;
     } };
 
     ghost invariant = { λ f. IsFound f.lines.items (numbers f.touched.items) (vec_capacity f.touched) };
@@ -41,7 +41,7 @@ impl Model for Found {
 impl Found {
     /// No lines, and no room for any.
     pub(crate) fn new(alloc: Global) -> Self
-        ensures { result ≡ record { lines = map.empty; touched = []; room = 0 } }
+        ensures { result ≡ record { lines = map.empty; touched = []; spare = 0 } }
     {
         Found {
             lines: Vec::new(alloc),
@@ -49,16 +49,16 @@ impl Found {
         }
     }
 
-    /// Makes room for the threads with numbers below `room`.
-    pub(crate) fn reserve(&mut self, room: usize) -> Result<(), NoMemory>
-        ensures room { OnOk result (room ≤ self.new.room) }
+    /// Makes room for the threads with numbers below `spare`.
+    pub(crate) fn reserve(&mut self, spare: usize) -> Result<(), NoMemory>
+        ensures spare { OnOk result (spare ≤ self.new.spare) }
         ensures lines { self.new.lines ≡ self.old.lines }
         ensures touched { self.new.touched ≡ self.old.touched }
-        ensures no_less { self.old.room ≤ self.new.room }
+        ensures no_less { self.old.spare ≤ self.new.spare }
     {
-        if room > self.lines.len() {
-            self.touched.reserve(room)?;
-            self.lines.resize(room, None)?;
+        if spare > self.lines.len() {
+            self.touched.reserve(spare)?;
+            self.lines.resize(spare, None)?;
         }
         Ok(())
     }
@@ -82,10 +82,10 @@ impl Found {
 
     /// Gives a thread a line, where it has no earlier one.
     pub(crate) fn note(&mut self, t: ThreadId, line: Line)
-        requires { t.0 < self.old.room }
+        requires { t.0 < self.old.spare }
         ensures here { map.get self.new.lines t.0 ≡ with_line line (map.get self.old.lines t.0) }
         ensures others { (u : ℕ) → nat_eq u t.0 ≡ false → map.get self.new.lines u ≡ map.get self.old.lines u }
-        ensures room { self.new.room ≡ self.old.room }
+        ensures spare { self.new.spare ≡ self.old.spare }
     {
         let index = t.0 as usize;
         match self.lines[index] {
@@ -100,14 +100,14 @@ impl Found {
     /// Forgets all lines. Costs what there are.
     pub(crate) fn clear(&mut self)
         ensures lines { self.new.lines ≡ map.empty }
-        ensures room { self.new.room ≡ self.old.room }
+        ensures spare { self.new.spare ≡ self.old.spare }
     {
         while self.forget_last() {}
     }
 
     // Forgets the line of the last thread that has one, and says whether there was one.
     fn forget_last(&mut self) -> bool
-        ensures room { self.new.room ≡ self.old.room }
+        ensures spare { self.new.spare ≡ self.old.spare }
         ensures some { result ≡ true → length self.new.touched + 1 ≡ length self.old.touched }
         ensures none { result ≡ false → self.new.lines ≡ map.empty }
     {
@@ -124,7 +124,7 @@ impl Found {
     pub(crate) fn sort(&mut self)
         ensures touched { self.new.touched ≡ map.keys self.new.lines }
         ensures lines { self.new.lines ≡ self.old.lines }
-        ensures room { self.new.room ≡ self.old.room }
+        ensures spare { self.new.spare ≡ self.old.spare }
     {
         self.touched.sort_unstable_by_key(|t| t.0);
     }

@@ -25,7 +25,7 @@ impl Model for Plan {
 
     ghost coded = { lines_code line_row.the_row.coded };
 
-    ghost view = { λ p. record { lines = p.found.lines; room = p.found.room } };
+    ghost view = { λ p. record { lines = p.found.lines; spare = p.found.spare } };
 
     ghost invariant = { λ p. p.found.touched ≡ map.keys p.found.lines };
 }
@@ -34,7 +34,7 @@ impl Plan {
     /// No lines, and no room for any. It takes no memory yet.
     pub fn new(alloc: Global) -> Self
         ensures lines { result.lines ≡ map.empty }
-        ensures room { result.room ≡ 0 }
+        ensures spare { result.spare ≡ 0 }
     {
         Plan {
             found: Found::new(alloc),
@@ -43,9 +43,9 @@ impl Plan {
 
     /// Makes room for the threads with numbers up to `threads`. Where there is room already it costs nothing.
     pub fn reserve(&mut self, threads: u32) -> Result<(), NoMemory>
-        ensures room { OnOk result (threads < self.new.room) }
+        ensures spare { OnOk result (threads < self.new.spare) }
         ensures lines { self.new.lines ≡ self.old.lines }
-        ensures no_less { self.old.room ≤ self.new.room }
+        ensures no_less { self.old.spare ≤ self.new.spare }
     {
         self.found.reserve(threads as usize + 1)
     }

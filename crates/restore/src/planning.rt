@@ -4,7 +4,7 @@ ghost use Rattle.std.specs.FinMap as map;
 ghost use Rattle.comm_graph.specs.declared.node.NodeFor.{NodeFor};
 ghost use Rattle.comm_graph.specs.Node.{touches};
 ghost use Rattle.comm_graph.specs.Edge.{kind_of};
-ghost use Rattle.restore.specs.Line.{IsLineOf, AreThere, HasRoom};
+ghost use Rattle.restore.specs.Line.{IsLineOf, AreThere, HasSpare};
 ghost use Rattle.restore.specs.Noted.{noted};
 
 use crate::found::Found;
@@ -20,9 +20,9 @@ use step_counter::Steps;
 /// marked node, and as long as to sort the touched threads.
 pub fn lines<L: Ledger>(marks: &Marks, graph: &Graph, plan: &mut Plan, steps: &mut Steps<L>)
     requires there { AreThere graph.now.nodes marks.now.nodes }
-    requires room { HasRoom plan.old.room graph.now.nodes marks.now.nodes }
+    requires spare { HasSpare plan.old.spare graph.now.nodes marks.now.nodes }
     ensures lines { (t : ℕ) → IsLineOf graph.now.nodes marks.now.nodes t (map.get plan.new.lines t) }
-    ensures room { plan.new.room ≡ plan.old.room }
+    ensures spare { plan.new.spare ≡ plan.old.spare }
     ensures steps { steps.new ≡ steps.old + length marks.now.nodes }
 {
     find_all(marks, graph, &mut plan.found, steps);
@@ -31,9 +31,9 @@ pub fn lines<L: Ledger>(marks: &Marks, graph: &Graph, plan: &mut Plan, steps: &m
 
 fn find_all<L: Ledger>(marks: &Marks, graph: &Graph, found: &mut Found, steps: &mut Steps<L>)
     requires there { AreThere graph.now.nodes marks.now.nodes }
-    requires room { HasRoom found.old.room graph.now.nodes marks.now.nodes }
+    requires spare { HasSpare found.old.spare graph.now.nodes marks.now.nodes }
     ensures lines { (t : ℕ) → IsLineOf graph.now.nodes marks.now.nodes t (map.get found.new.lines t) }
-    ensures room { found.new.room ≡ found.old.room }
+    ensures spare { found.new.spare ≡ found.old.spare }
     ensures steps { steps.new ≡ steps.old + length marks.now.nodes }
 {
     found.clear();
@@ -45,11 +45,11 @@ fn find_all<L: Ledger>(marks: &Marks, graph: &Graph, found: &mut Found, steps: &
 // The lines with one more node marked.
 fn find<L: Ledger>(q: Seq, graph: &Graph, found: &mut Found, steps: &mut Steps<L>)
     requires there { IsSome (kind_of graph.now.nodes q.0) }
-    requires room { (k : NodeFor) → kind_of graph.now.nodes q.0 ≡ Some k
-        → (t : ℕ) → touches t k ≡ true → t < found.old.room }
+    requires spare { (k : NodeFor) → kind_of graph.now.nodes q.0 ≡ Some k
+        → (t : ℕ) → touches t k ≡ true → t < found.old.spare }
     ensures lines { (k : NodeFor) → kind_of graph.now.nodes q.0 ≡ Some k
         → (t : ℕ) → map.get found.new.lines t ≡ noted q k t (map.get found.old.lines t) }
-    ensures room { found.new.room ≡ found.old.room }
+    ensures spare { found.new.spare ≡ found.old.spare }
     ensures step { steps.new ≡ steps.old + 1 }
 {
     if let Some(node) = graph.node(q, steps) {
@@ -58,9 +58,9 @@ fn find<L: Ledger>(q: Seq, graph: &Graph, found: &mut Found, steps: &mut Steps<L
 }
 
 fn note(q: Seq, node: NodeFor, found: &mut Found)
-    requires { (t : ℕ) → touches t node ≡ true → t < found.old.room }
+    requires { (t : ℕ) → touches t node ≡ true → t < found.old.spare }
     ensures lines { (t : ℕ) → map.get found.new.lines t ≡ noted q node t (map.get found.old.lines t) }
-    ensures room { found.new.room ≡ found.old.room }
+    ensures spare { found.new.spare ≡ found.old.spare }
 {
     match node {
         NodeFor::Spawn(t, child) => {

@@ -125,7 +125,7 @@ impl History {
 
     /// Adds an event at the end, and answers its number.
     pub fn push(&mut self, event: Event) -> Seq
-        requires room { 1 ≤ self.old.spare }
+        requires spare { 1 ≤ self.old.spare }
         requires weight { weight_of self.old.events + weigh event.what < 2 ^ 64 }
         requires in_range { IsEvent (length self.old.events + 1) event }
         ensures number { result.0 ≡ length self.old.events + 1 }

@@ -94,12 +94,8 @@ impl Control {
         ensures same { IfOk result (λ c. c ≡ self.now) }
         ensures steps { steps.new ≤ steps.old + 1 }
     {
-        let top = match &self.machine.top {
-            None => None,
-            Some(frame) => Some(frame.copy(steps)?),
-        };
         Ok(Control {
-            machine: self.machine.keep(top)?,
+            machine: self.machine.copied(steps)?,
         })
     }
 

@@ -34,23 +34,17 @@ impl Model for Frame {
 }
 
 impl Frame {
-    pub(crate) fn equal(&self, alloc: Global) -> Result<Frame, NoMemory>
-        ensures { IfOk result (λ f. f ≡ self.now) }
-    {
-        Ok(Frame {
-            site: self.site,
-            done: copied(alloc, self.done.as_slice())?,
-            env: Arc::try_clone(&self.env)?,
-        })
-    }
-
     /// An equal frame, in one step: its values are copied, and its environment is shared.
     pub fn copy<L: Ledger>(&self, steps: &mut Steps<L>) -> Result<Frame, NoMemory>
         ensures same { IfOk result (λ f. f ≡ self.now) }
         ensures step { steps.new ≡ steps.old + 1 }
     {
         steps.tick();
-        self.equal(*self.done.allocator())
+        Ok(Frame {
+            site: self.site,
+            done: copied(*self.done.allocator(), self.done.as_slice())?,
+            env: Arc::try_clone(&self.env)?,
+        })
     }
 }
 

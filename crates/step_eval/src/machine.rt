@@ -1,5 +1,5 @@
 //! The machine: a form at hand, and the frames round it.
-ghost use Rattle.std.specs.Prelude.{◌≡◌, ◌≢◌, ◌<◌, [], None, Some, length, map, slice_get, IfOk};
+ghost use Rattle.std.specs.Prelude.{◌≡◌, ◌≢◌, ◌<◌, ◌≤◌, ◌+◌, [], None, Some, length, map, slice_get, IfOk};
 ghost use Rattle.std.specs.Bool.{OnFalse, OnTrue};
 ghost use Rattle.std.specs.Arc.{arc_value};
 ghost use Rattle.step_eval.specs.ControlView.{view_of};
@@ -19,6 +19,8 @@ use stab_base::{Fault, NoMemory, Seq, Value};
 use stab_code::NodeId;
 use std::alloc::Global;
 use std::sync::Arc;
+use std::sync::ledger::Ledger;
+use step_counter::Steps;
 
 /// How many forms may stand round a redex.
 pub(crate) const MAX_SPINE: usize = 1000;
@@ -159,19 +161,20 @@ impl Machine {
         self.mark = None;
     }
 
-    /// An equal machine, which shares all frames but the innermost.
-    pub(crate) fn copied(&self) -> Result<Machine, NoMemory>
-        ensures { IfOk result (λ m. view_of m ≡ view_of self.now) }
+    /// An equal machine, in at most one step: it shares all frames but the innermost.
+    pub(crate) fn copied<L: Ledger>(&self, steps: &mut Steps<L>) -> Result<Machine, NoMemory>
+        ensures same { IfOk result (λ m. view_of m ≡ view_of self.now) }
+        ensures steps { steps.new ≤ steps.old + 1 }
     {
         let top = match &self.top {
             None => None,
-            Some(frame) => Some(frame.equal(self.alloc)?),
+            Some(frame) => Some(frame.copy(steps)?),
         };
         self.keep(top)
     }
 
     /// The same machine once more, which has this copy of its innermost frame and shares the others.
-    pub(crate) fn keep(&self, top: Option<Frame>) -> Result<Machine, NoMemory>
+    fn keep(&self, top: Option<Frame>) -> Result<Machine, NoMemory>
         requires { top ≡ self.now.top }
         ensures focus { IfOk result (λ m. m.focus ≡ self.now.focus) }
         ensures here { IfOk result (λ m. here_of m ≡ here_of self.now) }

@@ -12,9 +12,11 @@ use crate::control::Control;
 use crate::machine::{Focus, Machine};
 use stab_base::NoMemory;
 use stab_code::Program;
-use std::marker::Model;
+use std::marker::{Brand, Model};
 use std::mem;
 use std::sync::Arc;
+use std::sync::ledger::{Blank, Ledger};
+use step_counter::Steps;
 
 /// A control, how many pure steps it made, and where it then is. The steps are those of the program, and the
 /// redex of where it is is found.
@@ -133,13 +135,23 @@ impl Machine {
 }
 
 /// So many pure steps of an equal control, and where they lead.
-fn advanced(p: &Program, control: &Control, quantum: u32) -> Result<(u32, Control), NoMemory>
-    requires { Fits p.now control.now }
+fn advanced<L: Ledger>(
+    p: &Program,
+    control: &Control,
+    quantum: u32,
+    blank: Blank,
+) -> Result<(u32, Control), NoMemory>
+    requires fits { Fits p.now control.now }
+    requires name { blank.name ≡ L.name }
+    requires parts { blank.parts ≡ L.parts }
+    requires one { blank.parts ≡ 1 }
     ensures made { IfOk result (λ r. Advances p.now control.now r.0 r.1) }
     ensures within { IfOk result (λ r. r.0 ≤ quantum) }
     ensures stops { IfOk result (λ r. r.0 < quantum → Rests p.now r.1) }
 {
-    let mut machine = control.machine.copied()?;
+    // Nobody reads this count.
+    let mut count: Steps<L> = Steps::new(blank);
+    let mut machine = control.machine.copied(&mut count)?;
     machine.find(p)?;
     let steps = machine.run(p, quantum)?;
     Ok((steps, Control { machine }))
@@ -161,7 +173,7 @@ pub fn advance(
     let Ok(program) = Arc::try_clone(program) else {
         return Err(AdvanceRefused { control });
     };
-    match advanced(&program, &control, quantum) {
+    match advanced::<Brand>(&program, &control, quantum, Blank::new(1)) {
         Ok((steps, end)) => Ok(Progress {
             program,
             origin: control,

@@ -13,13 +13,13 @@ use Rattle.reach_line.proofs.reaching.reach.Goals as goal
 
 pub mark-requires-clause-low : goal.mark-requires-clause-low
 mark-requires-clause-low g c =
-    let b = in_room c.args.marks.now c.args.graph.now.nodes c.args.node.0 c.requires.room (kind_named c.args.node.0 c.args.graph.now.nodes c.requires.there) in
-    omega (arith, b.0, c.clear.ensures.room.0)
+    let b = in_room c.args.marks.now c.args.graph.now.nodes c.args.node.0 c.requires.spare (kind_named c.args.node.0 c.args.graph.now.nodes c.requires.there) in
+    omega (arith, b.0, c.clear.ensures.spare.0)
 
 pub mark-requires-clause-high : goal.mark-requires-clause-high
 mark-requires-clause-high g c =
-    let b = in_room c.args.marks.now c.args.graph.now.nodes c.args.node.0 c.requires.room (kind_named c.args.node.0 c.args.graph.now.nodes c.requires.there) in
-    omega (arith, b.1, c.clear.ensures.room.1)
+    let b = in_room c.args.marks.now c.args.graph.now.nodes c.args.node.0 c.requires.spare (kind_named c.args.node.0 c.args.graph.now.nodes c.requires.there) in
+    omega (arith, b.1, c.clear.ensures.spare.1)
 
 pub loop-from-init : goal.loop-from-init
 loop-from-init g c =
@@ -27,8 +27,8 @@ loop-from-init g c =
     let m = c.args.node.0 in
     let ms : c.mark.new.self.nodes ≡ m ∷ [] = ap (λ (l : MarkList). l.nodes) c.mark.ensures ∙ ap (λ l. cond (has m l) l (l ++ m ∷ [])) c.clear.ensures.nodes in
     record {
-      lowest = ap (λ (l : MarkList). l.lowest) c.mark.ensures ∙ c.clear.ensures.room.0;
-      beyond = ap (λ (l : MarkList). l.beyond) c.mark.ensures ∙ c.clear.ensures.room.1;
+      lowest = ap (λ (l : MarkList). l.lowest) c.mark.ensures ∙ c.clear.ensures.spare.0;
+      beyond = ap (λ (l : MarkList). l.beyond) c.mark.ensures ∙ c.clear.ensures.spare.1;
       first = ap (has m) ms ∙ has_self m [];
       only = subst (AllByRecursion (Reached ns m)) (sym ms) (itself, tt);
       nodes = subst (AllByRecursion (λ q. named q ns ≡ true)) (sym ms) (kind_named m ns c.requires.there, tt);

@@ -14,7 +14,7 @@ mark-requires-clause-low g c =
     let inv = c.loop-end.invariant in
     let turn : IsTurn ns q (left_of ns q c.loop-end.edges.left) (Some x) c.next_edge.new.edges = subst (λ n. IsTurn ns n (left_of ns n c.loop-end.edges.left) (Some x) c.next_edge.new.edges) inv.node c.in-Some.ensures.turn in
     let part = next_end ns q (ends ns q) (left_of ns q c.loop-end.edges.left) c.args.marks.now c.loop-end.marks c.args.steps.now c.loop-end.steps x c.next_edge.new.edges inv.part turn in
-    let b = in_room c.args.marks.now ns x.0 c.requires.room (ends_named x.0 q ns (end_among (ends ns q) (left_of ns q c.next_edge.new.edges.left) c.args.marks.now c.loop-end.marks c.args.steps.now c.loop-end.steps x.0 part)) in
+    let b = in_room c.args.marks.now ns x.0 c.requires.spare (ends_named x.0 q ns (end_among (ends ns q) (left_of ns q c.next_edge.new.edges.left) c.args.marks.now c.loop-end.marks c.args.steps.now c.loop-end.steps x.0 part)) in
     omega (arith, b.0, inv.part.spread.lowest)
 
 pub mark-requires-clause-high : goal.mark-requires-clause-high
@@ -25,7 +25,7 @@ mark-requires-clause-high g c =
     let inv = c.loop-end.invariant in
     let turn : IsTurn ns q (left_of ns q c.loop-end.edges.left) (Some x) c.next_edge.new.edges = subst (λ n. IsTurn ns n (left_of ns n c.loop-end.edges.left) (Some x) c.next_edge.new.edges) inv.node c.in-Some.ensures.turn in
     let part = next_end ns q (ends ns q) (left_of ns q c.loop-end.edges.left) c.args.marks.now c.loop-end.marks c.args.steps.now c.loop-end.steps x c.next_edge.new.edges inv.part turn in
-    let b = in_room c.args.marks.now ns x.0 c.requires.room (ends_named x.0 q ns (end_among (ends ns q) (left_of ns q c.next_edge.new.edges.left) c.args.marks.now c.loop-end.marks c.args.steps.now c.loop-end.steps x.0 part)) in
+    let b = in_room c.args.marks.now ns x.0 c.requires.spare (ends_named x.0 q ns (end_among (ends ns q) (left_of ns q c.next_edge.new.edges.left) c.args.marks.now c.loop-end.marks c.args.steps.now c.loop-end.steps x.0 part)) in
     omega (arith, b.1, inv.part.spread.beyond)
 
 pub loop-end-preserved : goal.loop-end-preserved

@@ -10,14 +10,14 @@ use Rattle.restore.proofs.found.Found.note.Goals as goal
 pub invariant_of-self : goal.invariant_of-self
 invariant_of-self c =
     let s = c.self.inside in
-    let low : c.args.t.0 < length s.lines.items = subst (λ (f : Finding). c.args.t.0 < f.room) (sym c.self.view_is) c.requires in
+    let low : c.args.t.0 < length s.lines.items = subst (λ (f : Finding). c.args.t.0 < f.spare) (sym c.self.view_is) c.requires in
     found_again s.lines.items (numbers s.touched.items) (vec_capacity s.touched) c.args.t.0 c.earlier.result c.in-Some.before low
     (sym (get_or_read s.lines.items c.args.t.0 c.index.result.now low c.index.ensures None) ∙ c.in-Some.is) c.self.invariant
 
 pub push_reserved-requires : goal.push_reserved-requires
 push_reserved-requires c =
     let s = c.self.inside in
-    let low : c.args.t.0 < length s.lines.items = subst (λ (f : Finding). c.args.t.0 < f.room) (sym c.self.view_is) c.requires in
+    let low : c.args.t.0 < length s.lines.items = subst (λ (f : Finding). c.args.t.0 < f.spare) (sym c.self.view_is) c.requires in
     let few = few_found s.lines.items (numbers s.touched.items) (vec_capacity s.touched) c.args.t.0 low
     (sym (get_or_read s.lines.items c.args.t.0 c.index.result.now low c.index.ensures None) ∙ c.in-None.is) c.self.invariant in
     omega (arith, few, length-numbers s.touched.items, s.touched.ok.0)
@@ -25,7 +25,7 @@ push_reserved-requires c =
 pub invariant_of-self-in-None : goal.invariant_of-self-in-None
 invariant_of-self-in-None c =
     let s = c.self.inside in
-    let low : c.args.t.0 < length s.lines.items = subst (λ (f : Finding). c.args.t.0 < f.room) (sym c.self.view_is) c.requires in
+    let low : c.args.t.0 < length s.lines.items = subst (λ (f : Finding). c.args.t.0 < f.spare) (sym c.self.view_is) c.requires in
     let items : numbers c.push_reserved.new.self.items ≡ numbers s.touched.items ++ c.args.t.0 ∷ [] = ap numbers c.push_reserved.ensures.items ∙ numbers_push s.touched.items c.args.t in
     let k = found_first s.lines.items (numbers s.touched.items) (vec_capacity s.touched) c.args.t.0 c.args.line low
     (sym (get_or_read s.lines.items c.args.t.0 c.index.result.now low c.index.ensures None) ∙ c.in-None.is) c.self.invariant in
@@ -35,7 +35,7 @@ invariant_of-self-in-None c =
 pub returns-in-Some-clause-here : goal.returns-in-Some-clause-here
 returns-in-Some-clause-here c =
     let s = c.self.inside in
-    let low : c.args.t.0 < length s.lines.items = subst (λ (f : Finding). c.args.t.0 < f.room) (sym c.self.view_is) c.requires in
+    let low : c.args.t.0 < length s.lines.items = subst (λ (f : Finding). c.args.t.0 < f.spare) (sym c.self.view_is) c.requires in
     set_here s.lines.items c.args.t.0 (Some c.earlier.result) low
     ∙ ap (λ l. Some l) c.earlier.ensures
     ∙ ap (with_line c.args.line) (sym (sym (ap (λ (f : Finding). map.get f.lines c.args.t.0) c.self.view_is) ∙ at_place s.lines.items c.args.t.0 ∙ sym (get_or_read s.lines.items c.args.t.0 c.index.result.now low c.index.ensures None) ∙ c.in-Some.is))
@@ -46,7 +46,7 @@ returns-in-Some-clause-others c = λ u other. set_other c.self.inside.lines.item
 pub returns-in-None-clause-here : goal.returns-in-None-clause-here
 returns-in-None-clause-here c =
     let s = c.self.inside in
-    let low : c.args.t.0 < length s.lines.items = subst (λ (f : Finding). c.args.t.0 < f.room) (sym c.self.view_is) c.requires in
+    let low : c.args.t.0 < length s.lines.items = subst (λ (f : Finding). c.args.t.0 < f.spare) (sym c.self.view_is) c.requires in
     set_here s.lines.items c.args.t.0 (Some c.args.line) low
     ∙ ap (with_line c.args.line) (sym (sym (ap (λ (f : Finding). map.get f.lines c.args.t.0) c.self.view_is) ∙ at_place s.lines.items c.args.t.0 ∙ sym (get_or_read s.lines.items c.args.t.0 c.index.result.now low c.index.ensures None) ∙ c.in-None.is))
 

@@ -6,12 +6,12 @@ use Rattle.restore.proofs.found.Found.reserve.Goals as goal
 pub invariant_of-self-in-Continue-branch-2 : goal.invariant_of-self-in-Continue-branch-2
 invariant_of-self-in-Continue-branch-2 c =
     let s = c.self.inside in
-    let high : length s.lines.items ≤ c.args.room = omega (arith, s.lines.ok.0) in
-    let room = c.in_ok-reserve.ensures.ok in
-    found_reserved s.lines.items c.resize.new.self.items s.touched.items c.reserve.new.self.items (vec_capacity s.touched) (vec_capacity c.reserve.new.self) c.args.room s.lines.len (omega (arith, s.lines.ok.0)) high (omega (arith, room)) c.reserve.ensures.items c.in_ok-resize.ensures.items c.self.invariant
+    let high : length s.lines.items ≤ c.args.spare = omega (arith, s.lines.ok.0) in
+    let spare = c.in_ok-reserve.ensures.ok in
+    found_reserved s.lines.items c.resize.new.self.items s.touched.items c.reserve.new.self.items (vec_capacity s.touched) (vec_capacity c.reserve.new.self) c.args.spare s.lines.len (omega (arith, s.lines.ok.0)) high (omega (arith, spare)) c.reserve.ensures.items c.in_ok-resize.ensures.items c.self.invariant
 
 pub returns-in_ok-resize-clause-lines : goal.returns-in_ok-resize-clause-lines
 returns-in_ok-resize-clause-lines c =
     let s = c.self.inside in
-    let high : length s.lines.items ≤ c.args.room = omega (arith, s.lines.ok.0) in
-    map_reserved s.lines.items c.resize.new.self.items c.args.room s.lines.len (omega (arith, s.lines.ok.0)) high c.in_ok-resize.ensures.items ∙ ap (λ (f : Finding). f.lines) c.self.view_is
+    let high : length s.lines.items ≤ c.args.spare = omega (arith, s.lines.ok.0) in
+    map_reserved s.lines.items c.resize.new.self.items c.args.spare s.lines.len (omega (arith, s.lines.ok.0)) high c.in_ok-resize.ensures.items ∙ ap (λ (f : Finding). f.lines) c.self.view_is
