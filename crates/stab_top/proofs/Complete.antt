@@ -1,8 +1,8 @@
 -- What the statuses say leaves no way round a good program or a trace, nor round a text that is none.
-use Rattle.std.proofs.Common.{arith, ◌≡◌, ◌⊎◌, inl, inr, ℕ, ℤ, ◌<◌, true, is_none, List, [], length, Option, Some, None, Result, Ok, Err, IfSome, IsSomeAnd, refl, ap, sym, subst, ◌∙◌}
+use Rattle.std.proofs.Common.{arith, ◌≡◌, ◌⊎◌, inl, inr, ℕ, ℤ, ◌<◌, true, List, [], length, Option, Some, None, Result, Ok, Err, IfSome, IsSomeAnd, refl, ap, sym, subst, ◌∙◌}
 use Rattle.plain_language.specs.Plain.{PlainState}
-use Rattle.plain_run.specs.Book.{Book}
-use Rattle.plain_run.specs.Sequential.{IsSequential}
+use Rattle.commit_book.specs.Book.{BookView}
+use Rattle.flat_program.specs.Flat.{IsFlat}
 use Rattle.probe_text.specs.declared.fault.ProbesFault.{ProbesFault}
 use Rattle.probe_text.specs.Probes as probes
 use Rattle.stab_code.specs.Program.{ProgramParts}
@@ -30,7 +30,7 @@ use Rattle.stab_top.specs.Device.{Device}
 use Rattle.stab_top.specs.Ending.{CheckEnds, IsJudged, IsTold, RunEnds, VerdictEnds, shown_by, trace_by}
 use Rattle.stab_top.specs.Loading.{Finds, LoadRefused, Loads, max_bytes}
 use Rattle.stab_top.specs.Reading.{Blames, Form, HaveFault, Holds, ReadRefused, probes_form, program_form, trace_form}
-use Rattle.stab_top.specs.Call.{BuiltSays, Call, CheckSays, CountedFault, ReadSays, RequestSays, RunSays, Says, ScriptSays, TraceSays, VerifySays, WordsSay, status_of}
+use Rattle.stab_top.specs.Call.{BuiltSays, Call, CheckSays, CountedFault, LastSays, ReadSays, RequestSays, RunSaysBy, Says, ScriptSays, TraceSays, VerifySays, WordsSay, status_of}
 use Rattle.stab_top.specs.Complete.{Checked, IsHeld, IsHeldFor, IsRefused, IsScriptFor, Ran, WasJudged}
 
 -- what is found, where the files tell
@@ -143,22 +143,22 @@ failed_checked : (c : Call) → Failed (status_of c) c → Checked (status_of c)
 failed_checked c (inl none) = inl (subst Checked (sym none) tt)
 failed_checked c (inr counted) = inr counted
 
-ran : (text_by : Book → PlainState → List ℕ) (status : Status) (c : Call) (args : RunArgs) (program : ProgramParts) → IsSequential program → RunEnds text_by status args program c.outcome → Ran status ⊎ CountedFault c
-ran text_by Done c args program is says = inl tt
-ran text_by Held c args program is says = inl tt
-ran text_by BadWords c args program is says = elim says.end.0 [ ]
-ran text_by BadText c args program is says = elim says.end.0 [ ]
-ran text_by NoFile c args program is says = elim says.end.0 [ ]
-ran text_by TooBig c args program is says = elim says.end.0 [ ]
-ran text_by FileFault c args program is says = elim says.end.0 [ ]
-ran text_by SinkFault c args program is says = inr (inr says.end.1.1)
-ran text_by Spent c args program is says = inl tt
-ran text_by NoMemory c args program is says = inl tt
-ran text_by BadProbes c args program is says = elim says.end.0 [ ]
-ran text_by BadTrace c args program is says = elim says.end.0 [ ]
-ran text_by BadScript c args program is says = elim says.end.0 [ ]
-ran text_by No c args program is says = elim says.end.0 [ ]
-ran text_by NotBuilt c args program is says = absurd (says.0 is)
+ran : (text_by : BookView → PlainState → List ℕ) (status : Status) (c : Call) (args : RunArgs) (program : ProgramParts) (script : List ℤ) → IsFlat program → RunEnds text_by status args program script c.outcome → Ran status ⊎ CountedFault c
+ran text_by Done c args program script is says = inl tt
+ran text_by Held c args program script is says = inl tt
+ran text_by BadWords c args program script is says = elim says.end.0 [ ]
+ran text_by BadText c args program script is says = elim says.end.0 [ ]
+ran text_by NoFile c args program script is says = elim says.end.0 [ ]
+ran text_by TooBig c args program script is says = elim says.end.0 [ ]
+ran text_by FileFault c args program script is says = elim says.end.0 [ ]
+ran text_by SinkFault c args program script is says = inr (inr says.end.1.1)
+ran text_by Spent c args program script is says = inl tt
+ran text_by NoMemory c args program script is says = inl tt
+ran text_by BadProbes c args program script is says = elim says.end.0 [ ]
+ran text_by BadTrace c args program script is says = elim says.end.0 [ ]
+ran text_by BadScript c args program script is says = elim says.end.0 [ ]
+ran text_by No c args program script is says = elim says.end.0 [ ]
+ran text_by NotBuilt c args program script is says = absurd (says.0 is)
 
 checked : (status : Status) (c : Call) (program : ProgramParts) → CheckEnds status program c.outcome → Checked status ⊎ CountedFault c
 checked Done c program says = inl tt
@@ -177,10 +177,10 @@ checked BadScript c program says = elim says [ ]
 checked No c program says = elim says [ ]
 checked NotBuilt c program says = elim says [ ]
 
-run_came : (text_by : Book → PlainState → List ℕ) (c : Call) (args : RunArgs) (program : ProgramParts) → IsSequential program → Failed (status_of c) c ⊎ RunEnds text_by (status_of c) args program c.outcome
+run_came : (text_by : BookView → PlainState → List ℕ) (c : Call) (args : RunArgs) (program : ProgramParts) (script : List ℤ) → IsFlat program → Failed (status_of c) c ⊎ RunEnds text_by (status_of c) args program script c.outcome
     → Ran (status_of c) ⊎ CountedFault c
-run_came text_by c args program is (inl failed) = failed_ran c failed
-run_came text_by c args program is (inr ends) = ran text_by (status_of c) c args program is ends
+run_came text_by c args program script is (inl failed) = failed_ran c failed
+run_came text_by c args program script is (inr ends) = ran text_by (status_of c) c args program script is ends
 
 check_came : (c : Call) (program : ProgramParts) → Failed (status_of c) c ⊎ CheckEnds (status_of c) program c.outcome → Checked (status_of c) ⊎ CountedFault c
 check_came c program (inl failed) = failed_checked c failed
@@ -192,17 +192,48 @@ request_said words c request says is built =
     let here : RequestSays (is_built request) c request = subst (λ (r : Result Request WordFault). WordsSay r c) is says in
     subst (λ b. RequestSays b c request) built here
 
-pub good_program_runs : (words : List (List ℕ)) (c : Call) (args : RunArgs) (bytes : List ℕ) (program : ProgramParts) → Says words c → asked words ≡ Ok (Run args) → args.probes ≡ None →
-    IsHeld roles.Program c args.file bytes → IsTextOf bytes program → IsSequential program → Ran (status_of c) ⊎ CountedFault c
-good_program_runs words c args bytes program says is none held text sequential =
-    let run : RunSays shown_by c args = request_said words c (Run args) says is (ap is_none none) in
-    run_came shown_by c args program sequential (program_said c args.file bytes program held text c.files_after (λ p. RunEnds shown_by (status_of c) args p c.outcome) run)
+module _ (text_by : BookView → PlainState → List ℕ) (c : Call) (args : RunArgs) (bytes : List ℕ) (program : ProgramParts) (held : IsHeld roles.Program c args.file bytes) (text : IsTextOf bytes program) where
+  behind : (name : List ℕ) (script : List ℤ) (probe_bytes : List ℕ) → IsHeld roles.Probes c name probe_bytes → probes.reading probe_bytes ≡ Ok script
+      → Failed (status_of c) c ⊎ LastSays probes_form c name (λ s. RunEnds text_by (status_of c) args program s c.outcome) → Failed (status_of c) c ⊎ RunEnds text_by (status_of c) args program script c.outcome
+  behind name script probe_bytes there reads (inl failed) = inl failed
+  behind name script probe_bytes there reads (inr says) = script_said c name probe_bytes script there reads c.files_after (λ s. RunEnds text_by (status_of c) args program s c.outcome) says
 
-pub good_program_is_traced : (words : List (List ℕ)) (c : Call) (args : RunArgs) (bytes : List ℕ) (program : ProgramParts) → Says words c → asked words ≡ Ok (Trace args) → args.probes ≡ None →
-    IsHeld roles.Program c args.file bytes → IsTextOf bytes program → IsSequential program → Ran (status_of c) ⊎ CountedFault c
-good_program_is_traced words c args bytes program says is none held text sequential =
-    let run : RunSays trace_by c args = request_said words c (Trace args) says is (ap is_none none) in
-    run_came trace_by c args program sequential (program_said c args.file bytes program held text c.files_after (λ p. RunEnds trace_by (status_of c) args p c.outcome) run)
+  -- what is said of a run of a program and a script that are held
+  run_said : (named : Option (List ℕ)) (script : List ℤ) → IsScriptFor c named script → RunSaysBy text_by c args named → Failed (status_of c) c ⊎ RunEnds text_by (status_of c) args program script c.outcome
+  run_said None script is says =
+      subst (λ s. Failed (status_of c) c ⊎ RunEnds text_by (status_of c) args program s c.outcome) (sym is)
+      (program_said c args.file bytes program held text c.files_after (λ p. RunEnds text_by (status_of c) args p [] c.outcome) says)
+  run_said (Some name) script is says =
+      behind name script is.0 is.1 is.2 (program_said c args.file bytes program held text c.files.faults (λ p. LastSays probes_form c name (λ s. RunEnds text_by (status_of c) args p s c.outcome)) says)
+
+  probes_of_run : (name probe_bytes : List ℕ) (fault : ProbesFault) → IsHeld roles.Probes c name probe_bytes → probes.reading probe_bytes ≡ Err fault
+      → Failed (status_of c) c ⊎ LastSays probes_form c name (λ s. RunEnds text_by (status_of c) args program s c.outcome) → IsRefused probes_form c fault ⊎ CountedFault c
+  probes_of_run name probe_bytes fault there has (inl failed) = failed_refused probes_form c name probe_bytes there fault failed
+  probes_of_run name probe_bytes fault there has (inr says) =
+      fault_refused probes_form c name probe_bytes there fault (λ s is. not_ok s fault (sym is ∙ has)) (λ other is. err_is other fault (sym is ∙ has)) c.files_after (λ s. RunEnds text_by (status_of c) args program s c.outcome) says
+
+  bad_probes_said : (named : Option (List ℕ)) (name probe_bytes : List ℕ) (fault : ProbesFault) → named ≡ Some name → IsHeld roles.Probes c name probe_bytes → probes.reading probe_bytes ≡ Err fault
+      → RunSaysBy text_by c args named → IsRefused probes_form c fault ⊎ CountedFault c
+  bad_probes_said named name probe_bytes fault is there has says =
+      probes_of_run name probe_bytes fault there has
+      (program_said c args.file bytes program held text c.files.faults (λ p. LastSays probes_form c name (λ s. RunEnds text_by (status_of c) args p s c.outcome)) (subst (RunSaysBy text_by c args) is says))
+
+pub good_program_runs : (words : List (List ℕ)) (c : Call) (args : RunArgs) (bytes : List ℕ) (program : ProgramParts) (script : List ℤ) → Says words c → asked words ≡ Ok (Run args) →
+    IsHeld roles.Program c args.file bytes → IsTextOf bytes program → IsScriptFor c args.probes script → IsFlat program → Ran (status_of c) ⊎ CountedFault c
+good_program_runs words c args bytes program script says is held text for_script flat =
+    run_came shown_by c args program script flat (run_said shown_by c args bytes program held text args.probes script for_script (request_said words c (Run args) says is refl))
+
+pub good_program_is_traced : (words : List (List ℕ)) (c : Call) (args : RunArgs) (bytes : List ℕ) (program : ProgramParts) (script : List ℤ) → Says words c → asked words ≡ Ok (Trace args) →
+    IsHeld roles.Program c args.file bytes → IsTextOf bytes program → IsScriptFor c args.probes script → IsFlat program → Ran (status_of c) ⊎ CountedFault c
+good_program_is_traced words c args bytes program script says is held text for_script flat =
+    run_came trace_by c args program script flat (run_said trace_by c args bytes program held text args.probes script for_script (request_said words c (Trace args) says is refl))
+
+pub run_with_bad_probes : (words : List (List ℕ)) (c : Call) (args : RunArgs) (text name bytes : List ℕ) (program : ProgramParts) (fault : ProbesFault) → Says words c → (asked words ≡ Ok (Run args)) ⊎ (asked words ≡ Ok (Trace args)) →
+    IsHeld roles.Program c args.file text → IsTextOf text program → args.probes ≡ Some name → IsHeld roles.Probes c name bytes → probes_form.HasFault bytes fault → IsRefused probes_form c fault ⊎ CountedFault c
+run_with_bad_probes words c args text name bytes program fault says (inl is) held of named there has =
+    bad_probes_said shown_by c args text program held of args.probes name bytes fault named there has (request_said words c (Run args) says is refl)
+run_with_bad_probes words c args text name bytes program fault says (inr is) held of named there has =
+    bad_probes_said trace_by c args text program held of args.probes name bytes fault named there has (request_said words c (Trace args) says is refl)
 
 pub good_program_checks : (words : List (List ℕ)) (c : Call) (file bytes : List ℕ) (program : ProgramParts) → Says words c → asked words ≡ Ok (Check file) →
     IsHeld roles.Program c file bytes → IsTextOf bytes program → Checked (status_of c) ⊎ CountedFault c
@@ -286,9 +317,14 @@ text_with_fault : (c : Call) (name bytes : List ℕ) (fault : TextFault) (faults
 text_with_fault c name bytes fault faults Said is has says =
     fault_refused program_form c name bytes is fault (λ p text. not_both bytes p fault text has) (λ other same. one_fault bytes other fault same has) faults Said says
 
+run_with_fault : (text_by : BookView → PlainState → List ℕ) (c : Call) (args : RunArgs) (named : Option (List ℕ)) (bytes : List ℕ) (fault : TextFault) → RunSaysBy text_by c args named → IsHeld roles.Program c args.file bytes → HasFault bytes fault
+    → IsRefused program_form c fault ⊎ CountedFault c
+run_with_fault text_by c args None bytes fault says is has = text_with_fault c args.file bytes fault c.files_after (λ p. RunEnds text_by (status_of c) args p [] c.outcome) is has says
+run_with_fault text_by c args (Some name) bytes fault says is has = text_with_fault c args.file bytes fault c.files.faults (λ p. LastSays probes_form c name (λ s. RunEnds text_by (status_of c) args p s c.outcome)) is has says
+
 request_with_fault : (c : Call) (request : Request) (bytes : List ℕ) (fault : TextFault) → BuiltSays c request → IsHeldFor c request bytes → HasFault bytes fault → IsRefused program_form c fault ⊎ CountedFault c
-request_with_fault c (Run args) bytes fault says is has = text_with_fault c args.file bytes fault c.files_after (λ p. RunEnds shown_by (status_of c) args p c.outcome) is has says
-request_with_fault c (Trace args) bytes fault says is has = text_with_fault c args.file bytes fault c.files_after (λ p. RunEnds trace_by (status_of c) args p c.outcome) is has says
+request_with_fault c (Run args) bytes fault says is has = run_with_fault shown_by c args args.probes bytes fault says is has
+request_with_fault c (Trace args) bytes fault says is has = run_with_fault trace_by c args args.probes bytes fault says is has
 request_with_fault c (Verify args) bytes fault says is has = text_with_fault c args.file bytes fault c.files.faults (λ p. ScriptSays c args.probes (λ s. TraceSays c args.trace p s)) is has says
 request_with_fault c (Check file) bytes fault says is has = text_with_fault c file bytes fault c.files_after (λ p. CheckEnds (status_of c) p c.outcome) is has says
 request_with_fault c (Drill args) bytes fault says is has = elim is [ ]

@@ -1,7 +1,13 @@
 pub mod Pieces
 pub mod ReadFirst
+pub mod Led
 pub mod Ending
 pub mod Complete
 pub mod Wording
 pub mod Executing
 pub mod OwnTraces
+pub mod Begun
+pub mod Unbuilt
+pub mod Resting
+pub mod WholeRun
+pub mod Given

@@ -1,6 +1,6 @@
 -- The trace of a run has the verdict yes.
 use Rattle.std.proofs.Common.{◌≡◌, ◌⊎◌, inl, inr, ℕ, ℤ, suc, cond, List, [], ◌∷◌, ◌++◌, Result, Ok, refl, sym, ap, subst, ◌∙◌}
-use Rattle.std.specs.Prelude.{map, None}
+use Rattle.std.specs.Prelude.{map}
 use Rattle.std.specs.FinSet.{FinSet, contains}
 use Rattle.std.specs.Ordering.{nat_cmp}
 use Rattle.stab_code.specs.Program.{ProgramParts}
@@ -9,8 +9,9 @@ use Rattle.stab_journal.specs.declared.event.Numbered.{Numbered}
 use Rattle.stab_journal.specs.Journal.{IsValid, Journal, step_at, survivors, survivors_from}
 use Rattle.stab_journal.specs.Script.{FollowsScript}
 use Rattle.plain_language.specs.Plain.{PlainState}
-use Rattle.plain_language.specs.Standing.{StandsFor}
-use Rattle.plain_run.specs.Book.{Book}
+use Rattle.plain_language.specs.Standing.{Shows, StandsFor}
+use Rattle.commit_book.specs.Book.{BookView}
+use Rattle.stab_code.specs.JobParts.{JobParts}
 use Rattle.stab_text.specs.Text.{IsTextOf}
 use Rattle.stab_words.specs.Asked.{asked}
 use Rattle.stab_words.specs.declared.request.Request.TheVariants.{Verify}
@@ -62,30 +63,29 @@ same_ok r xs ys e f = cc
 
 -- ---- a run
 
--- the history of a run is one of its program and of no script
-is_of_run : (args : RunArgs) (program : ProgramParts) (book : Book) (state : PlainState) → IsRunOf args program book state → IsOfRun program [] book.history
-is_of_run args program book state r = record {
-  run = r.shown.0;
+-- the history of a run is one of its program and its script
+is_of_run : (args : RunArgs) (program : ProgramParts) (script : List ℤ) (book : BookView) (state : PlainState) → IsRunOf args program script book state → IsOfRun program script book.history
+is_of_run args program script book state r = record {
+  run = r.run;
   state = state;
-  shows = r.shown.1;
-  follows = subst (λ script. FollowsScript script book.history.events) (ap (λ j. j.script) r.job) r.follows;
+  shows = subst (λ p. Shows p book.history r.run state) (ap (λ (j : JobParts). j.program) r.job) r.shown.journal.history;
+  follows = r.follows;
 }
 
-module _ (c : Call) (program : ProgramParts) (history : Journal) (valid : IsValid history) (run : IsOfRun program [] history) where
-  yes : HasVerdict c program [] (trace history) → status_of c ≡ Done
+module _ (c : Call) (program : ProgramParts) (script : List ℤ) (history : Journal) (valid : IsValid history) (run : IsOfRun program script history) where
+  yes : HasVerdict c program script (trace history) → status_of c ≡ Done
   yes h =
       let same = same_ok (reading (trace history)) (entries h.history) (entries history) h.is (trace-read history valid (few history valid)) in
-      h.status ∙ ap verdict_status (one_verdict program [] h.history h.verdict Yes h.given (passes (same_run program [] h.history history same run)))
+      h.status ∙ ap verdict_status (one_verdict program script h.history h.verdict Yes h.given (passes (same_run program script h.history history same run)))
 
-  passed : WasJudged c program [] (trace history) ⊎ CountedFault c → ((status_of c ≡ Done) ⊎ (status_of c ≡ NoMemory)) ⊎ CountedFault c
+  passed : WasJudged c program script (trace history) ⊎ CountedFault c → ((status_of c ≡ Done) ⊎ (status_of c ≡ NoMemory)) ⊎ CountedFault c
   passed (inl (inl h)) = inl (inl (yes h))
   passed (inl (inr none)) = inl (inr none)
   passed (inr counted) = inr counted
 
-pub trace_of_run_passes : (ran : RunArgs) (program : ProgramParts) (book : Book) (state : PlainState) (words : List (List ℕ)) (c : Call) (args : VerifyArgs) (text : List ℕ) → IsRunOf ran program book state → IsValid book.history →
-    Says words c → asked words ≡ Ok (Verify args) → IsHeld roles.Program c args.file text → IsTextOf text program → args.probes ≡ None → IsHeld roles.Trace c args.trace (trace book.history) →
+pub trace_of_run_passes : (ran : RunArgs) (program : ProgramParts) (script : List ℤ) (book : BookView) (state : PlainState) (words : List (List ℕ)) (c : Call) (args : VerifyArgs) (text : List ℕ) → IsRunOf ran program script book state → IsValid book.history →
+    Says words c → asked words ≡ Ok (Verify args) → IsHeld roles.Program c args.file text → IsTextOf text program → IsScriptFor c args.probes script → IsHeld roles.Trace c args.trace (trace book.history) →
     ((status_of c ≡ Done) ⊎ (status_of c ≡ NoMemory)) ⊎ CountedFault c
-trace_of_run_passes ran program book state words c args text run valid says is held of none there =
-    passed c program book.history valid (is_of_run ran program book state run)
-    (trace_is_judged words c args text (trace book.history) program [] book.history says is held of (subst (λ probes. IsScriptFor c probes []) (sym none) refl) there
-    (trace-read book.history valid (few book.history valid)))
+trace_of_run_passes ran program script book state words c args text run valid says is held of for_script there =
+    passed c program script book.history valid (is_of_run ran program script book state run)
+    (trace_is_judged words c args text (trace book.history) program script book.history says is held of for_script there (trace-read book.history valid (few book.history valid)))

@@ -1,5 +1,7 @@
 -- What is said of words where memory was refused.
-use Rattle.std.proofs.Common.{◌≡◌, inl, ℕ, List, Bool, true, false, Result, Ok, Err, is_none, sym, subst}
+use Rattle.std.proofs.Common.{◌≡◌, inl, ℕ, List, [], Bool, true, false, Option, Some, None, Result, Ok, Err, sym, subst}
+use Rattle.commit_book.specs.Book.{BookView}
+use Rattle.plain_language.specs.Plain.{PlainState}
 use Rattle.stab_words.specs.Asked.{asked}
 use Rattle.stab_words.specs.declared.request.Request.{Request}
 use Rattle.stab_words.specs.declared.request.Request.TheVariants.{Run, Trace, Verify, Drill, Check, Mill, Types, Save, Resume, Watch}
@@ -10,9 +12,9 @@ use Rattle.stab_top.specs.declared.report.Status.TheVariants.{NoMemory}
 use Rattle.stab_top.specs.Reason.{blames_file, no_blame}
 use Rattle.stab_top.specs.Words.{is_built}
 use Rattle.stab_top.specs.Loading.{LoadRefused, blamed}
-use Rattle.stab_top.specs.Reading.{Blames, Form, program_form}
+use Rattle.stab_top.specs.Reading.{Blames, Form, probes_form, program_form}
 use Rattle.stab_top.specs.Ending.{CheckEnds, RunEnds, shown_by, trace_by}
-use Rattle.stab_top.specs.Call.{BuiltSays, Call, FaultSays, NotBuiltSays, ReadSays, RequestSays, Says, ScriptSays, TraceSays, Untouched, WordsSay, status_of}
+use Rattle.stab_top.specs.Call.{BuiltSays, Call, FaultSays, LastSays, NotBuiltSays, ReadSays, RequestSays, RunSaysBy, Says, ScriptSays, TraceSays, Untouched, WordsSay, status_of}
 
 -- no file was loaded, for want of memory
 unread : {Content Fault : Type 0} (form : Form Content Fault) (c : Call) (file : List ℕ) (faults : ℕ) (Said : Content → Type 0) → status_of c ≡ NoMemory → Untouched c no_blame → ReadSays form c file faults Said
@@ -22,17 +24,13 @@ unread form c file faults Said none is =
 not_built : (c : Call) → status_of c ≡ NoMemory → Untouched c no_blame → NotBuiltSays (status_of c) c
 not_built c none is = subst (λ s. NotBuiltSays s c) (sym none) is
 
-run_says : (b : Bool) (args : RunArgs) (c : Call) → status_of c ≡ NoMemory → Untouched c no_blame → RequestSays b c (Run args)
-run_says true args c none is = unread program_form c args.file c.files_after (λ p. RunEnds shown_by (status_of c) args p c.outcome) none is
-run_says false args c none is = not_built c none is
-
-trace_says : (b : Bool) (args : RunArgs) (c : Call) → status_of c ≡ NoMemory → Untouched c no_blame → RequestSays b c (Trace args)
-trace_says true args c none is = unread program_form c args.file c.files_after (λ p. RunEnds trace_by (status_of c) args p c.outcome) none is
-trace_says false args c none is = not_built c none is
+run_says : (text_by : BookView → PlainState → List ℕ) (args : RunArgs) (named : Option (List ℕ)) (c : Call) → status_of c ≡ NoMemory → Untouched c no_blame → RunSaysBy text_by c args named
+run_says text_by args None c none is = unread program_form c args.file c.files_after (λ p. RunEnds text_by (status_of c) args p [] c.outcome) none is
+run_says text_by args (Some name) c none is = unread program_form c args.file c.files.faults (λ p. LastSays probes_form c name (λ s. RunEnds text_by (status_of c) args p s c.outcome)) none is
 
 request_says : (request : Request) (c : Call) → status_of c ≡ NoMemory → Untouched c no_blame → RequestSays (is_built request) c request
-request_says (Run args) c none is = run_says (is_none args.probes) args c none is
-request_says (Trace args) c none is = trace_says (is_none args.probes) args c none is
+request_says (Run args) c none is = run_says shown_by args args.probes c none is
+request_says (Trace args) c none is = run_says trace_by args args.probes c none is
 request_says (Verify args) c none is = unread program_form c args.file c.files.faults (λ p. ScriptSays c args.probes (λ s. TraceSays c args.trace p s)) none is
 request_says (Check file) c none is = unread program_form c file c.files_after (λ p. CheckEnds (status_of c) p c.outcome) none is
 request_says (Drill args) c none is = not_built c none is

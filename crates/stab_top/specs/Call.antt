@@ -1,7 +1,7 @@
 -- What the one call says by the status that it reports.
 use Rattle.std.specs.Prelude.{◌≡◌, ℕ, ℤ, Bool, true, false, List, [], Option, Some, None, Result, Ok, Err, ◌⊎◌}
 use Rattle.plain_language.specs.Plain.{PlainState}
-use Rattle.plain_run.specs.Book.{Book}
+use Rattle.commit_book.specs.Book.{BookView}
 use Rattle.stab_code.specs.Program.{ProgramParts}
 use Rattle.stab_files.specs.Count.{Rose}
 use Rattle.stab_files.specs.Entry.{Entry}
@@ -64,10 +64,16 @@ module _ {Content Fault : Type 0} (form : Form Content Fault) where
   abbrev pub NextSays : Call → List ℕ → (Content → Type 0) → Type 0
   NextSays c file Said = ReadSays c file c.files.faults Said
 
--- a run of the program of a file, of which the command writes this text; and a check of such a program
-abbrev pub RunSays : (Book → PlainState → List ℕ) → Call → RunArgs → Type 0
-RunSays text_by c args = LastSays program_form c args.file (λ program. RunEnds text_by (status_of c) args program c.outcome)
+-- a run of the program of a file with the script of a probe file, or with none, of which the command writes this text
+abbrev pub RunSaysBy : (BookView → PlainState → List ℕ) → Call → RunArgs → Option (List ℕ) → Type 0
+RunSaysBy text_by c args None = LastSays program_form c args.file (λ program. RunEnds text_by (status_of c) args program [] c.outcome)
+RunSaysBy text_by c args (Some probes) =
+    NextSays program_form c args.file (λ program. LastSays probes_form c probes (λ script. RunEnds text_by (status_of c) args program script c.outcome))
 
+abbrev pub RunSays : (BookView → PlainState → List ℕ) → Call → RunArgs → Type 0
+RunSays text_by c args = RunSaysBy text_by c args args.probes
+
+-- a check of such a program
 abbrev pub CheckSays : Call → List ℕ → Type 0
 CheckSays c file = LastSays program_form c file (λ program. CheckEnds (status_of c) program c.outcome)
 

@@ -1,15 +1,20 @@
 -- What a call says of the end of what it does with a program.
-use Rattle.std.specs.Prelude.{◌≡◌, ℕ, ℤ, List, [], ◌∷◌, ◌++◌, Option, Some, codes, decimal, length, ◌⊎◌}
-use Rattle.plain_language.specs.Plain.{PlainState, language_of}
+use Rattle.std.specs.Prelude.{◌≡◌, ℕ, ℤ, ◌<◌, ◌≤◌, true, false, List, [], ◌∷◌, ◌++◌, Option, Some, IfSome, IsSomeAnd, codes, decimal, length, ◌⊎◌}
+use Rattle.std.specs.List.{AllByRecursion}
+use Rattle.commit_book.specs.Book.{BookView, ShowsRun}
+use Rattle.commit_book.specs.Counts.{in_state}
+use Rattle.plain_language.specs.Plain.{PlainState, language_of, look_in, standing}
 use Rattle.plain_language.specs.Quiet.{IsQuiet}
-use Rattle.plain_language.specs.Shown.{shown}
-use Rattle.plain_run.specs.Book.{AllDone, Book, ByOneWorker, IsOver, IsShown, IsSpent, SomeFaulted}
-use Rattle.plain_run.specs.Sequential.{IsSequential}
+use Rattle.plain_language.specs.Shown.{is_done, shown}
 use Rattle.stab_code.specs.JobParts.{job_of}
 use Rattle.stab_code.specs.Program.{ProgramParts}
+use Rattle.stab_journal.specs.declared.event.Event.{Event}
+use Rattle.stab_journal.specs.declared.event.Numbered.{Numbered}
+use Rattle.stab_journal.specs.Event.{weight_of}
 use Rattle.stab_journal.specs.Journal.{Journal}
 use Rattle.stab_journal.specs.Script.{FollowsScript}
 use Rattle.stab_words.specs.declared.request.RunArgs.{RunArgs}
+use Rattle.thread_slots.specs.declared.state.State.TheVariants.{Ready, Leased}
 use Rattle.trace_text.specs.Text.{trace}
 use Rattle.trace_verify.specs.declared.verdict.Verdict.{Verdict}
 use Rattle.trace_verify.specs.declared.verdict.Verdict.TheVariants as verdicts
@@ -19,6 +24,7 @@ use Rattle.stab_top.specs.declared.report.Status.{Status}
 use Rattle.stab_top.specs.declared.report.Status.TheVariants.{Done, Held, SinkFault, Spent, NoMemory, No, NotBuilt}
 use Rattle.stab_top.specs.Device.{Device, Gains, GainsPrefix, Rests, device}
 use Rattle.stab_top.specs.Reading.{Blames}
+use Rattle.flat_program.specs.Flat.{IsFlat}
 use Rattle.stab_top.specs.Reason.{Blame, blame_of, failing_words, names_verdict, no_blame}
 
 -- what came of a call: the sink before and after it, and what is reported
@@ -38,58 +44,89 @@ Refuses o cause = Blames o.report cause × Rests o.sink o.sink_after
 
 -- ---- a run
 
--- The job is that of the program with the fuel and the quantum of the words, and an empty script; the program's only act is
--- `print`. The history stands for a run of the program from the start state that ends in this state, and its probes got the script's
--- numbers. Worker 1 made it all.
-pub record IsRunOf (args : RunArgs) (program : ProgramParts) (book : Book) (state : PlainState) : Type 0 where
-  pub job : book.job ≡ job_of program [] args.fuel args.quantum
-  pub sequential : IsSequential program
-  pub shown : IsShown program book.history state
-  pub follows : FollowsScript book.job.script book.history.events
-  pub by_one : ByOneWorker book.history.events
+-- The job is that of the program and the script with the fuel and the quantum of the words; no act of the program is one that
+-- isn't built. The book shows its history, which stands for this run of the program from the start state, and the state in which
+-- the run ends; the history's probes got the numbers of the script. Worker 1 made it all.
+pub record IsRunOf (args : RunArgs) (program : ProgramParts) (script : List ℤ) (book : BookView) (state : PlainState) : Type 0 where
+  pub job : book.job ≡ job_of program script args.fuel args.quantum
+  pub flat : IsFlat program
+  pub run : List Numbered
+  pub shown : ShowsRun book run state
+  pub follows : FollowsScript script book.history.events
+  pub by_one : AllByRecursion (λ (e : Event). e.worker ≡ 1) book.history.events
 
 -- what a command writes of a run: what the run shows that ends in the state, or the trace of what happened
-abbrev pub shown_by : Book → PlainState → List ℕ
+abbrev pub shown_by : BookView → PlainState → List ℕ
 shown_by book state = shown book.job.program state
 
-abbrev pub trace_by : Book → PlainState → List ℕ
+abbrev pub trace_by : BookView → PlainState → List ℕ
 trace_by book state = trace book.history
 
--- no thread can step
-abbrev pub Rested : Book → PlainState → Type 0
-Rested book state = IsQuiet (language_of book.job.program) state
+-- no thread is ready or leased, and none can step
+pub record Rested (book : BookView) (state : PlainState) : Type 0 where
+  pub unready : in_state Ready book ≡ 0
+  pub free : in_state Leased book ≡ 0
+  pub quiet : IsQuiet (language_of book.job.program) state
+
+-- every thread of the state ended without a fault; and one failed or waits
+abbrev pub AllDone : ProgramParts → PlainState → Type 0
+AllDone p s = (t : ℕ) → IfSome (standing s t) (λ e. is_done (look_in p e) ≡ true)
+
+pub record SomeHeld (p : ProgramParts) (s : PlainState) : Type 0 where
+  pub thread : ℕ
+  pub held : IsSomeAnd (standing s thread) (λ e. is_done (look_in p e) ≡ false)
+
+-- the fuel is used up, and a thread is ready
+pub record IsSpent (book : BookView) : Type 0 where
+  pub used : book.job.fuel ≤ weight_of book.history.events
+  pub ready : 0 < in_state Ready book
 
 -- how a run ended whose text was written whole
-abbrev pub RestSays : Status → Book → PlainState → Type 0
+abbrev pub RestSays : Status → BookView → PlainState → Type 0
 RestSays Done book state = Rested book state × AllDone book.job.program state
-RestSays Held book state = Rested book state × SomeFaulted book.job.program state
-RestSays Spent book state = IsSpent book state
+RestSays Held book state = Rested book state × SomeHeld book.job.program state
+RestSays Spent book state = IsSpent book
 RestSays _ book state = ⊥
 
+-- a run is over
+abbrev pub IsOver : BookView → PlainState → Type 0
+IsOver book state = Rested book state ⊎ IsSpent book
+
 -- what the status says of the end of a run, of which this text is written, and of the sink
-abbrev pub EndSays : Status → Book → PlainState → List ℕ → Outcome → Type 0
+abbrev pub EndSays : Status → BookView → PlainState → List ℕ → Outcome → Type 0
 EndSays SinkFault book state text o = IsOver book state × GainsPrefix o.sink o.sink_after text
 EndSays status book state text o = RestSays status book state × Gains o.sink o.sink_after text
 
--- the program wasn't run: it has another act than `print`, or there was no memory
+-- the program wasn't run: an act of it isn't built, or there was no memory
 abbrev pub IsUnrun : Status → ProgramParts → Type 0
-IsUnrun status program = ((status ≡ NotBuilt) × ¬ (IsSequential program)) ⊎ (status ≡ NoMemory)
+IsUnrun status program = ((status ≡ NotBuilt) × ¬ (IsFlat program)) ⊎ (status ≡ NoMemory)
 
-module _ (text_by : Book → PlainState → List ℕ) where
+-- the book of such a run, and the state that it leads to
+pub record HasRun (status : Status) (args : RunArgs) (program : ProgramParts) (script : List ℤ) (book : BookView) : Type 0 where
+  pub state : PlainState
+  pub run : IsRunOf args program script book state
+  pub rest : RestSays status book state
+
+-- the text was written whole, with this status, or a prefix of it up to a fault
+abbrev pub WritesOf : Status → Status → List ℕ → Outcome → Type 0
+WritesOf rest status text o =
+    ((status ≡ rest) × Gains o.sink o.sink_after text) ⊎ ((status ≡ SinkFault) × GainsPrefix o.sink o.sink_after text)
+
+module _ (text_by : BookView → PlainState → List ℕ) where
   -- the report has the book of such a run, and nothing to blame, and the status says how it ended
-  pub record Ends (status : Status) (args : RunArgs) (program : ProgramParts) (o : Outcome) : Type 0 where
-    pub book : Book
+  pub record Ends (status : Status) (args : RunArgs) (program : ProgramParts) (script : List ℤ) (o : Outcome) : Type 0 where
+    pub book : BookView
     pub state : PlainState
     pub reported : o.report.book ≡ Some book
     pub blame : blame_of o.report ≡ no_blame
-    pub run : IsRunOf args program book state
+    pub run : IsRunOf args program script book state
     pub end : EndSays status book state (text_by book state) o
 
   -- What each status says of a program that was to be run. Want of memory is free.
-  abbrev pub RunEnds : Status → RunArgs → ProgramParts → Outcome → Type 0
-  RunEnds NotBuilt args program o = ¬ (IsSequential program) × Refuses o no_blame
-  RunEnds NoMemory args program o = Refuses o no_blame
-  RunEnds status args program o = Ends status args program o
+  abbrev pub RunEnds : Status → RunArgs → ProgramParts → List ℤ → Outcome → Type 0
+  RunEnds NotBuilt args program script o = ¬ (IsFlat program) × Refuses o no_blame
+  RunEnds NoMemory args program script o = Refuses o no_blame
+  RunEnds status args program script o = Ends status args program script o
 
 -- ---- a check
 

@@ -1,10 +1,11 @@
 -- What a call says of what it reads in a file.
-use Rattle.std.specs.Prelude.{◌≡◌, ℕ, ℤ, List, None, Ok, Err, ◌⊎◌}
+use Rattle.std.specs.Prelude.{◌≡◌, ℕ, ℤ, List, [], Option, Some, None, Ok, Err, ◌⊎◌}
 use Rattle.probe_text.specs.declared.fault.ProbesFault.{ProbesFault}
 use Rattle.probe_text.specs.Probes as probes
 use Rattle.stab_code.specs.Program.{ProgramParts}
 use Rattle.stab_files.specs.Entry.{Entry}
 use Rattle.stab_journal.specs.Journal.{Journal}
+use Rattle.stab_words.specs.declared.request.RunArgs.{RunArgs}
 use Rattle.stab_text.specs.declared.fault.TextFault.{TextFault}
 use Rattle.stab_text.specs.Text.{HasFault, IsTextOf}
 use Rattle.trace_text.specs.declared.fault.TraceFault.{TraceFault}
@@ -75,3 +76,24 @@ module _ {Content Fault : Type 0} (form : Form Content Fault) where
   abbrev pub ReadRefused : Report → Device (List Entry) → List ℕ → ℕ → Type 0
   ReadRefused report files name faults =
       FileSays form.role report.status files name faults (Blames report (blames_file (blamed report.status form.role))) (BytesRefused report)
+
+-- ---- a run, whose script is that of a probe file, or empty
+
+module _ (files : Device (List Entry)) (faults : ℕ) (file : List ℕ) where
+  -- the program was read, and then the script
+  abbrev pub AreGivenBy : Option (List ℕ) → ProgramParts → List ℤ → Type 0
+  AreGivenBy None program script = Holds program_form files file faults program × (script ≡ [])
+  AreGivenBy (Some probes) program script = Holds program_form files file files.faults program × Holds probes_form files probes faults script
+
+  -- the one was refused, or the other
+  abbrev pub AreRefusedBy : Option (List ℕ) → Report → Type 0
+  AreRefusedBy None report = ReadRefused program_form report files file faults
+  AreRefusedBy (Some probes) report =
+      ReadRefused program_form report files file faults
+      ⊎ ((program : ProgramParts) × Holds program_form files file files.faults program × ReadRefused probes_form report files probes faults)
+
+abbrev pub AreGiven : Device (List Entry) → ℕ → RunArgs → ProgramParts → List ℤ → Type 0
+AreGiven files faults args program script = AreGivenBy files faults args.file args.probes program script
+
+abbrev pub AreRefused : Report → Device (List Entry) → ℕ → RunArgs → Type 0
+AreRefused report files faults args = AreRefusedBy files faults args.file args.probes report

@@ -1,9 +1,9 @@
 //! What the statuses say together: they leave no way round a good program or a trace, nor round a text that is none. The
 //! calls do nothing.
-ghost use Rattle.std.specs.Prelude.{◌≡◌, ◌⊎◌, ℕ, ℤ, List, Some, None, Ok, true};
+ghost use Rattle.std.specs.Prelude.{◌≡◌, ◌⊎◌, ℕ, ℤ, List, Some, Ok, true};
+ghost use Rattle.commit_book.specs.Book.{BookView};
+ghost use Rattle.flat_program.specs.Flat.{IsFlat};
 ghost use Rattle.plain_language.specs.Plain.{PlainState};
-ghost use Rattle.plain_run.specs.Book.{Book};
-ghost use Rattle.plain_run.specs.Sequential.{IsSequential};
 ghost use Rattle.probe_text.specs.declared.fault.ProbesFault.{ProbesFault};
 ghost use Rattle.stab_code.specs.Program.{ProgramParts};
 ghost use Rattle.stab_journal.specs.Journal.{IsValid, Journal};
@@ -24,19 +24,20 @@ ghost use Rattle.stab_top.specs.Reading.{probes_form, program_form, trace_form};
 ghost use Rattle.stab_top.specs.declared.report.Role.TheVariants.{Probes as ProbesFile, Program as ProgramFile, Trace as TraceFile};
 ghost use Rattle.stab_top.specs.declared.report.Status.TheVariants.{Done as DoneStatus, NoMemory as NoMemoryStatus};
 
-/// Where the words ask for a run that is built, and the files tell that the text of a program whose only act is `print` is
-/// held within the limit under its name, the run came to its end, or memory was refused, or a fault was counted.
+/// Where the words ask for a run, and the files tell that the text of a program without sections, cuts and pins is held within
+/// the limit under its name, and so is the script that the words name, the run came to its end, or memory was refused, or a
+/// fault was counted.
 pub fn good_programs_run()
-    ensures { (words : List (List ℕ)) (c : Call) (args : Args) (bytes : List ℕ) (program : ProgramParts) → Says words c →
-        asked words ≡ Ok (Run args) → args.probes ≡ None → IsHeld ProgramFile c args.file bytes → IsTextOf bytes program →
-        IsSequential program → Ran (status_of c) ⊎ CountedFault c }
+    ensures { (words : List (List ℕ)) (c : Call) (args : Args) (bytes : List ℕ) (program : ProgramParts)
+        (script : List ℤ) → Says words c → asked words ≡ Ok (Run args) → IsHeld ProgramFile c args.file bytes →
+        IsTextOf bytes program → IsScriptFor c args.probes script → IsFlat program → Ran (status_of c) ⊎ CountedFault c }
 {}
 
 /// The same where the words ask for the trace of a run.
 pub fn good_programs_are_traced()
-    ensures { (words : List (List ℕ)) (c : Call) (args : Args) (bytes : List ℕ) (program : ProgramParts) → Says words c →
-        asked words ≡ Ok (Trace args) → args.probes ≡ None → IsHeld ProgramFile c args.file bytes → IsTextOf bytes program →
-        IsSequential program → Ran (status_of c) ⊎ CountedFault c }
+    ensures { (words : List (List ℕ)) (c : Call) (args : Args) (bytes : List ℕ) (program : ProgramParts)
+        (script : List ℤ) → Says words c → asked words ≡ Ok (Trace args) → IsHeld ProgramFile c args.file bytes →
+        IsTextOf bytes program → IsScriptFor c args.probes script → IsFlat program → Ran (status_of c) ⊎ CountedFault c }
 {}
 
 /// Where the words ask for a check, and the files tell that the text of a program is held within the limit under its name,
@@ -57,12 +58,13 @@ pub fn traces_are_judged()
         WasJudged c program script bytes ⊎ CountedFault c }
 {}
 
-/// Where the words ask for a verdict without a script, and the files tell that the program and the trace of a run of it, as `run`
+/// Where the words ask for a verdict, and the files tell that the program, the script and the trace of a run of these, as `run`
 /// and `trace` make one, are held within their limits, the verdict is yes, or memory was refused, or a fault was counted.
 pub fn traces_of_runs_pass()
-    ensures { (ran : Args) (program : ProgramParts) (book : Book) (state : PlainState) (words : List (List ℕ)) (c : Call)
-        (args : VerifyArgs) (text : List ℕ) → IsRunOf ran program book state → IsValid book.history → Says words c →
-        asked words ≡ Ok (Verify args) → IsHeld ProgramFile c args.file text → IsTextOf text program → args.probes ≡ None →
+    ensures { (ran : Args) (program : ProgramParts) (script : List ℤ) (book : BookView) (state : PlainState)
+        (words : List (List ℕ)) (c : Call) (args : VerifyArgs) (text : List ℕ) → IsRunOf ran program script book state →
+        IsValid book.history → Says words c → asked words ≡ Ok (Verify args) → IsHeld ProgramFile c args.file text →
+        IsTextOf text program → IsScriptFor c args.probes script →
         IsHeld TraceFile c args.trace (trace book.history) →
         ((status_of c ≡ DoneStatus) ⊎ (status_of c ≡ NoMemoryStatus)) ⊎ CountedFault c }
 {}
@@ -75,7 +77,15 @@ pub fn bad_texts_are_refused()
         IsRefused program_form c fault ⊎ CountedFault c }
 {}
 
-/// The same of a probe file that a verdict asks for, where there is a program.
+/// The same of a probe file that a run or its trace asks for, where there is a program.
+pub fn bad_probes_stop_runs()
+    ensures { (words : List (List ℕ)) (c : Call) (args : Args) (text name bytes : List ℕ) (program : ProgramParts)
+        (fault : ProbesFault) → Says words c → (asked words ≡ Ok (Run args)) ⊎ (asked words ≡ Ok (Trace args)) →
+        IsHeld ProgramFile c args.file text → IsTextOf text program → args.probes ≡ Some name →
+        IsHeld ProbesFile c name bytes → probes_form.HasFault bytes fault → IsRefused probes_form c fault ⊎ CountedFault c }
+{}
+
+/// The same of a probe file that a verdict asks for.
 pub fn bad_probes_are_refused()
     ensures { (words : List (List ℕ)) (c : Call) (args : VerifyArgs) (text name bytes : List ℕ) (program : ProgramParts)
         (fault : ProbesFault) → Says words c → asked words ≡ Ok (Verify args) →

@@ -14,6 +14,8 @@ mod running;
 mod tests;
 #[cfg(test)]
 mod text_tests;
+#[cfg(test)]
+mod thread_tests;
 mod top;
 #[cfg(test)]
 mod trace_tests;
@@ -25,7 +27,7 @@ mod words;
 mod writing;
 
 pub use laws::{
-    bad_probes_are_refused, bad_texts_are_refused, bad_traces_are_refused,
+    bad_probes_are_refused, bad_probes_stop_runs, bad_texts_are_refused, bad_traces_are_refused,
     good_programs_are_traced, good_programs_check, good_programs_run, traces_are_judged,
     traces_of_runs_pass,
 };

@@ -4,7 +4,7 @@ ghost use Rattle.stab_code.specs.Limits.{max_script};
 ghost use Rattle.stab_text.specs.Text.{IsTextOf};
 ghost use Rattle.stab_top.specs.Device.{device};
 ghost use Rattle.stab_top.specs.Loading.{max_bytes};
-ghost use Rattle.stab_top.specs.Reading.{BytesRefused, Holds, ReadRefused, probes_form, program_form, trace_form};
+ghost use Rattle.stab_top.specs.Reading.{AreGiven, AreRefused, BytesRefused, Holds, ReadRefused, probes_form, program_form, trace_form};
 ghost use Rattle.stab_top.specs.declared.report.Role.TheVariants.{Probes as ProbesFile, Program as ProgramFile, Trace as TraceFile};
 
 use crate::loading::load;
@@ -14,6 +14,7 @@ use stab_code::Program;
 use stab_files::Files;
 use stab_journal::History;
 use stab_text::read_program;
+use stab_words::RunArgs;
 use std::alloc::Global;
 use trace_text::{TraceFault, read_trace};
 
@@ -75,6 +76,31 @@ fn probes_of(alloc: Global, bytes: &[u8]) -> Result<Vec<i64>, Report>
         Err(ProbesFault::NoMemory) => Err(Report::bare(Status::NoMemory)),
         Err(fault) => Err(Report::bad_probes(fault)),
     }
+}
+
+/// A program with the numbers that its probes get.
+#[derive(Drop)]
+pub struct Given {
+    pub program: Program,
+    pub script: Vec<i64>,
+}
+
+/// The program and the script of a run, or the report of a call that can't have them. Without a probe file the script is empty.
+pub fn read_run<F: Files>(alloc: Global, args: &RunArgs, files: &mut F) -> Result<Given, Report>
+    ensures ok { IfOk result (λ given. AreGiven (device F.held F.faults files.old) (F.faults files.new) args.now given.program given.script.items) }
+    ensures few { IfOk result (λ given. length given.script.items ≤ max_script) }
+    ensures err { IfErr result (λ report. AreRefused report (device F.held F.faults files.old) (F.faults files.new) args.now) }
+    ensures kept { F.held files.new ≡ F.held files.old }
+{
+    let program = read_program_file(alloc, files, args.file.as_str())?;
+    let Some(file) = &args.probes else {
+        return Ok(Given {
+            program,
+            script: Vec::new(alloc),
+        });
+    };
+    let script = read_probes_file(alloc, files, file.as_str())?;
+    Ok(Given { program, script })
 }
 
 /// The history of a trace, or the report of a call that can't have it.

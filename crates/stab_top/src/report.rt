@@ -5,7 +5,7 @@ ghost use Rattle.stab_top.specs.Reading.{Blames};
 ghost use Rattle.stab_top.specs.Reason.{blame_of, blames_file, blames_probes, blames_text, blames_trace, blames_words, names_verdict, no_blame, role_name, status_name, status_number};
 ghost use Rattle.stab_top.specs.declared.report.Status.TheVariants.{BadProbes as BadProbesStatus, BadText as BadTextStatus, BadTrace as BadTraceStatus, BadWords as BadWordsStatus};
 
-use plain_run::Book;
+use commit_book::Book;
 use probe_text::ProbesFault;
 use stab_text::TextFault;
 use stab_words::WordFault;

@@ -1,16 +1,24 @@
 //! Runs a program to its end, and writes what it shows or its trace.
-ghost use Rattle.std.specs.Prelude.{◌≡◌, Some, IfOk, IfErr};
-ghost use Rattle.plain_language.specs.Shown.{shown};
-ghost use Rattle.plain_run.specs.Book.{IsOver};
-ghost use Rattle.plain_run.specs.Sequential.{IsSequential};
+ghost use Rattle.std.specs.Prelude.{◌≡◌, ◌≤◌, ◌+◌, Some, length, nat_eq, if◌then◌else◌, IfOk, IfErr};
+ghost use Rattle.stab_code.specs.JobParts.{job_of};
+ghost use Rattle.stab_code.specs.Limits.{max_script};
 ghost use Rattle.stab_code.specs.Valid.{IsValid};
 ghost use Rattle.stab_words.specs.Within.{IsRunWithin};
-ghost use Rattle.stab_top.specs.Ending.{EndSays, IsRunOf, IsUnrun, RestSays, RunEnds, outcome_of, shown_by, trace_by};
+ghost use Rattle.commit_book.specs.Book.{IsAtStart};
+ghost use Rattle.commit_book.specs.Counts.{faulted_in, in_state};
+ghost use Rattle.thread_slots.specs.declared.state.State.TheVariants.{Parked};
+ghost use Rattle.stab_top.specs.declared.report.Status.TheVariants.{Done as IsDone, Held as IsHeld};
+ghost use Rattle.stab_top.specs.Ending.{HasRun, IsUnrun, WritesOf, RunEnds, outcome_of, shown_by, trace_by};
 ghost use Rattle.stab_top.specs.Reason.{blame_of, no_blame};
+ghost use Rattle.flat_program.specs.Flat.{IsFlat};
 
+use crate::reading::Given;
 use crate::report::{Report, Status};
 use crate::writing::put_lines;
-use plain_run::{Book, is_sequential};
+use book_text::shown_text;
+use commit_book::Book;
+use flat_program::is_flat;
+use lone_worker::{RunEnd, run};
 use stab_base::NoMemory;
 use stab_code::{Job, Program};
 use stab_files::{Sink, SinkFail};
@@ -19,99 +27,117 @@ use std::alloc::Global;
 use std::sync::Arc;
 use trace_text::{TraceWriteFault, write_trace};
 
-/// Runs the program, where its only act is `print`, and writes what it shows.
-pub fn run_program<K: Sink>(alloc: Global, args: &RunArgs, program: Program, sink: &mut K) -> Report
+/// Runs the program, where all its acts are built, and writes what it shows.
+pub fn run_program<K: Sink>(alloc: Global, args: &RunArgs, given: Given, sink: &mut K) -> Report
     requires within { IsRunWithin args.now.workers args.now.fuel args.now.quantum }
-    ensures { RunEnds shown_by result.status args.now program (outcome_of K.told K.faults sink.old sink.new result) }
+    requires few { length given.script.items ≤ max_script }
+    ensures { RunEnds shown_by result.status args.now given.program given.script.items (outcome_of K.told K.faults sink.old sink.new result) }
 {
-    let book = match run_over(alloc, args, program) {
-        Ok(book) => book,
+    let over = match run_over(alloc, args, given) {
+        Ok(over) => over,
         Err(status) => return Report::bare(status),
     };
-    match book.shown_text(alloc) {
-        Ok(text) => write_shown(book, &text, sink),
+    match shown_text(alloc, &over.book) {
+        Ok(text) => write_shown(over, &text, sink),
         Err(NoMemory) => Report::bare(Status::NoMemory),
     }
 }
 
-/// Runs the program, where its only act is `print`, and writes the trace of the run.
-pub fn trace_program<K: Sink>(
-    alloc: Global,
-    args: &RunArgs,
-    program: Program,
-    sink: &mut K,
-) -> Report
+/// Runs the program, where all its acts are built, and writes the trace of the run.
+pub fn trace_program<K: Sink>(alloc: Global, args: &RunArgs, given: Given, sink: &mut K) -> Report
     requires within { IsRunWithin args.now.workers args.now.fuel args.now.quantum }
-    ensures { RunEnds trace_by result.status args.now program (outcome_of K.told K.faults sink.old sink.new result) }
+    requires few { length given.script.items ≤ max_script }
+    ensures { RunEnds trace_by result.status args.now given.program given.script.items (outcome_of K.told K.faults sink.old sink.new result) }
 {
-    let book = match run_over(alloc, args, program) {
-        Ok(book) => book,
+    let Over { status, book } = match run_over(alloc, args, given) {
+        Ok(over) => over,
         Err(status) => return Report::bare(status),
     };
     match write_trace(alloc, book.history(), sink) {
-        Ok(()) => finish(book),
+        Ok(()) => Report::ending(status, book),
         Err(TraceWriteFault::Sink) => Report::ending(Status::SinkFault, book),
         Err(TraceWriteFault::NoMemory) => Report::bare(Status::NoMemory),
     }
 }
 
-// The book of a run that is over, or the status of a call that can't make one.
-fn run_over(alloc: Global, args: &RunArgs, program: Program) -> Result<Book, Status>
+// The book of a run that is over, and how it ended.
+#[derive(Drop)]
+struct Over {
+    status: Status,
+    book: Book,
+}
+
+// A run that is over, or the status of a call that can't make one.
+fn run_over(alloc: Global, args: &RunArgs, given: Given) -> Result<Over, Status>
     requires within { IsRunWithin args.now.workers args.now.fuel args.now.quantum }
-    ensures run { IfOk result (λ b. IsRunOf args.now program b b.state) }
-    ensures over { IfOk result (λ b. IsOver b b.state) }
-    ensures refused { IfErr result (λ status. IsUnrun status program) }
+    requires few { length given.script.items ≤ max_script }
+    ensures run { IfOk result (λ over. HasRun over.status args.now given.program given.script.items over.book) }
+    ensures refused { IfErr result (λ status. IsUnrun status given.program) }
 {
-    if !is_sequential(&program) {
+    if !is_flat(&given.program) {
         return Err(Status::NotBuilt);
     }
-    match whole_run(alloc, args, program) {
-        Ok(book) => Ok(book),
+    match whole_run(alloc, args, given) {
+        Ok(over) => Ok(over),
         Err(NoMemory) => Err(Status::NoMemory),
     }
 }
 
-// The book of a whole run.
-fn whole_run(alloc: Global, args: &RunArgs, program: Program) -> Result<Book, NoMemory>
+// A whole run.
+fn whole_run(alloc: Global, args: &RunArgs, given: Given) -> Result<Over, NoMemory>
     requires within { IsRunWithin args.now.workers args.now.fuel args.now.quantum }
-    requires sequential { IsSequential program }
-    requires valid { IsValid program }
-    ensures run { IfOk result (λ b. IsRunOf args.now program b b.state) }
-    ensures over { IfOk result (λ b. IsOver b b.state) }
+    requires few { length given.script.items ≤ max_script }
+    requires flat { IsFlat given.program }
+    requires valid { IsValid given.program }
+    ensures run { IfOk result (λ over. HasRun over.status args.now given.program given.script.items over.book) }
 {
+    let mut book = begun(alloc, args, given)?;
+    match run(&mut book) {
+        RunEnd::Quiet => {
+            let status = at_rest(&book);
+            Ok(Over { status, book })
+        }
+        RunEnd::Spent => Ok(Over {
+            status: Status::Spent,
+            book,
+        }),
+        RunEnd::NoMemory => Err(NoMemory),
+        RunEnd::NotBuilt => unreachable!(),
+    }
+}
+
+// The book of a run that begins.
+fn begun(alloc: Global, args: &RunArgs, given: Given) -> Result<Book, NoMemory>
+    requires within { IsRunWithin args.now.workers args.now.fuel args.now.quantum }
+    requires few { length given.script.items ≤ max_script }
+    ensures job { IfOk result (λ book. book.job ≡ job_of given.program given.script.items args.now.fuel args.now.quantum) }
+    ensures begins { IfOk result IsAtStart }
+{
+    let Given { program, script } = given;
     let program = Arc::new(alloc, program)?;
-    let job = Job::new(program, Vec::new(alloc), args.fuel, args.quantum);
-    let mut book = Book::new(alloc, job)?;
-    book.run(alloc)?;
-    Ok(book)
+    let job = Job::new(program, script, args.fuel, args.quantum);
+    Book::new(alloc, job)
+}
+
+// Held where a thread failed or waits, and else Done.
+fn at_rest(book: &Book) -> Status
+    ensures { result ≡ (if nat_eq (faulted_in book.now.job.program book.now.threads book.now.next.thread + in_state Parked book.now) 0 then IsDone else IsHeld) }
+{
+    let counts = book.counts();
+    if counts.faulted > 0 || counts.parked > 0 {
+        return Status::Held;
+    }
+    Status::Done
 }
 
 // Writes what a run that is over shows.
-fn write_shown<K: Sink>(book: Book, text: &[u8], sink: &mut K) -> Report
-    requires text { text.now ≡ shown book.job.program book.state }
-    requires over { IsOver book book.state }
-    ensures book { result.book ≡ Some book }
+fn write_shown<K: Sink>(over: Over, text: &[u8], sink: &mut K) -> Report
+    ensures book { result.book ≡ Some over.book }
     ensures blame { blame_of result ≡ no_blame }
-    ensures end { EndSays result.status book book.state text.now (outcome_of K.told K.faults sink.old sink.new result) }
+    ensures end { WritesOf over.status result.status text.now (outcome_of K.told K.faults sink.old sink.new result) }
 {
     match put_lines(sink, text) {
-        Ok(()) => finish(book),
-        Err(SinkFail::Failed) => Report::ending(Status::SinkFault, book),
+        Ok(()) => Report::ending(over.status, over.book),
+        Err(SinkFail::Failed) => Report::ending(Status::SinkFault, over.book),
     }
-}
-
-// The report of a run that is over, whose text was written.
-fn finish(book: Book) -> Report
-    requires over { IsOver book book.state }
-    ensures book { result.book ≡ Some book }
-    ensures blame { blame_of result ≡ no_blame }
-    ensures status { RestSays result.status book book.state }
-{
-    if !book.is_quiet() {
-        return Report::ending(Status::Spent, book);
-    }
-    if book.is_done() {
-        return Report::ending(Status::Done, book);
-    }
-    Report::ending(Status::Held, book)
 }

@@ -40,8 +40,11 @@ fn runs_that_fail(rt: HostRuntime) -> Result<(), Fail> {
 }
 
 const UNBUILT: &str = "\
-fn f(): unit { () } fn main(): unit { spawn f(); } -> 14 stab: NotBuilt/\n\
-fn unused(): int { probe() } fn main(): unit { print(1) } -> 14 stab: NotBuilt/\n\
+fn f(): unit { () } fn main(): unit { stable f() } -> 14 stab: NotBuilt/\n\
+fn unused(): unit { stabilize() } fn main(): unit { print(1) } -> 14 stab: NotBuilt/\n\
+fn unused(): unit { cut() } fn main(): unit { print(1) } -> 14 stab: NotBuilt/\n\
+fn unused(): unit { pin() } fn main(): unit { print(1) } -> 14 stab: NotBuilt/\n\
+fn unused(): int { attempt() } fn main(): unit { print(1) } -> 14 stab: NotBuilt/\n\
 ";
 
 #[test]
@@ -122,15 +125,15 @@ fn load_fails(rt: HostRuntime) -> Result<(), Fail> {
 }
 
 #[test]
-fn fifty_thousand_prints(rt: HostRuntime) -> Result<(), Fail> {
+fn ten_thousand_prints(rt: HostRuntime) -> Result<(), Fail> {
     let alloc = rt.alloc();
     let program =
-        b"fn f(n: int): unit { if n == 0 { () } else { print(7); f(n - 1) } } fn main(): unit { f(50000) }";
+        b"fn f(n: int): unit { if n == 0 { () } else { print(7); f(n - 1) } } fn main(): unit { f(10000) }";
     let trial = Trial::new(&rt, alloc, "run p", program, [&[], &[]])?;
-    let shown = repeated(alloc, b"", b"7\n", 50_000, b"ended 1 faulted 0 waiting 0\n")?;
+    let shown = repeated(alloc, b"", b"7\n", 10_000, b"ended 1 faulted 0 waiting 0\n")?;
     assert_eq!(rt; trial.written, shown);
     // Each print is an event, and so are the steps before it and those at the end.
-    assert_eq!(rt; trial.events(alloc)?.len(), 100_001);
+    assert_eq!(rt; trial.events(alloc)?.len(), 20_001);
     Ok(())
 }
 

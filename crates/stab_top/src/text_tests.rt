@@ -81,9 +81,8 @@ fn check_and_size(rt: HostRuntime) -> Result<(), Fail> {
     answers(&rt, alloc, "check p", &tokens, "0 ok functions 1 texts 0/")
 }
 
-const REQUEST: &[u8] =
-    b"fn server(c: chan[(int, chan[int])]): unit { let q = recv(c); send(snd(q), fst(q) * 2) } \
-fn main(): unit { let c = chan[(int, chan[int])](); let r = chan[int](); spawn server(c); send(c, (21, r)); print(recv(r)) }";
+const UNBUILT: &[u8] =
+    b"fn try_read(): int { let p = probe(); if p < 0 { stabilize() } else { p } } fn main(): unit { stable try_read(); }";
 
 #[test]
 fn what_is_checked_may_be_not_built(rt: HostRuntime) -> Result<(), Fail> {
@@ -93,7 +92,7 @@ fn what_is_checked_may_be_not_built(rt: HostRuntime) -> Result<(), Fail> {
         ("check p", 1, "7 stab: SinkFault/"),
         ("run p", 1, "14 stab: NotBuilt/"),
     ] {
-        let trial = Trial::new(&rt, alloc, words, REQUEST, [&[], &[failing]])?;
+        let trial = Trial::new(&rt, alloc, words, UNBUILT, [&[], &[failing]])?;
         is_answer(alloc, words, &trial.answer(alloc)?, expected)?;
     }
     let texts = b"fn f(): text { \"a\" } fn main(): unit { print(\"b\"); print(\"a\") }";

@@ -8,7 +8,7 @@ ghost use Rattle.stab_top.specs.Words.{is_built};
 
 use crate::checking::check_program;
 use crate::judging::judge;
-use crate::reading::{read_probes_file, read_program_file, read_trace_file};
+use crate::reading::{read_probes_file, read_program_file, read_run, read_trace_file};
 use crate::report::{Gate, Report, Status};
 use crate::running::{run_program, trace_program};
 use crate::words::is_built;
@@ -74,20 +74,20 @@ fn answer_request<F: Files, K: Sink>(
     }
 }
 
-// Runs the program of a file, and writes what it shows.
+// Runs the program of a file with a script, and writes what it shows.
 fn run_file<F: Files, K: Sink>(alloc: Global, args: &RunArgs, files: &mut F, sink: &mut K) -> Report
     requires { IsRunWithin args.now.workers args.now.fuel args.now.quantum }
     ensures says { RunSays shown_by (call_of F.held F.faults files.old files.new
         (outcome_of K.told K.faults sink.old sink.new result)) args.now }
     ensures kept { F.held files.new ≡ F.held files.old }
 {
-    match read_program_file(alloc, files, args.file.as_str()) {
-        Ok(program) => run_program(alloc, args, program, sink),
+    match read_run(alloc, args, files) {
+        Ok(given) => run_program(alloc, args, given, sink),
         Err(report) => report,
     }
 }
 
-// Runs the program of a file, and writes the trace.
+// Runs the program of a file with a script, and writes the trace.
 fn trace_file<F: Files, K: Sink>(
     alloc: Global,
     args: &RunArgs,
@@ -99,8 +99,8 @@ fn trace_file<F: Files, K: Sink>(
         (outcome_of K.told K.faults sink.old sink.new result)) args.now }
     ensures kept { F.held files.new ≡ F.held files.old }
 {
-    match read_program_file(alloc, files, args.file.as_str()) {
-        Ok(program) => trace_program(alloc, args, program, sink),
+    match read_run(alloc, args, files) {
+        Ok(given) => trace_program(alloc, args, given, sink),
         Err(report) => report,
     }
 }

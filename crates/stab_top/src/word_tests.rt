@@ -59,6 +59,8 @@ verify p q -> 4 stab: NoFile trace/\n\
 verify p q --probes q -> 4 stab: NoFile probes/\n\
 verify p p --probes p -> 10 stab: BadProbes Line 0/\n\
 verify p p -> 11 stab: BadTrace NoEnd/\n\
+run p --probes q -> 4 stab: NoFile probes/\n\
+trace p --probes q -> 4 stab: NoFile probes/\n\
 ";
 
 #[test]
@@ -67,8 +69,6 @@ fn refused_words(rt: HostRuntime) -> Result<(), Fail> {
 }
 
 const UNBUILT: &str = "\
-run p --probes q -> 14 stab: NotBuilt/\n\
-trace p --probes q -> 14 stab: NotBuilt/\n\
 drill p s -> 14 stab: NotBuilt/\n\
 mill 5 -> 14 stab: NotBuilt/\n\
 types p -> 14 stab: NotBuilt/\n\

@@ -1,0 +1,5 @@
+pub mod Contents
+pub mod Written
+pub mod Scanning
+pub mod Bodies
+pub mod Going

@@ -1,0 +1,3 @@
+pub mod Flat
+pub mod Contents
+pub mod Calm

@@ -1,9 +1,0 @@
-pub mod Alone
-pub mod Book
-pub mod Calm
-pub mod Commit
-pub mod Contents
-pub mod Ending
-pub mod Keeping
-pub mod Making
-pub mod Sequential
