@@ -134,6 +134,7 @@ fn releases_at_each_cut(rt: HostRuntime) -> Result<(), Fail> {
 +print 1,+local 1 1,+cut 1,+local 1 1,+print 1,+local 1 1,+cut 1,=release 2 -> yes\n\
 +print 1,+local 1 1,+cut 1,=release 1,+local 1 1,+print 1,+local 1 1,+cut 1,=release 1 -> no 9 WrongRelease\n\
 +print 1,+local 1 1,+cut 1,=release 1,+local 1 1,+print 1,=release 2 -> no 7 WrongRelease\n\
++print 1,+local 1 1,+cut 1,+local 1 1,+print 1,+local 1 1,+cut 1,=release 1 -> no 8 WrongRelease\n\
 ";
     verdicts(alloc, cuts, &[], rows)?;
     let first_header = b"stab trace 1\n+ 1 w64 print 1\n- 2 w2 local 1 1\nend 2\n";

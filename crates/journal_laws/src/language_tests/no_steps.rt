@@ -93,7 +93,7 @@ fn no_step_of_its_own(rt: HostRuntime) -> Result<(), Fail> {
     Ok(())
 }
 
-// Thread 1 reads or writes a reference that isn't there.
+// Thread 1 reads or writes a reference that isn't there, and another one is.
 #[test]
 fn no_such_reference(rt: HostRuntime) -> Result<(), Fail> {
     let alloc = rt.alloc();
@@ -104,9 +104,13 @@ fn no_such_reference(rt: HostRuntime) -> Result<(), Fail> {
             parts.push(Expr::value(Value::reference(RefId(1))))?;
         }
         let threads = vec![in alloc; (ThreadId(1), Expr::form(head, parts))]?;
-        let none = (Vec::new(alloc), Vec::new(alloc), Vec::new(alloc));
-        let mut state = PlainState::from_parts(alloc, &program, threads, none.0, none.1, none.2)?;
+        let references = vec![in alloc; (RefId(2), Value::int(5))]?;
+        let none = (Vec::new(alloc), Vec::new(alloc));
+        let mut state = PlainState::from_parts(
+            alloc, &program, threads, none.0, references, none.1,
+        )?;
         expect_none(&rt, alloc, &mut state, KINDS, "")?;
+        expect_none(&rt, alloc, &mut state, "get 1 2; set 1 2", "")?;
     }
     Ok(())
 }
