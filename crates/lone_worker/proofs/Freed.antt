@@ -41,6 +41,17 @@ use Rattle.lone_worker.specs.Turn.{IsAdvanced, IsHeldAs, IsLentAlone}
 use Rattle.commit_book.proofs.Holding.{ended_not_leased, none_counted, parked_not_leased, ready_not_leased}
 use Rattle.lone_worker.proofs.Moving.{Says, row_says}
 
+-- who comes to the tail of a queue stands there
+pub comes_last : (queue : List ℕ) (kept : ℕ → Bool) (tail : List ℕ) (u : ℕ) → is_listed u tail ≡ true → kept u ≡ true → is_listed u (queue ++ filter kept tail) ≡ true
+comes_last queue kept tail u comes keeps =
+    list_any-append (nat_eq u) queue (filter kept tail)
+    ∙ ap (λ b. is_listed u queue || b) (any-filter_same (nat_eq u) kept true (λ k same. ap kept (sym (eqb-true u k same)) ∙ keeps) tail ∙ comes)
+    ∙ or_true (is_listed u queue)
+  where
+    or_true : (b : Bool) → (b || true) ≡ true
+    or_true true = refl
+    or_true false = refl
+
 -- who is in another state has no lease
 in_other : (threads : FinMap nat_cmp (Slot ControlView)) (u : ℕ) (st : State) → ((s : State) → same_state st s ≡ true → same_state Leased s ≡ false) → is_in st threads u ≡ true → is_in Leased threads u ≡ false
 in_other threads u st other is =
@@ -91,16 +102,7 @@ module _ (lent new : BookView) (lease : LeaseView) (control : ControlView) (prog
   -- ---- who moved
 
   in_queue : (u : ℕ) → is_listed u (movers t row) ≡ true → is_in Ended new.threads u ≡ false → is_listed u new.queue ≡ true
-  in_queue u mover alive =
-      ap (is_listed u) moved.queue
-      ∙ list_any-append (nat_eq u) (without t lent.queue) (filter kept (movers t row))
-      ∙ ap (λ b. is_listed u (without t lent.queue) || b)
-      (any-filter_same (nat_eq u) kept true (λ k same. ap kept (sym (eqb-true u k same)) ∙ ap not alive) (movers t row) ∙ mover)
-      ∙ or_true (is_listed u (without t lent.queue))
-    where
-      or_true : (b : Bool) → (b || true) ≡ true
-      or_true true = refl
-      or_true false = refl
+  in_queue u mover alive = ap (is_listed u) moved.queue ∙ comes_last (without t lent.queue) kept (movers t row) u mover (ap not alive)
 
   moved_free : (u : ℕ) → is_listed u (movers t row) ≡ true → is_in Leased new.threads u ≡ false
   moved_free u mover = by (is_in Ended new.threads u) refl

@@ -4,3 +4,10 @@ pub mod Freed
 pub mod Nearing
 pub mod Ending
 pub mod Turning
+pub mod PureSteps
+pub mod OneAtMost
+pub mod OneDesk
+pub mod LeftByTurn
+pub mod OneTurn
+pub mod OneStart
+pub mod OneRun

@@ -1,2 +1,4 @@
 pub mod Turn
+pub mod Desk
 pub mod Running
+pub mod Solo

@@ -17,6 +17,7 @@ use Rattle.commit_book.specs.Counts.{in_state}
 use Rattle.commit_book.specs.Turns.{CanRest, IsTurn}
 use Rattle.lone_worker.specs.declared.worker.RunEnd.{RunEnd}
 use Rattle.lone_worker.specs.declared.worker.RunEnd.TheVariants.{Quiet, Spent, NoMemory, NotBuilt}
+use Rattle.lone_worker.specs.Desk.{IsUnlent}
 use Rattle.lone_worker.specs.Turn.{IsTurnOf, worker}
 
 -- the job stays, what happened before stays as it was, and what came is the one worker's
@@ -26,10 +27,10 @@ pub record IsLater (old new : BookView) : Type 0 where
   pub events : new.history.events ≡ old.history.events ++ added
   pub by_one : AllByRecursion (λ (e : Event). e.worker ≡ worker) added
 
--- turns, one after another
+-- turns, one after another; after each the book shows its history, and nobody has a lease
 pub data AreTurns : BookView → BookView → Type 0 where
   none : {book : BookView} → AreTurns book book
-  one_more : {old between new : BookView} → AreTurns old between → IsTurnOf between new → AreTurns old new
+  one_more : {old between new : BookView} → AreTurns old between → IsTurnOf between new → IsUnlent new → AreTurns old new
 
 -- an act that isn't built yet
 abbrev pub is_unbuilt : Look Expr → Bool

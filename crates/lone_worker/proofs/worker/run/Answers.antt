@@ -21,6 +21,6 @@ loop-end-smaller c = c.in_default.ensures.nearer
 pub loop-end-preserved : goal.loop-end-preserved
 loop-end-preserved c = record {
   later = later_both c.args.book.now c.loop-end.book c.turn.new.book c.loop-end.invariant.later c.in_default.ensures.later;
-  turns = one_more c.loop-end.invariant.turns c.in_default.ensures.turned;
+  turns = one_more c.loop-end.invariant.turns c.in_default.ensures.turned (record { shown = c.turn.ensures.shown; free = c.in_default.ensures.free });
   free = c.in_default.ensures.free;
 }

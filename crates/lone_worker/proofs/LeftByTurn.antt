@@ -1,0 +1,166 @@
+-- What a turn leaves of a book in which nobody has a lease.
+use Rattle.std.proofs.Common.{◌≡◌, ℕ, Bool, true, false, cond, not, ◌||◌, nat_eq, List, ◌++◌, filter, Option, Some, None, refl, sym, ap, subst, ◌∙◌}
+use Rattle.std.specs.Prelude.{IfSome, option_and_then, option_map, slice_get}
+use Rattle.std.specs.List.{IsDistinct}
+use Rattle.std.specs.Option.{option_map_or}
+use Rattle.std.specs.FinMap as map
+use Rattle.std.proofs.lemmas.Bool.{false≢true}
+use Rattle.linked_lists.specs.Lists.{is_listed, without}
+use Rattle.stab_code.specs.Program.{ProgramParts}
+use Rattle.stab_journal.specs.declared.event.Event.{Event}
+use Rattle.thread_slots.specs.declared.state.State.TheVariants.{Ready, Leased, Parked, Ended}
+use Rattle.thread_slots.specs.Slot.{Slot, same_state, is_in}
+use Rattle.rendezvous.specs.declared.offer.Offer.{Offer}
+use Rattle.rendezvous.specs.Line.{Line, LineBacked, offered as passes}
+use Rattle.rendezvous.specs.Offer.{receives_on, sends_on}
+use Rattle.plain_language.specs.Expression.{Expr}
+use Rattle.plain_language.specs.Plain.{language_of}
+use Rattle.plain_language.specs.Table.{pure_steps}
+use Rattle.step_eval.specs.ControlView.{ControlView, expr_of}
+use Rattle.step_eval.specs.Progress.{ProgressView}
+use Rattle.commit_book.specs.Book.{BookView, offered}
+use Rattle.commit_book.specs.Commits.{IsMoved, events_by, line_after, row_at}
+use Rattle.commit_book.specs.Doing.{waits_with}
+use Rattle.commit_book.specs.Rows.{Row, local_of, movers, steps_of}
+use Rattle.commit_book.specs.Turns.{IsLent, leased}
+use Rattle.commit_book.proofs.Choosing.{chosen_front, found_in}
+use Rattle.commit_book.proofs.Lending.{get-changed}
+use Rattle.commit_book.proofs.Partners.{IsThere, parked_not_ended, parked_not_ready, there_of}
+use Rattle.lone_worker.specs.Desk.{IsUnlent, seat_of}
+use Rattle.lone_worker.specs.Turn.{IsTurnOf, IsWorked, worker}
+use Rattle.lone_worker.proofs.Ending.{made_of, moved_of}
+use Rattle.lone_worker.proofs.Freed.{comes_last}
+use Rattle.lone_worker.proofs.OneAtMost.{HasOnly}
+use Rattle.lone_worker.proofs.PureSteps.{MakesAll}
+
+-- who isn't parked waits with nothing
+unparked : {C : Type 0} (offer_of : C → Option Offer) (o : Option (Slot C)) → (option_map_or (λ (slot : Slot C). same_state Parked slot.state) o false ≡ true → ⊥) → option_and_then (waits_with offer_of) o ≡ None
+unparked offer_of None not_so = refl
+unparked {C} offer_of (Some slot) not_so = by (same_state Parked slot.state) refl
+  where
+    by : (b : Bool) → same_state Parked slot.state ≡ b → cond b (offer_of slot.control) None ≡ None
+    by true at = absurd (not_so at)
+    by false at = refl
+
+module _ (a x : BookView) (unlent : IsUnlent a) (after : IsUnlent x) (turn : IsTurnOf a x) where
+  abbrev pub t : ℕ
+  t = turn.lease.thread
+
+  abbrev p : ProgramParts
+  p = a.job.program
+
+  pub here : IsThere (map.get a.threads t) (IsLent a worker turn.lease turn.control)
+  here = there_of (map.get a.threads t) (IsLent a worker turn.lease turn.control) turn.leases.1
+
+  pub works : IsWorked (leased a t) x turn.lease turn.control
+  works = subst (λ (b : BookView). IsWorked b x turn.lease turn.control) turn.leases.2 turn.works
+
+  abbrev pub progress : ProgressView
+  progress = works.progress
+
+  abbrev pub stood : Expr
+  stood = expr_of p here.value.control
+
+  abbrev pub end : Expr
+  end = expr_of p progress.end
+
+  abbrev pub row : Row
+  row = row_at (leased a t) turn.lease progress
+
+  moved : IsMoved (leased a t) (record x { answered = a.answered }) turn.lease.worker t progress.steps row
+  moved =
+      let m = moved_of (leased a t) x turn.lease progress works.done works.made (made_of (leased a t) x turn.lease progress works.done works.made works.commits) in
+      m.moved
+
+  -- it is the thread that is ready longest, which makes as many pure steps as it may
+  pub front : slice_get a.queue 0 ≡ Some t
+  front = chosen_front a (record { 0 = t }) turn.leases.0
+
+  pub seat : option_map (seat_of p) (map.get a.threads t) ≡ Some (seat_of p here.value)
+  seat = ap (option_map (seat_of p)) here.found
+
+  pub makes : MakesAll (language_of p) a.job.quantum stood progress.steps end
+  makes = record {
+    made = ap (λ c. pure_steps (language_of p) progress.steps (expr_of p c)) (sym here.is.control ∙ sym works.advances.origin) ∙ works.advances.made.made;
+    within = works.advances.within;
+    stops = works.advances.stops;
+  }
+
+  -- what is left
+  pub job_left : x.job ≡ a.job
+  job_left = moved.job
+
+  abbrev pub added : List Event
+  added = events_by worker (local_of t progress.steps ++ steps_of t row)
+
+  pub events_left : x.history.events ≡ a.history.events ++ added
+  events_left = ap (λ j. j.events) moved.history ∙ ap (λ w. a.history.events ++ events_by w (local_of t progress.steps ++ steps_of t row)) here.is.worker
+
+  pub queue_left : x.queue ≡ without t (without t a.queue) ++ filter (λ u. not (is_in Ended x.threads u)) (movers t row)
+  queue_left = moved.queue
+
+  pub line_left : (c : ℕ) (line : Line) → map.get a.offers.lines c ≡ Some line → map.get x.offers.lines c ≡ Some (line_after t row c line)
+  line_left c line found = subst (λ (o : Option Line). IfSome o (λ line. map.get x.offers.lines c ≡ Some (line_after t row c line))) found (moved.lines c)
+
+  -- ---- who waits on a channel that wasn't there
+
+  -- who moves doesn't wait
+  not_parked : (u : ℕ) → is_listed u (movers t row) ≡ true → is_in Parked x.threads u ≡ true → ⊥
+  not_parked u mover parked =
+      let f = found_in x.threads u Parked parked in
+      let alive : is_in Ended x.threads u ≡ false = ap (λ o. option_map_or (λ (slot : Slot ControlView). same_state Ended slot.state) o false) f.found ∙ parked_not_ended f.slot.state f.is in
+      let ready : is_in Ready x.threads u ≡ true =
+      sym (after.shown.shows.threads.queue.ready u) ∙ ap (is_listed u) queue_left
+      ∙ comes_last (without t (without t a.queue)) (λ k. not (is_in Ended x.threads k)) (movers t row) u mover (ap not alive)
+      in
+      let unready : is_in Ready x.threads u ≡ false = ap (λ o. option_map_or (λ (slot : Slot ControlView). same_state Ready slot.state) o false) f.found ∙ parked_not_ready f.slot.state f.is in
+      false≢true (sym unready ∙ ready)
+
+  no_offer : (u : ℕ) → is_listed u (movers t row) ≡ true → map.get x.offers.offers u ≡ None
+  no_offer u mover = after.shown.shows.threads.offers.each u ∙ unparked (offered x.job.program) (map.get x.threads u) (not_parked u mover)
+
+  -- who doesn't move offers what it did
+  same_offer : (u : ℕ) → nat_eq u t ≡ false → is_listed u (movers t row) ≡ false → map.get x.offers.offers u ≡ map.get a.offers.offers u
+  same_offer u apart unlisted =
+      let waiting = λ (q : ProgramParts) (o : Option (Slot ControlView)). option_and_then (waits_with (offered q)) o in
+      after.shown.shows.threads.offers.each u
+      ∙ ap (waiting x.job.program)
+      (moved.others u (ap (λ b. b || is_listed u (movers t row)) apart ∙ unlisted)
+      ∙ get-changed a.threads t u (λ (slot : Slot ControlView). record slot { state = Leased })
+      ∙ ap (λ b. cond b (option_map (λ (slot : Slot ControlView). record slot { state = Leased }) (map.get a.threads t)) (map.get a.threads u)) apart)
+      ∙ ap (λ j. waiting j.program (map.get a.threads u)) job_left
+      ∙ sym (unlent.shown.shows.threads.offers.each u)
+
+  -- so another thread than t offers nothing on such a channel
+  pub record OffersNothing (c u : ℕ) : Type 0 where
+    pub sends : passes (sends_on c) (map.get x.offers.offers u) ≡ false
+    pub receives : passes (receives_on c) (map.get x.offers.offers u) ≡ false
+
+  unoffered : (c u : ℕ) → map.get a.offers.lines c ≡ None → nat_eq u t ≡ false → OffersNothing c u
+  unoffered c u none apart = by (is_listed u (movers t row)) refl
+    where
+      by : (b : Bool) → is_listed u (movers t row) ≡ b → OffersNothing c u
+      by true mover = record { sends = ap (passes (sends_on c)) (no_offer u mover); receives = ap (passes (receives_on c)) (no_offer u mover) }
+      by false unlisted =
+          let backed : LineBacked c u (map.get a.offers.offers u) None = subst (LineBacked c u (map.get a.offers.offers u)) none (unlent.shown.shows.threads.offers.lines.backed c u) in
+          record { sends = ap (passes (sends_on c)) (same_offer u apart unlisted) ∙ backed.0; receives = ap (passes (receives_on c)) (same_offer u apart unlisted) ∙ backed.1 }
+
+  -- the line of such a channel has t alone, if anybody
+  pub record IsNewLine (c : ℕ) (l : Line) : Type 0 where
+    pub sends : HasOnly t l.sends
+    pub receives : HasOnly t l.receives
+    pub sender : is_listed t l.sends ≡ passes (sends_on c) (map.get x.offers.offers t)
+    pub receiver : is_listed t l.receives ≡ passes (receives_on c) (map.get x.offers.offers t)
+
+  pub new_line : (c : ℕ) (l : Line) → map.get a.offers.lines c ≡ None → map.get x.offers.lines c ≡ Some l → IsNewLine c l
+  new_line c l none found =
+      let once : IsDistinct nat_eq l.sends × IsDistinct nat_eq l.receives = subst (λ (o : Option Line). IfSome o (λ (k : Line). IsDistinct nat_eq k.sends × IsDistinct nat_eq k.receives)) found (after.shown.shows.threads.offers.lines.once c) in
+      record {
+        sends = record { once = once.0; others = λ u apart. (backed u).0 ∙ (unoffered c u none apart).sends };
+        receives = record { once = once.1; others = λ u apart. (backed u).1 ∙ (unoffered c u none apart).receives };
+        sender = (backed t).0;
+        receiver = (backed t).1;
+      }
+    where
+      backed : (u : ℕ) → LineBacked c u (map.get x.offers.offers u) (Some l)
+      backed u = subst (LineBacked c u (map.get x.offers.offers u)) found (after.shown.shows.threads.offers.lines.backed c u)

@@ -1,0 +1,140 @@
+-- From one desk a turn leaves one desk.
+use Rattle.std.proofs.Common.{◌≡◌, ℕ, not, List, ◌++◌, filter, Option, Some, None, refl, sym, ap, subst, ◌∙◌}
+use Rattle.std.specs.Prelude.{is_some, slice_get}
+use Rattle.std.specs.Cmp.{nat_cmp_total}
+use Rattle.std.specs.FinMap as map
+use Rattle.std.specs.FinMap.{same_map, nat_cmp-IsAntisymmetric}
+use Rattle.std.specs.FinSet as set
+use Rattle.std.proofs.lemmas.Bool.{false≢true}
+use Rattle.linked_lists.specs.Lists.{is_listed, without}
+use Rattle.stab_code.specs.JobParts.{JobParts}
+use Rattle.thread_slots.specs.declared.state.State.TheVariants.{Ended}
+use Rattle.thread_slots.specs.Slot.{is_in}
+use Rattle.rendezvous.specs.Line.{Line, offered as passes}
+use Rattle.rendezvous.specs.Offer.{receives_on, sends_on}
+use Rattle.plain_language.specs.Expression.{Expr}
+use Rattle.plain_language.specs.Plain.{language_of, look_in}
+use Rattle.plain_language.specs.Table.{Look}
+use Rattle.journal_laws.proofs.Surviving.{some_is}
+use Rattle.commit_book.specs.Book.{BookView}
+use Rattle.commit_book.specs.Commits.{events_by, line_after}
+use Rattle.commit_book.specs.Rows.{Row, local_of, movers, row_of, steps_of}
+use Rattle.commit_book.specs.Turns.{leased}
+use Rattle.lone_worker.specs.Desk.{Desk, Seat, IsUnlent, desk_of, seat_of}
+use Rattle.lone_worker.specs.Turn.{IsTurnOf, worker}
+use Rattle.lone_worker.proofs.LeftByTurn as left
+use Rattle.lone_worker.proofs.OneAtMost.{HasOnly, one_list}
+use Rattle.lone_worker.proofs.OneDesk.{each_free, one_desk, one_end, one_ended, one_offer}
+use Rattle.lone_worker.proofs.PureSteps.{AreSame, MakesAll, same_steps}
+
+module _ (a b x y : BookView) (unlent_a : IsUnlent a) (unlent_b : IsUnlent b) (unlent_x : IsUnlent x) (unlent_y : IsUnlent y) (turn_a : IsTurnOf a x) (turn_b : IsTurnOf b y) (same : desk_of a ≡ desk_of b) where
+  abbrev t : ℕ
+  t = left.t a x unlent_a unlent_x turn_a
+
+  abbrev u : ℕ
+  u = left.t b y unlent_b unlent_y turn_b
+
+  abbrev end_a : Expr
+  end_a = left.end a x unlent_a unlent_x turn_a
+
+  abbrev end_b : Expr
+  end_b = left.end b y unlent_b unlent_y turn_b
+
+  abbrev steps_a : ℕ
+  steps_a = (left.progress a x unlent_a unlent_x turn_a).steps
+
+  abbrev steps_b : ℕ
+  steps_b = (left.progress b y unlent_b unlent_y turn_b).steps
+
+  abbrev row_a : Row
+  row_a = left.row a x unlent_a unlent_x turn_a
+
+  abbrev row_b : Row
+  row_b = left.row b y unlent_b unlent_y turn_b
+
+  job : a.job ≡ b.job
+  job = ap (λ (d : Desk). d.job) same
+
+  thread : t ≡ u
+  thread = some_is (sym (left.front a x unlent_a unlent_x turn_a) ∙ ap (λ (d : Desk). slice_get d.queue 0) same ∙ left.front b y unlent_b unlent_y turn_b)
+
+  seat : seat_of a.job.program (left.here a x unlent_a unlent_x turn_a).value ≡ seat_of b.job.program (left.here b y unlent_b unlent_y turn_b).value
+  seat = some_is (sym (left.seat a x unlent_a unlent_x turn_a) ∙ (λ i. (same i).threads (thread i)) ∙ left.seat b y unlent_b unlent_y turn_b)
+
+  made : AreSame (language_of b.job.program) steps_a steps_b end_a end_b
+  made =
+      let here = subst (λ (j : JobParts). MakesAll (language_of j.program) j.quantum (left.stood a x unlent_a unlent_x turn_a) steps_a end_a) job (left.makes a x unlent_a unlent_x turn_a) in
+      let there = subst (λ (e : Expr). MakesAll (language_of b.job.program) b.job.quantum e steps_a end_a) (ap (λ (s : Seat). s.stands) seat) here in
+      same_steps (language_of b.job.program) b.job.quantum steps_a steps_b (left.stood b y unlent_b unlent_y turn_b) end_a end_b there (left.makes b y unlent_b unlent_y turn_b)
+
+  -- the book a with another desk's job, events, offers and next numbers, on which rows depend
+  abbrev on : Desk → BookView
+  on d = record a { job = d.job; history = record a.history { events = d.events }; offers = d.offers; next = d.next }
+
+  row_on : (k : ℕ) (e : Expr) (l : Look Expr) → row_of (leased b u) k e l ≡ row_of (on (desk_of b)) k e l
+  row_on k e l = refl
+
+  row : row_a ≡ row_b
+  row =
+      (λ i. row_of (on (same i)) (thread i) (made.end i) (look_in (job i).program (made.end i)))
+      ∙ sym (row_on u end_b (look_in b.job.program end_b))
+
+  -- ---- what is left
+
+  job_left : x.job ≡ y.job
+  job_left = left.job_left a x unlent_a unlent_x turn_a ∙ job ∙ sym (left.job_left b y unlent_b unlent_y turn_b)
+
+  events_left : x.history.events ≡ y.history.events
+  events_left =
+      left.events_left a x unlent_a unlent_x turn_a
+      ∙ (λ i. (same i).events ++ events_by worker (local_of (thread i) (made.steps i) ++ steps_of (thread i) (row i)))
+      ∙ sym (left.events_left b y unlent_b unlent_y turn_b)
+
+  ended : (k : ℕ) → is_in Ended x.threads k ≡ is_in Ended y.threads k
+  ended = one_ended x y unlent_x.shown unlent_y.shown job_left events_left
+
+  queue_left : x.queue ≡ y.queue
+  queue_left =
+      left.queue_left a x unlent_a unlent_x turn_a
+      ∙ (λ i. without (thread i) (without (thread i) (same i).queue) ++ filter (λ k. not (ended k i)) (movers (thread i) (row i)))
+      ∙ sym (left.queue_left b y unlent_b unlent_y turn_b)
+
+  offer : (k : ℕ) → map.get x.offers.offers k ≡ map.get y.offers.offers k
+  offer = one_offer x y unlent_x.shown unlent_y.shown job_left events_left queue_left (each_free x unlent_x) (each_free y unlent_y)
+
+  line_at : (c : ℕ) → map.get a.offers.lines c ≡ map.get b.offers.lines c
+  line_at c = ap (λ (d : Desk). map.get d.offers.lines c) same
+
+  channel : (c : ℕ) → is_some (map.get x.offers.lines c) ≡ is_some (map.get y.offers.lines c)
+  channel c =
+      unlent_x.shown.shows.journal.channels c
+      ∙ ap (λ s. set.contains s.channels c) (one_end x y unlent_x.shown unlent_y.shown job_left events_left)
+      ∙ sym (unlent_y.shown.shows.journal.channels c)
+
+  new_by : (c : ℕ) → map.get a.offers.lines c ≡ None → (o r : Option Line) → map.get x.offers.lines c ≡ o → map.get y.offers.lines c ≡ r → is_some o ≡ is_some r → o ≡ r
+  new_by c none None None here there both = refl
+  new_by c none None (Some m) here there both = absurd (false≢true both)
+  new_by c none (Some l) None here there both = absurd (false≢true (sym both))
+  new_by c none (Some l) (Some m) here there both =
+      let one = left.new_line a x unlent_a unlent_x turn_a c l none here in
+      let two = left.new_line b y unlent_b unlent_y turn_b c m (sym (line_at c) ∙ none) there in
+      let back = λ (ks : List ℕ) (h : HasOnly u ks). subst (λ k. HasOnly k ks) (sym thread) h in
+      let sends = one_list t l.sends m.sends one.sends (back m.sends two.sends)
+      (one.sender ∙ ap (passes (sends_on c)) (offer t) ∙ ap (λ k. passes (sends_on c) (map.get y.offers.offers k)) thread ∙ sym two.sender ∙ ap (λ k. is_listed k m.sends) (sym thread))
+      in
+      let receives = one_list t l.receives m.receives one.receives (back m.receives two.receives)
+      (one.receiver ∙ ap (passes (receives_on c)) (offer t) ∙ ap (λ k. passes (receives_on c) (map.get y.offers.offers k)) thread ∙ sym two.receiver ∙ ap (λ k. is_listed k m.receives) (sym thread))
+      in
+      λ i. Some (record { sends = sends i; receives = receives i })
+
+  line_by : (c : ℕ) (o : Option Line) → map.get a.offers.lines c ≡ o → map.get x.offers.lines c ≡ map.get y.offers.lines c
+  line_by c None none = new_by c none (map.get x.offers.lines c) (map.get y.offers.lines c) refl refl (channel c)
+  line_by c (Some l) found =
+      left.line_left a x unlent_a unlent_x turn_a c l found
+      ∙ (λ i. Some (line_after (thread i) (row i) c l))
+      ∙ sym (left.line_left b y unlent_b unlent_y turn_b c l (sym (line_at c) ∙ found))
+
+  pub one_turn : desk_of x ≡ desk_of y
+  one_turn =
+      one_desk x y unlent_x.shown unlent_y.shown job_left events_left queue_left (each_free x unlent_x) (each_free y unlent_y)
+      (same_map nat_cmp_total nat_cmp-IsAntisymmetric x.offers.lines y.offers.lines (λ c. line_by c (map.get a.offers.lines c) refl))
