@@ -1,4 +1,4 @@
-//! Trials of the book: its turns, and what its commits answer and leave.
+//! Trials of the book: its turns, what its commits answer and leave, its runs by one worker, and the texts that these show.
 //!
 //! They stand in a crate of their own, since to prove the tests of a crate is to prove it once more.
 #![tactic(auto)]

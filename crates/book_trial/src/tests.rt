@@ -2,4 +2,5 @@
 
 mod lists;
 mod plain;
+mod runs;
 mod turns;

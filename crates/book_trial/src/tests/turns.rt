@@ -1,6 +1,7 @@
 //! Books of short texts, and their turns.
-ghost use Rattle.std.specs.Prelude.{◌≤◌, length};
+ghost use Rattle.std.specs.Prelude.{◌≤◌, length, IfOk};
 ghost use Rattle.stab_journal.specs.Event.{IsWorker};
+ghost use Rattle.commit_book.specs.Book.{IsAtStart};
 ghost use Rattle.step_eval.specs.ControlView.{Fits};
 
 use commit_book::{Book, CommitRefused, Done, Lease, Turn};
@@ -16,6 +17,7 @@ pub(super) fn book_with(alloc: Global, text: &str, script: &[i64], fuel: u64) ->
     requires some_fuel { 1 ≤ fuel }
     requires fuel_within { fuel ≤ 16_000_000 }
     requires script { length script.now ≤ 10 }
+    ensures { IfOk result IsAtStart }
 {
     let bytes = text.as_bytes();
     if bytes.len() > 1_048_576 {
