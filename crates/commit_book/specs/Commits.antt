@@ -43,7 +43,7 @@ line_after t _ c line = line
 abbrev pub events_by : ℕ → List Label → List Event
 events_by worker labels = each (λ l. event worker (Step l)) labels
 
--- a commit by the row: with what every book shows, this determines the new book but for what it counts
+-- a commit by the row: with what every book shows, this determines the new book but for what it counts and the forms of its controls
 pub record IsMoved (old new : BookView) (worker t n : ℕ) (row : Row) : Type 0 where
   -- the steps are pushed, with the lease's worker
   pub history : new.history ≡ record old.history { events = old.history.events ++ events_by worker (local_of t n ++ steps_of t row) }
