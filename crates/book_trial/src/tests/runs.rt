@@ -41,57 +41,31 @@ fn expect_run<R: AllocGlobal + Abort>(
 }
 
 #[test]
-fn short_runs(rt: HostRuntime) -> Result<(), Fail> {
+fn runs_of_one_thread(rt: HostRuntime) -> Result<(), Fail> {
     let sum = "fn main(): unit { print(1 + 2) }";
-    expect_run(
-        &rt,
-        sum,
-        &[],
-        RunEnd::Quiet,
-        "3\nended 1 faulted 0 waiting 0\n",
-    )?;
+    let shown = "3\nended 1 faulted 0 waiting 0\n";
+    expect_run(&rt, sum, &[], RunEnd::Quiet, shown)?;
     let nobody = "fn main(): unit { print(recv(chan[int]())) }";
-    expect_run(
-        &rt,
-        nobody,
-        &[],
-        RunEnd::Quiet,
-        "ended 0 faulted 0 waiting 1\n",
-    )?;
+    let shown = "ended 0 faulted 0 waiting 1\n";
+    expect_run(&rt, nobody, &[], RunEnd::Quiet, shown)?;
+    let probes = "fn main(): unit { print(probe()); print(probe()) }";
+    let shown = "-3\n0\nended 1 faulted 0 waiting 0\n";
+    expect_run(&rt, probes, &[-3], RunEnd::Quiet, shown)?;
+    let endless = "fn f(): int { f() } fn main(): unit { f() }";
+    let shown = "ended 0 faulted 0 waiting 1\n";
+    expect_run(&rt, endless, &[], RunEnd::Spent, shown)
+}
+
+#[test]
+fn runs_of_two_threads(rt: HostRuntime) -> Result<(), Fail> {
     let over =
         "fn over(): unit { print(9223372036854775807 + 1) } fn main(): unit { spawn over(); print(7) }";
-    expect_run(
-        &rt,
-        over,
-        &[],
-        RunEnd::Quiet,
-        "7\nthread 2 fault Overflow\nended 1 faulted 1 waiting 0\n",
-    )?;
-    let twice = "fn main(): unit { print(probe()); print(probe()) }";
-    expect_run(
-        &rt,
-        twice,
-        &[-3],
-        RunEnd::Quiet,
-        "-3\n0\nended 1 faulted 0 waiting 0\n",
-    )?;
+    let shown = "7\nthread 2 fault Overflow\nended 1 faulted 1 waiting 0\n";
+    expect_run(&rt, over, &[], RunEnd::Quiet, shown)?;
     let pick =
         "fn s(c: chan[int]): unit { send(c, 9) } fn main(): unit { let c = chan[int](); spawn s(c); print(pick(c, c)) }";
-    expect_run(
-        &rt,
-        pick,
-        &[],
-        RunEnd::Quiet,
-        "(0, 9)\nended 2 faulted 0 waiting 0\n",
-    )?;
-    let endless = "fn f(): int { f() } fn main(): unit { f() }";
-    expect_run(
-        &rt,
-        endless,
-        &[],
-        RunEnd::Spent,
-        "ended 0 faulted 0 waiting 1\n",
-    )
+    let shown = "(0, 9)\nended 2 faulted 0 waiting 0\n";
+    expect_run(&rt, pick, &[], RunEnd::Quiet, shown)
 }
 
 // The numbers from n down to 0, each on a line, and then this.
