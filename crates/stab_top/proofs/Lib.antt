@@ -6,7 +6,6 @@ pub mod Complete
 pub mod Wording
 pub mod Executing
 pub mod OwnTraces
-pub mod Begun
 pub mod Unbuilt
 pub mod Resting
 pub mod WholeRun

@@ -3,6 +3,7 @@ use Rattle.std.specs.Prelude.{◌≡◌, ℕ, ℤ, ◌<◌, ◌≤◌, true, fal
 use Rattle.std.specs.List.{AllByRecursion}
 use Rattle.commit_book.specs.Book.{BookView, ShowsRun}
 use Rattle.commit_book.specs.Counts.{in_state}
+use Rattle.lone_worker.specs.Solo.{IsWholeSolo}
 use Rattle.plain_language.specs.Plain.{PlainState, language_of, look_in, standing}
 use Rattle.plain_language.specs.Quiet.{IsQuiet}
 use Rattle.plain_language.specs.Shown.{is_done, shown}
@@ -46,7 +47,8 @@ Refuses o cause = Blames o.report cause × Rests o.sink o.sink_after
 
 -- The job is that of the program and the script with the fuel and the quantum of the words; no act of the program is one that
 -- isn't built. The book shows its history, which stands for this run of the program from the start state, and the state in which
--- the run ends; the history's probes got the numbers of the script. Worker 1 made it all.
+-- the run ends; the history's probes got the numbers of the script. Worker 1 made it all, and it is the whole run of the job by one
+-- worker.
 pub record IsRunOf (args : RunArgs) (program : ProgramParts) (script : List ℤ) (book : BookView) (state : PlainState) : Type 0 where
   pub job : book.job ≡ job_of program script args.fuel args.quantum
   pub flat : IsFlat program
@@ -54,6 +56,7 @@ pub record IsRunOf (args : RunArgs) (program : ProgramParts) (script : List ℤ)
   pub shown : ShowsRun book run state
   pub follows : FollowsScript script book.history.events
   pub by_one : AllByRecursion (λ (e : Event). e.worker ≡ 1) book.history.events
+  pub solo : IsWholeSolo book.job book.history.events
 
 -- what a command writes of a run: what the run shows that ends in the state, or the trace of what happened
 abbrev pub shown_by : BookView → PlainState → List ℕ

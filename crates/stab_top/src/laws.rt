@@ -69,6 +69,13 @@ pub fn traces_of_runs_pass()
         ((status_of c ≡ DoneStatus) ⊎ (status_of c ≡ NoMemoryStatus)) ⊎ CountedFault c }
 {}
 
+/// Runs of one job, as `run` and `trace` make them, have one history: what happens in them is fixed by the job.
+pub fn runs_have_one_history()
+    ensures { (ran other : Args) (program text : ProgramParts) (script numbers : List ℤ) (a b : BookView) (s t : PlainState) →
+        IsRunOf ran program script a s → IsRunOf other text numbers b t → a.job ≡ b.job →
+        a.history.events ≡ b.history.events }
+{}
+
 /// Where the words ask for what is built, and the files tell that bytes with a fault are held within the limit under the name
 /// of the program, the answer is this fault, or memory was refused, or a fault was counted.
 pub fn bad_texts_are_refused()
