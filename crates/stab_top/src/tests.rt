@@ -1,6 +1,6 @@
 //! Whole calls that run a program.
 
-use crate::report::{Role, Status};
+use crate::report::Role;
 use crate::trial::{Trial, is_answer, repeated, runs};
 use stab_base::{ThreadId, Value};
 use stab_journal::{Label, What};
@@ -59,7 +59,7 @@ fn print_a_sum(rt: HostRuntime) -> Result<(), Fail> {
     is_answer(
         alloc,
         "second put",
-        &trial.answer(alloc)?,
+        trial.answer.as_str(),
         "7 3/stab: SinkFault/",
     )?;
     // The program's file is loaded once.
@@ -67,13 +67,12 @@ fn print_a_sum(rt: HostRuntime) -> Result<(), Fail> {
     is_answer(
         alloc,
         "second load",
-        &trial.answer(alloc)?,
+        trial.answer.as_str(),
         "0 3/ended 1 faulted 0 waiting 0/",
     )?;
-    let events = trial.events(alloc)?;
-    assert_eq!(rt; events.len(), 2);
-    assert!(rt; events[0] == What::Step(Label::Local(ThreadId(1), 1)));
-    assert!(rt; events[1] == What::Step(Label::Print(ThreadId(1))));
+    assert_eq!(rt; trial.events.len(), 2);
+    assert!(rt; trial.events[0] == What::Step(Label::Local(ThreadId(1), 1)));
+    assert!(rt; trial.events[1] == What::Step(Label::Print(ThreadId(1))));
     // One worker waits at no gate.
     assert_eq!(rt; trial.gate_calls, 0);
     Ok(())
@@ -87,12 +86,11 @@ fn endless_loop(rt: HostRuntime) -> Result<(), Fail> {
     is_answer(
         alloc,
         "endless loop",
-        &trial.answer(alloc)?,
+        trial.answer.as_str(),
         "8 ended 0 faulted 0 waiting 1/stab: Spent/",
     )?;
-    let events = trial.events(alloc)?;
-    assert_eq!(rt; events.len(), 1_000);
-    for what in &events {
+    assert_eq!(rt; trial.events.len(), 1_000);
+    for what in &trial.events {
         assert!(rt; *what == What::Step(Label::Local(ThreadId(1), 1_000)));
     }
     Ok(())
@@ -110,8 +108,8 @@ fn each_line_is_one_put(rt: HostRuntime) -> Result<(), Fail> {
         (5, "0 1/22/333/ended 1 faulted 0 waiting 0/"),
     ] {
         let trial = Trial::new(&rt, alloc, "run p", program, [&[], &[failing]])?;
-        is_answer(alloc, "lines", &trial.answer(alloc)?, expected)?;
-        assert_eq!(rt; trial.events(alloc)?.len(), 5);
+        is_answer(alloc, "lines", trial.answer.as_str(), expected)?;
+        assert_eq!(rt; trial.events.len(), 5);
     }
     Ok(())
 }
@@ -119,8 +117,14 @@ fn each_line_is_one_put(rt: HostRuntime) -> Result<(), Fail> {
 #[test]
 fn load_fails(rt: HostRuntime) -> Result<(), Fail> {
     let trial = Trial::new(&rt, rt.alloc(), "run p", SUM, [&[1], &[]])?;
-    assert_eq!(rt; trial.report.status, Status::FileFault);
-    assert_eq!(rt; trial.report.file, Some(Role::Program));
+    let answer = trial.answer.as_str();
+    is_answer(
+        rt.alloc(),
+        "first load",
+        answer,
+        "6 stab: FileFault program/",
+    )?;
+    assert_eq!(rt; trial.file, Some(Role::Program));
     Ok(())
 }
 
@@ -133,7 +137,7 @@ fn ten_thousand_prints(rt: HostRuntime) -> Result<(), Fail> {
     let shown = repeated(alloc, b"", b"7\n", 10_000, b"ended 1 faulted 0 waiting 0\n")?;
     assert_eq!(rt; trial.written, shown);
     // Each print is an event, and so are the steps before it and those at the end.
-    assert_eq!(rt; trial.events(alloc)?.len(), 20_001);
+    assert_eq!(rt; trial.events.len(), 20_001);
     Ok(())
 }
 

@@ -12,7 +12,7 @@ fn refused<R: Threads + Wait + Sync>(rt: &R, alloc: Global, table: &str) -> Resu
         let (text, expected) = row.split_once(" -> ").ok_or("no arrow")?;
         for words in ["run p", "check p"] {
             let trial = Trial::new(rt, alloc, words, text.as_bytes(), [&[], &[]])?;
-            is_answer(alloc, row, &trial.answer(alloc)?, expected)?;
+            is_answer(alloc, row, trial.answer.as_str(), expected)?;
         }
     }
     Ok(())
@@ -46,7 +46,7 @@ fn answers<R: Threads + Wait + Sync>(
     expected: &str,
 ) -> Result<(), Fail> {
     let trial = Trial::new(rt, alloc, words, text, [&[], &[]])?;
-    is_answer(alloc, expected, &trial.answer(alloc)?, expected)
+    is_answer(alloc, expected, trial.answer.as_str(), expected)
 }
 
 #[test]
@@ -93,7 +93,7 @@ fn what_is_checked_may_be_not_built(rt: HostRuntime) -> Result<(), Fail> {
         ("run p", 1, "14 stab: NotBuilt/"),
     ] {
         let trial = Trial::new(&rt, alloc, words, UNBUILT, [&[], &[failing]])?;
-        is_answer(alloc, words, &trial.answer(alloc)?, expected)?;
+        is_answer(alloc, words, trial.answer.as_str(), expected)?;
     }
     let texts = b"fn f(): text { \"a\" } fn main(): unit { print(\"b\"); print(\"a\") }";
     answers(&rt, alloc, "check p", texts, "0 ok functions 2 texts 2/")

@@ -1,6 +1,6 @@
 //! Whole calls that run programs with several threads, channels, references and probes.
 
-use crate::report::{Role, Status};
+use crate::report::Role;
 use crate::trial::{Trial, is_answer, runs};
 use std::alloc::Global;
 use std::sync::Wait;
@@ -17,7 +17,7 @@ fn row<R: Threads + Wait + Sync>(
 ) -> Result<(), Fail> {
     for (line, expected) in [("run p", shown), ("trace p", trace)] {
         let trial = Trial::new(rt, alloc, line, program.as_bytes(), [&[], &[]])?;
-        is_answer(alloc, line, &trial.answer(alloc)?, expected)?;
+        is_answer(alloc, line, trial.answer.as_str(), expected)?;
     }
     Ok(())
 }
@@ -88,7 +88,7 @@ fn probed<R: Threads + Wait + Sync>(
 ) -> Result<Trial, Fail> {
     let files: [(&str, &[u8]); 2] = [("p", PROBES), ("q", probes)];
     let trial = Trial::over(rt, alloc, line, &files, [&[], &[]])?;
-    is_answer(alloc, line, &trial.answer(alloc)?, expected)?;
+    is_answer(alloc, line, trial.answer.as_str(), expected)?;
     Ok(trial)
 }
 
@@ -126,10 +126,10 @@ fn bad_probes(rt: HostRuntime) -> Result<(), Fail> {
     let alloc = rt.alloc();
     let line = "run p --probes q";
     let trial = probed(&rt, alloc, line, b"5\nx\n", "10 stab: BadProbes Line 2/")?;
-    assert_eq!(rt; trial.report.status, Status::BadProbes);
+    assert_eq!(rt; trial.file, None);
     let trial = Trial::new(&rt, alloc, line, PROBES, [&[], &[]])?;
-    is_answer(alloc, line, &trial.answer(alloc)?, "4 stab: NoFile probes/")?;
-    assert_eq!(rt; trial.report.file, Some(Role::Probes));
+    is_answer(alloc, line, trial.answer.as_str(), "4 stab: NoFile probes/")?;
+    assert_eq!(rt; trial.file, Some(Role::Probes));
     Ok(())
 }
 
@@ -154,7 +154,7 @@ fn fuel_runs_out(rt: HostRuntime) -> Result<(), Fail> {
     ] {
         let program = b"fn main(): unit { print(1); print(2) }";
         let trial = Trial::new(&rt, alloc, line, program, [&[], &[]])?;
-        is_answer(alloc, line, &trial.answer(alloc)?, expected)?;
+        is_answer(alloc, line, trial.answer.as_str(), expected)?;
     }
     Ok(())
 }

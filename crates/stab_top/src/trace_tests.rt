@@ -20,7 +20,7 @@ fn answers<R: Threads + Wait + Sync>(
     for row in table.lines() {
         let (line, expected) = row.split_once(" -> ").ok_or("no arrow")?;
         let trial = Trial::over(rt, alloc, line, files, fails)?;
-        is_answer(alloc, row, &trial.answer(alloc)?, expected)?;
+        is_answer(alloc, row, trial.answer.as_str(), expected)?;
     }
     Ok(())
 }
@@ -95,10 +95,10 @@ verify p t -> 7 stab: SinkFault 30 WrongProbe/\n\
     answers(rt, alloc, files, [&[], &[1]], rows)?;
     // A verdict is one put, and is reported.
     let trial = Trial::over(rt, alloc, "verify p t", files, [&[], &[2]])?;
-    if trial.report.verdict != Some(Verdict::No(Seq(30), Why::WrongProbe)) {
+    if trial.verdict != Some(Verdict::No(Seq(30), Why::WrongProbe)) {
         return Err(Fail::from("another verdict is reported"));
     }
-    if trial.report.book.is_some() {
+    if trial.has_book {
         return Err(Fail::from("a verdict has no book"));
     }
     Ok(())
@@ -135,7 +135,7 @@ fn traces_of_runs(rt: HostRuntime) -> Result<(), Fail> {
         answers(&rt, alloc, &[("p", sum)], [&[], &[put]], expected)?;
     }
     let trial = Trial::new(&rt, alloc, "trace p", sum, [&[], &[]])?;
-    assert_eq!(rt; trial.events(alloc)?.len(), 2);
+    assert_eq!(rt; trial.events.len(), 2);
     Ok(())
 }
 
@@ -217,7 +217,7 @@ fn hostile_traces(rt: HostRuntime) -> Result<(), Fail> {
             ("t", trace.as_bytes()),
         ];
         let trial = Trial::over(&rt, alloc, "verify p t", &files, [&[], &[]])?;
-        is_answer(alloc, row, &trial.answer(alloc)?, expected)?;
+        is_answer(alloc, row, trial.answer.as_str(), expected)?;
     }
     Ok(())
 }

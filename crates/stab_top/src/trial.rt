@@ -1,7 +1,7 @@
 //! Calls over files and a sink in memory, which tests make.
 
 use crate::reason_line::reason;
-use crate::report::{Gate, Report};
+use crate::report::{Gate, Report, Role};
 use crate::top::stab;
 use stab_base::Seq;
 use stab_files::{MemFiles, MemSink};
@@ -11,6 +11,7 @@ use std::sync::Wait;
 use std::sync::atomic::{AtomicU32, Ordering};
 use std::test::Fail;
 use std::thread::Threads;
+use trace_verify::Verdict;
 
 /// A gate that counts its calls.
 #[derive(Drop)]
@@ -24,11 +25,17 @@ impl Gate for Counting {
     }
 }
 
-/// What a call reports and writes.
+/// What a call reports and writes. It keeps no book, since each way out of a test would give all of that back.
 #[derive(Drop)]
 pub struct Trial {
-    pub report: Report,
+    /// The exit status, and behind a space what was written and the reason, with `/` for each line feed.
+    pub answer: String,
     pub written: Vec<u8>,
+    pub has_book: bool,
+    /// The steps of the book's run, undone ones too.
+    pub events: Vec<What>,
+    pub file: Option<Role>,
+    pub verdict: Option<Verdict>,
     pub gate_calls: u32,
 }
 
@@ -53,44 +60,59 @@ impl Trial {
         files: &[(&str, &[u8])],
         fails: [&[u64]; 2],
     ) -> Result<Trial, Fail> {
-        let mut held = Vec::new(alloc);
-        for (name, bytes) in files {
-            held.push((String::from_str(alloc, name)?, bytes.to_vec(alloc)?))?;
-        }
-        let mut files = MemFiles::new(held, fails[0].to_vec(alloc)?);
+        let mut files = held(alloc, files, fails[0])?;
         let mut sink = MemSink::new(alloc, 1_048_576, fails[1].to_vec(alloc)?)?;
         let gate = Counting {
             calls: AtomicU32::new(0),
         };
         let words = words(alloc, line)?;
         let report = stab(rt, alloc, &words, &mut files, &mut sink, &gate);
-        Ok(Trial {
+        Trial::of(
+            alloc,
             report,
-            written: sink.bytes().to_vec(alloc)?,
-            gate_calls: gate.calls.load(Ordering::SeqCst),
+            sink.bytes(),
+            gate.calls.load(Ordering::SeqCst),
+        )
+    }
+
+    fn of(alloc: Global, report: Report, written: &[u8], gate_calls: u32) -> Result<Trial, Fail> {
+        Ok(Trial {
+            answer: answer(alloc, &report, written)?,
+            written: written.to_vec(alloc)?,
+            has_book: report.book.is_some(),
+            events: events(alloc, &report)?,
+            file: report.file,
+            verdict: report.verdict,
+            gate_calls,
         })
     }
+}
 
-    /// The exit status, and behind a space what was written and the reason, with `/` for each line feed.
-    pub fn answer(&self, alloc: Global) -> Result<String, Fail> {
-        let mut text = self.written.as_slice().to_vec(alloc)?;
-        reason(alloc, &self.report, &mut text).map_err(|_| Fail::from("no memory"))?;
-        let number = self.report.status.number();
-        let text = String::from_utf8(text).map_err(|_| Fail::from("no text"))?;
-        let line = text.replace(alloc, "\n", "/")?;
-        Ok(format!(in alloc; "{number} {line}")?)
+fn held(alloc: Global, files: &[(&str, &[u8])], fails: &[u64]) -> Result<MemFiles, Fail> {
+    let mut held = Vec::new(alloc);
+    for (name, bytes) in files {
+        held.push((String::from_str(alloc, name)?, bytes.to_vec(alloc)?))?;
     }
+    Ok(MemFiles::new(held, fails.to_vec(alloc)?))
+}
 
-    /// The steps of the run, undone ones too.
-    pub fn events(&self, alloc: Global) -> Result<Vec<What>, Fail> {
-        let mut events = Vec::new(alloc);
-        if let Some(book) = &self.report.book {
-            for number in 1..=book.history().len() {
-                events.push(book.history().get(Seq(number)).ok_or("no event")?.what)?;
-            }
+fn answer(alloc: Global, report: &Report, written: &[u8]) -> Result<String, Fail> {
+    let mut text = written.to_vec(alloc)?;
+    reason(alloc, report, &mut text).map_err(|_| Fail::from("no memory"))?;
+    let number = report.status.number();
+    let text = String::from_utf8(text).map_err(|_| Fail::from("no text"))?;
+    let line = text.replace(alloc, "\n", "/")?;
+    Ok(format!(in alloc; "{number} {line}")?)
+}
+
+fn events(alloc: Global, report: &Report) -> Result<Vec<What>, Fail> {
+    let mut events = Vec::new(alloc);
+    if let Some(book) = &report.book {
+        for number in 1..=book.history().len() {
+            events.push(book.history().get(Seq(number)).ok_or("no event")?.what)?;
         }
-        Ok(events)
     }
+    Ok(events)
 }
 
 // The words of a line, none where it is empty.
@@ -126,14 +148,14 @@ pub fn runs<R: Threads + Wait + Sync>(rt: &R, alloc: Global, table: &str) -> Res
     for row in table.lines() {
         let (program, expected) = row.split_once(" -> ").ok_or("no arrow")?;
         let trial = Trial::new(rt, alloc, "run p", program.as_bytes(), [&[], &[]])?;
-        is_answer(alloc, row, &trial.answer(alloc)?, expected)?;
+        is_answer(alloc, row, trial.answer.as_str(), expected)?;
     }
     Ok(())
 }
 
 /// The answer of a row is the expected one.
-pub fn is_answer(alloc: Global, row: &str, answer: &String, expected: &str) -> Result<(), Fail> {
-    if answer.as_str() == expected {
+pub fn is_answer(alloc: Global, row: &str, answer: &str, expected: &str) -> Result<(), Fail> {
+    if answer == expected {
         return Ok(());
     }
     Err(Fail::from(format!(in alloc; "{row}, and not {answer}")?))

@@ -14,9 +14,9 @@ fn answers<R: Threads + Wait + Sync>(rt: &R, alloc: Global, table: &str) -> Resu
     for row in table.lines() {
         let (line, expected) = row.split_once(" -> ").ok_or("no arrow")?;
         let trial = Trial::new(rt, alloc, line, PROGRAM, [&[], &[]])?;
-        let mut answer = weights(alloc, &trial.events(alloc)?)?;
-        answer.push_str(trial.answer(alloc)?.as_str())?;
-        is_answer(alloc, row, &answer, expected)?;
+        let mut answer = weights(alloc, &trial.events)?;
+        answer.push_str(trial.answer.as_str())?;
+        is_answer(alloc, row, answer.as_str(), expected)?;
     }
     Ok(())
 }
