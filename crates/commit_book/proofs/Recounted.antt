@@ -51,5 +51,4 @@ kept_recounted job parts commits stale is = record {
     undos = is.tallied.undos;
     faulted = is.tallied.faulted;
   };
-  read = is.read;
 }

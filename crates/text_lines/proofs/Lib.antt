@@ -1,5 +1,2 @@
-pub mod LineList
-pub mod Numerals
 pub mod Pieces
-pub mod Splits
 pub mod Values

@@ -7,13 +7,25 @@ use commit_book::{Book, Done};
 use std::alloc::Global;
 use std::test::Fail;
 
-const TEXTS: [&str; 5] = [
-    "fn pong(c: chan[int], d: chan[int]): unit { send(d, recv(c) + 1); pong(c, d) } fn ping(c: chan[int], d: chan[int], n: int): unit { send(c, n); let m = recv(d); print(m); if m < 9 { ping(c, d, m) } else { () } } fn main(): unit { let c = chan[int](); let d = chan[int](); spawn pong(c, d); ping(c, d, 1) }",
-    "fn s(c: chan[int], n: int): unit { send(c, n); s(c, n + 1) } fn main(): unit { let c = chan[int](); let d = chan[int](); spawn s(c, 10); spawn s(d, 20); spawn s(d, 30); p(c, d, 9) } fn p(c: chan[int], d: chan[int], n: int): unit { let q = pick(d, c); print(fst(q)); print(snd(q)); if n == 0 { () } else { p(c, d, n - 1) } }",
-    "fn add(r: ref[int], n: int): unit { set(r, get(r) + n); print(get(r)); add(r, n * 2) } fn main(): unit { let r = ref(1); spawn add(r, 3); spawn add(r, 5); add(r, 7) }",
-    "fn over(n: int): unit { print(n); over(n * 1000000) } fn main(): unit { spawn over(probe()); spawn over(probe()); print(probe()); print(get(3)) }",
-    "fn part(n: int): int { pin(); if n == 0 { attempt() } else { stable part(n - 1) } } fn t(): unit { print(stable part(3)); stabilize() } fn main(): unit { spawn t(); spawn t(); print(stable part(2)); main() }",
-];
+fn text_of(k: u32) -> &'static str {
+    match k {
+        0 => {
+            "fn pong(c: chan[int], d: chan[int]): unit { send(d, recv(c) + 1); pong(c, d) } fn ping(c: chan[int], d: chan[int], n: int): unit { send(c, n); let m = recv(d); print(m); if m < 9 { ping(c, d, m) } else { () } } fn main(): unit { let c = chan[int](); let d = chan[int](); spawn pong(c, d); ping(c, d, 1) }"
+        }
+        1 => {
+            "fn s(c: chan[int], n: int): unit { send(c, n); s(c, n + 1) } fn main(): unit { let c = chan[int](); let d = chan[int](); spawn s(c, 10); spawn s(d, 20); spawn s(d, 30); p(c, d, 9) } fn p(c: chan[int], d: chan[int], n: int): unit { let q = pick(d, c); print(fst(q)); print(snd(q)); if n == 0 { () } else { p(c, d, n - 1) } }"
+        }
+        2 => {
+            "fn add(r: ref[int], n: int): unit { set(r, get(r) + n); print(get(r)); add(r, n * 2) } fn main(): unit { let r = ref(1); spawn add(r, 3); spawn add(r, 5); add(r, 7) }"
+        }
+        3 => {
+            "fn over(n: int): unit { print(n); over(n * 1000000) } fn main(): unit { spawn over(probe()); spawn over(probe()); print(probe()); print(get(3)) }"
+        }
+        _ => {
+            "fn part(n: int): int { pin(); if n == 0 { attempt() } else { stable part(n - 1) } } fn t(): unit { print(stable part(3)); stabilize() } fn main(): unit { spawn t(); spawn t(); print(stable part(2)); main() }"
+        }
+    }
+}
 
 // A book, the machine beside it, and what its calls were told.
 #[derive(Drop)]
@@ -88,7 +100,12 @@ impl Trial {
             Ok(Done::Parked { first: _, count: _ }) => {
                 self.commits = self.commits.saturating_add(1);
             }
-            Ok(Done::Stale { lease_generation: _, now: _ }) => {
+            Ok(
+                Done::Stale {
+                    lease_generation: _,
+                    now: _,
+                },
+            ) => {
                 self.stale = self.stale.saturating_add(1);
             }
             _ => self.agrees = false,
@@ -136,11 +153,11 @@ impl Trial {
 fn random_lists_of_calls(rt: HostRuntime) -> Result<(), Fail> {
     let mut commits = 0_u64;
     let mut stale = 0_u64;
-    for text in TEXTS {
+    for k in 0..5 {
         for seed in 0..400 {
-            let mut trial = Trial::new(rt.alloc(), text, seed)?;
+            let mut trial = Trial::new(rt.alloc(), text_of(k), seed)?;
             trial.run();
-            assert!(rt; trial.agrees, "at {seed} of {text}");
+            assert!(rt; trial.agrees, "at {seed} of {k}");
             commits = commits.saturating_add(trial.commits);
             stale = stale.saturating_add(trial.stale);
         }

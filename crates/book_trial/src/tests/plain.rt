@@ -28,38 +28,17 @@ impl Plain {
         self.plays(book) && self.has_printed(book) && self.has_counts(book) && self.has_faults(book)
     }
 
-    // Whether the steps that survive lead to what the book tells.
-    pub(super) fn survives(alloc: Global, book: &Book) -> Result<bool, Fail> {
-        let mut plain = Plain::new(alloc, book)?;
-        for numbered in book.history().survivors() {
-            if plain.state.play(alloc, numbered.seq, &numbered.label).is_err() {
-                return Ok(false);
-            }
-        }
-        Ok(plain.has_printed(book) && plain.has_ends(book))
-    }
-
-    // The same threads have failed, and as many have ended.
-    fn has_ends(&self, book: &Book) -> bool {
-        let mut ended = 0_u64;
-        for t in 1..=book.last_thread().0 {
-            if matches!(self.state.look(ThreadId(t)), Some(Look::Done)) {
-                ended = ended.saturating_add(1);
-            }
-            if book.fault_of(ThreadId(t)) != self.fault_of(ThreadId(t)) {
-                return false;
-            }
-        }
-        book.counts().ended == ended
-    }
-
     fn plays(&mut self, book: &Book) -> bool {
         for _ in self.played..book.history().len() {
             self.played = self.played.saturating_add(1);
             let Some(label) = label_of(book, Seq(self.played)) else {
                 return false;
             };
-            if self.state.play(self.alloc, Seq(self.played), &label).is_err() {
+            if self
+                .state
+                .play(self.alloc, Seq(self.played), &label)
+                .is_err()
+            {
                 return false;
             }
         }

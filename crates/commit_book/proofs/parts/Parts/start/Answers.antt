@@ -39,5 +39,4 @@ returns c =
       chan = refl;
       ref = refl;
       tallies = c.first.ensures ∙ ap first_tallies failed;
-      unread = c.new-7.ensures;
     }
