@@ -4,3 +4,4 @@ mod lists;
 mod plain;
 mod runs;
 mod turns;
+mod weights;

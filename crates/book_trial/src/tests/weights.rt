@@ -1,0 +1,54 @@
+//! Commits of leases that were held while the weight rose.
+
+use super::turns::{answer, book_with, next_work};
+use commit_book::{Book, Done};
+use std::test::Fail;
+
+// The steps of each commit: a book takes what a thread did, whatever the job's quantum is.
+const STEPS: u32 = 10_000;
+
+// What was answered to the commits.
+#[derive(Drop)]
+struct Answers {
+    taken: u32,
+    over: Option<u64>,
+    others: u32,
+}
+
+impl Answers {
+    // Takes so many leases, after each of which its thread is ready again, and then commits them.
+    fn hold(&mut self, book: &mut Book, leases: u32) {
+        if leases == 0 {
+            return;
+        }
+        let Ok(Some((lease, progress))) = next_work(book, 1, STEPS) else {
+            self.others = self.others.saturating_add(1);
+            return;
+        };
+        book.recall();
+        self.hold(book, leases - 1);
+        match answer(book, lease, progress) {
+            Ok(Done::Taken { first: _, count: 1 }) => self.taken = self.taken.saturating_add(1),
+            Ok(Done::Over { weight }) => self.over = Some(weight),
+            _ => self.others = self.others.saturating_add(1),
+        }
+    }
+}
+
+#[test]
+fn over_the_weight(rt: HostRuntime) -> Result<(), Fail> {
+    let text = "fn f(): unit { f() } fn main(): unit { f() }";
+    let mut book = book_with(rt.alloc(), text, &[], 10_001)?;
+    let mut answers = Answers {
+        taken: 0,
+        over: None,
+        others: 0,
+    };
+    answers.hold(&mut book, 1);
+    // Each commit weighs 10,000, and one is made while the weight is below 10,001 and 1,000,000 more.
+    answers.hold(&mut book, 102);
+    assert_eq!(rt; answers.taken, 102);
+    assert_eq!(rt; answers.over, Some(1_020_000));
+    assert_eq!(rt; answers.others, 0);
+    Ok(())
+}
