@@ -1,2 +1,5 @@
+pub mod LineList
+pub mod Numerals
 pub mod Pieces
+pub mod Splits
 pub mod Values

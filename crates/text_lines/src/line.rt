@@ -55,8 +55,8 @@ fn trim_back(bytes: &[u8]) -> &[u8]
     rest
 }
 
-/// A line without the carriage return that may end it, and without the blanks at both ends.
-pub fn trimmed(line: &[u8]) -> &[u8]
+// A line without the carriage return that may end it, and without the blanks at both ends.
+pub(crate) fn trimmed(line: &[u8]) -> &[u8]
     ensures { result.now ≡ trimmed line.now }
 {
     trim_front(trim_back(without_return(line)))

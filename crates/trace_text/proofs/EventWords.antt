@@ -14,12 +14,14 @@ use Rattle.stab_journal.specs.Event.{IsName, IsCount, IsGeneration, IsWhat}
 use Rattle.trace_text.specs.declared.form.Verb.{Verb}
 use Rattle.trace_text.specs.declared.form.Verb.TheVariants as verbs
 use Rattle.trace_text.specs.Form.{arity, verb_text}
-use Rattle.trace_text.specs.Number.{number_in, signed_in}
+use Rattle.trace_text.specs.Number.{signed_in}
 use Rattle.trace_text.specs.Reading.{is_in_order}
 use Rattle.trace_text.specs.Shape.{are_words, both, count_in, generation_in, is_word, name_in, seq_in, what_of}
 use Rattle.trace_text.specs.Text.{numbers_of, verb_of}
-use Rattle.trace_text.proofs.Numerals.{IsNumber, IsSigned, decimal_digits, number_in-decimal, number_in-some, signed_in-decimal, signed_in-some}
-use Rattle.trace_text.proofs.Splits.{lacks, all_lack, lacks-digits}
+use Rattle.text_lines.specs.Numeral.{number_in}
+use Rattle.text_lines.proofs.Numerals.{IsNumber, decimal_digits, number_in-decimal, number_in-some}
+use Rattle.text_lines.proofs.Splits.{lacks, all_lack, lacks-digits}
+use Rattle.trace_text.proofs.Numerals.{IsSigned, signed_in-decimal, signed_in-some}
 
 -- a word without spaces and line feeds
 pub record IsPlain (word : List ℕ) : Type 0 where

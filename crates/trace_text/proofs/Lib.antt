@@ -1,6 +1,6 @@
 pub mod Entries
 pub mod Numerals
-pub mod Splits
+pub mod Ended
 pub mod Shapes
 pub mod EventWords
 pub mod Lines

@@ -8,7 +8,7 @@ use Rattle.trace_text.specs.declared.line.Line.{Line}
 use Rattle.trace_text.specs.Reading.{after, follow, line_is, nothing_more, read_behind, read_lines, read_text}
 use Rattle.trace_text.specs.Form.{header_named}
 use Rattle.text_lines.specs.Lines.{longer, split}
-use Rattle.trace_text.proofs.Splits.{pieces}
+use Rattle.text_lines.proofs.Splits.{pieces}
 
 -- a line that is followed by a line feed
 pub line-step : (h : Header) (at q : ℕ) (line others : List ℕ) → read_lines h at q (line ∷ split 10 others) ≡ follow (line_is h q (split 32 line)) at (at + length line + 1) (split 10 others) (read_lines h (at + length line + 1) (suc q) (split 10 others))

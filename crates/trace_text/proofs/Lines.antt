@@ -24,13 +24,13 @@ use Rattle.trace_text.specs.declared.line.Entry.{Entry}
 use Rattle.trace_text.specs.declared.line.Line.{Line}
 use Rattle.trace_text.specs.declared.line.Line.TheVariants as is
 use Rattle.trace_text.specs.Form.{arity, fits, header_named, header_text, is_step_sign, sign_named, sign_text, signs, value_in, verb_named, verb_text, verbs as verb_rows}
-use Rattle.trace_text.specs.Number.{number_in}
 use Rattle.trace_text.specs.Reading.{IsEntry, end_is, event_is, in_place, is_end, is_in_order, is_struck, line_is, numbers, or_line, second}
 use Rattle.trace_text.specs.Shape.{Shape, after_w, are_words, checked, is_shape, is_word, seq_in, shape_of, what_of}
-use Rattle.trace_text.specs.Text.{IsNoRelease, end_line, event_line, label_verb, numbers_of, separated, sign_of, verb_of}
-use Rattle.text_lines.specs.Lines.{split}
-use Rattle.trace_text.proofs.Numerals.{IsNumber, number_in-decimal, number_in-some}
-use Rattle.trace_text.proofs.Splits.{lacks, all_lack, lacks-separated, split-separated, rejoined}
+use Rattle.trace_text.specs.Text.{IsNoRelease, end_line, event_line, label_verb, numbers_of, sign_of, verb_of}
+use Rattle.text_lines.specs.Lines.{separated, split}
+use Rattle.text_lines.specs.Numeral.{number_in}
+use Rattle.text_lines.proofs.Numerals.{IsNumber, number_in-decimal, number_in-some}
+use Rattle.text_lines.proofs.Splits.{lacks, all_lack, lacks-separated, split-separated, rejoined}
 use Rattle.trace_text.proofs.EventWords.{ArePlain, IsPlain, Written, are_words-plain, mapped_from, no_feeds, no_spaces, numbers_length, numbers_plain, plain, then_from, verb_plain, what_of-read, what_of-written}
 
 -- under the first header no event is a release

@@ -2,7 +2,7 @@
 use Rattle.std.proofs.Common.{◌≡◌, ℕ, List, [], ◌∷◌, ◌++◌, refl, sym, ap, ◌∙◌, append_assoc}
 use Rattle.std.proofs.lemmas.List.{append-nil}
 use Rattle.trace_text.specs.Spelling.{behind}
-use Rattle.trace_text.specs.Text.{separated}
+use Rattle.text_lines.specs.Lines.{separated}
 
 separated-behind : (word : List ℕ) (words : List (List ℕ)) → separated 32 word words ≡ word ++ behind words
 separated-behind word [] = sym (append-nil word)

@@ -16,10 +16,11 @@ use Rattle.trace_text.specs.declared.line.Line.{Line}
 use Rattle.trace_text.specs.declared.line.Line.TheVariants as is
 use Rattle.trace_text.specs.Form.{header_named, header_text, headers}
 use Rattle.trace_text.specs.Reading.{IsEntry, after, follow, line_is, nothing_more, read_behind, read_lines, read_text, reading}
-use Rattle.trace_text.specs.Text.{IsNoRelease, NoRelease, IsTextOf, end_line, ended, entries, entries_from, event_line, event_lines, separated, text, trace}
-use Rattle.text_lines.specs.Lines.{split}
+use Rattle.trace_text.specs.Text.{IsNoRelease, NoRelease, IsTextOf, end_line, ended, entries, entries_from, event_line, event_lines, text, trace}
+use Rattle.text_lines.specs.Lines.{separated, split}
 use Rattle.trace_text.proofs.Lines.{Allowed, IsEndLine, IsLine, end-one, end-read, end-written, line-one, line-read, line-written, value_in-some, words_behind}
-use Rattle.trace_text.proofs.Splits.{lacks, all_lack, pieces, rejoined, separated-ended, split-ended}
+use Rattle.text_lines.proofs.Splits.{lacks, all_lack, pieces, rejoined}
+use Rattle.trace_text.proofs.Ended.{separated-ended, split-ended}
 
 -- events that can stand from the number q on
 abbrev pub AreEntries : Header → ℕ → List Entry → Type 0

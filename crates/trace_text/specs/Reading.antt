@@ -15,7 +15,7 @@ use Rattle.trace_text.specs.declared.line.Entry.{Entry}
 use Rattle.trace_text.specs.declared.line.Line.{Line}
 use Rattle.trace_text.specs.declared.line.Line.TheVariants as is
 use Rattle.trace_text.specs.Form.{header_named}
-use Rattle.trace_text.specs.Number.{number_in}
+use Rattle.text_lines.specs.Numeral.{number_in}
 use Rattle.trace_text.specs.Shape.{Shape, is_word, seq_in, shape_of, what_of}
 use Rattle.text_lines.specs.Lines.{split}
 

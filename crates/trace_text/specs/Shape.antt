@@ -14,7 +14,8 @@ use Rattle.trace_text.specs.declared.form.Sign.{Sign}
 use Rattle.trace_text.specs.declared.form.Verb.{Verb}
 use Rattle.trace_text.specs.declared.form.Verb.TheVariants as verbs
 use Rattle.trace_text.specs.Form.{arity, fits, sign_named, verb_named}
-use Rattle.trace_text.specs.Number.{number_in, signed_in}
+use Rattle.trace_text.specs.Number.{signed_in}
+use Rattle.text_lines.specs.Numeral.{number_in}
 
 -- a line of an event: its sign, its verb, and the words that stand for numbers
 pub record Shape : Type 0 where

@@ -16,6 +16,7 @@ use Rattle.trace_text.specs.declared.form.Sign.TheVariants as signs
 use Rattle.trace_text.specs.declared.form.Verb.{Verb}
 use Rattle.trace_text.specs.declared.form.Verb.TheVariants as verbs
 use Rattle.trace_text.specs.declared.line.Entry.{Entry}
+use Rattle.text_lines.specs.Lines.{separated}
 use Rattle.trace_text.specs.Form.{header_text, sign_text, verb_text}
 
 -- the verb and the numbers of a step
@@ -67,11 +68,6 @@ abbrev pub sign_of : Bool → What → Sign
 sign_of struck (Step label) = cond struck signs.Struck signs.Live
 sign_of struck (Undo t m) = signs.Undone
 sign_of struck (Release k) = signs.Released
-
--- pieces with one mark between them
-abbrev pub separated : ℕ → List ℕ → List (List ℕ) → List ℕ
-separated mark piece [] = piece
-separated mark piece (next ∷ pieces) = piece ++ (mark ∷ separated mark next pieces)
 
 -- words with one space between them
 abbrev pub spaced : List ℕ → List (List ℕ) → List ℕ

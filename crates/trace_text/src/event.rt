@@ -1,14 +1,15 @@
 //! From the words of a line to the event.
 ghost use Rattle.std.specs.Prelude.{◌≡◌, [], ◌∷◌, option_map};
-ghost use Rattle.trace_text.specs.Number.{number_in};
+ghost use Rattle.text_lines.specs.Numeral.{number_in};
 ghost use Rattle.trace_text.specs.Seen.{seen_args};
 ghost use Rattle.trace_text.specs.Shape.{count_in, generation_in, name_in, seq_in, what_of};
 
 use crate::form::Verb;
-use crate::number::{number_in, signed_in};
+use crate::number::signed_in;
 use crate::shape::Args;
 use stab_base::{ChanId, RefId, Seq, ThreadId};
 use stab_journal::{Label, What};
+use text_lines::number_in;
 
 /// The greatest number of a thread, a channel or a reference.
 const MOST_NAMED: u64 = 4_000_000_000;

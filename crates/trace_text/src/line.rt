@@ -7,10 +7,10 @@ ghost use Rattle.text_lines.specs.Lines.{split};
 
 use crate::event::{seq_in, what_of};
 use crate::form::{Header, Sign};
-use crate::number::number_in;
 use crate::shape::{Parts, shape_of};
 use crate::words::next_word;
 use stab_journal::{Event, What};
+use text_lines::number_in;
 
 /// The greatest number of a worker.
 const MAX_WORKERS: u64 = 64;

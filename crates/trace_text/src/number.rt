@@ -1,30 +1,13 @@
-//! Numbers in a trace.
-ghost use Rattle.std.specs.Prelude.{◌≡◌, ◌-◌, ◌≤◌, ◌^◌, negsuc, IfSome};
-ghost use Rattle.trace_text.specs.Number.{number_in, signed_in};
+//! Signed numbers in a trace.
+ghost use Rattle.std.specs.Prelude.{◌≡◌, ◌-◌, ◌≤◌, ◌^◌, negsuc};
+ghost use Rattle.trace_text.specs.Number.{signed_in};
 
-use text_lines::digits_value;
+use text_lines::number_in;
 
 // The greatest size of a negative number of 64 bits, and the greatest number.
 const MOST_BELOW: u64 = 1 << 63;
 
 const MOST_ABOVE: u64 = MOST_BELOW - 1;
-
-/// The number from `least` to `most` that a word is, if it is one and is spelled without leading zeros.
-pub fn number_in(least: u64, most: u64, word: &[u8]) -> Option<u64>
-    ensures number { result ≡ number_in least most word.now }
-    ensures within { IfSome result (λ n. (least ≤ n) × (n ≤ most)) }
-{
-    let (first, rest) = word.split_first()?;
-    if *first == b'0' && !rest.is_empty() {
-        return None;
-    }
-    let value = digits_value(word)?;
-    if least <= value && value <= most {
-        Some(value)
-    } else {
-        None
-    }
-}
 
 /// The number of 64 signed bits that a word is, if it is one and is spelled without leading zeros and not as `-0`.
 pub fn signed_in(word: &[u8]) -> Option<i64>

@@ -1,15 +1,18 @@
-use Rattle.std.proofs.Common.{◌≡◌, ◌+◌, ◌*◌, ◌≤◌, length, Some}
-use Rattle.probe_text.specs.Probes.{before, read_lines, reading}
-use Rattle.text_lines.specs.Lines.{split}
+use Rattle.std.proofs.Common.{◌≡◌, ◌+◌, ◌*◌, ◌≤◌, List, ◌++◌, length, ℤ, Result, Ok, Err}
+use Rattle.probe_text.specs.declared.fault.ProbesFault.{ProbesFault}
+use Rattle.probe_text.specs.Probes.{read_lines, reading}
 use Rattle.probe_text.proofs.read.read_probes.Given as goal
+
+-- the numbers before, and then those of the other lines
+abbrev pub behind : List ℤ → Result (List ℤ) ProbesFault → Result (List ℤ) ProbesFault
+behind ns (Ok others) = Ok (ns ++ others)
+behind ns (Err fault) = Err fault
 
 -- what was read so far and what the other lines are read as, together, are what the file is read as
 abbrev pub invariant-loop-line : goal.invariant-loop-line
 invariant-loop-line l = record {
-  same : reading l.bytes ≡ before (Some l.numbers.items) 0 (read_lines l.at (split 10 l.rest));
-  place : l.at + length l.rest ≡ length l.bytes;
-  few : 2 * length l.numbers.items ≤ l.at;
+  can_next : (goal.iterator-loop-line).can_next l.line-iterator;
+  is_finite : (goal.iterator-loop-line).is_finite l.line-iterator;
+  same : reading l.bytes ≡ behind l.numbers.items (read_lines l.line-iterator);
+  few : 2 * (length l.numbers.items + length l.line-iterator) ≤ length l.bytes + 1;
 }
-
-abbrev pub decreases-loop-line : goal.decreases-loop-line
-decreases-loop-line l = length l.rest

@@ -4,9 +4,7 @@ use Rattle.std.specs.Char.{is_ascii_digit}
 use Rattle.std.specs.List.{list_all}
 use Rattle.std.specs.Str.{all_ascii_digits}
 use Rattle.std.proofs.lemmas.Bool.{eqb-true, eq-eqb, leb-true, ne_eqb, and_parts, and_from, not-true}
-use Rattle.std.proofs.lemmas.List.{append-nil}
-use Rattle.trace_text.specs.Text.{separated, ended}
-use Rattle.text_lines.specs.Lines.{longer, split}
+use Rattle.text_lines.specs.Lines.{longer, separated, split}
 
 -- no byte of the piece is the mark
 abbrev pub lacks : ℕ → List ℕ → Bool
@@ -61,13 +59,6 @@ split-separated mark piece (next ∷ pieces) h k =
     let parts = and_parts (lacks mark next) (all_lack mark pieces) k in
     split-first mark piece (separated mark next pieces) h ∙ ap (λ ps. piece ∷ ps) (split-separated mark next pieces parts.0 parts.1)
 
--- ended lines are split into the lines and an empty rest
-pub split-ended : (lines : List (List ℕ)) → all_lack 10 lines ≡ true → split 10 (ended lines) ≡ lines ++ ([] ∷ [])
-split-ended [] h = refl
-split-ended (line ∷ lines) h =
-    let parts = and_parts (lacks 10 line) (all_lack 10 lines) h in
-    split-first 10 line (ended lines) parts.0 ∙ ap (λ ls. line ∷ ls) (split-ended lines parts.1)
-
 -- there is always a first piece
 pub record Pieces (pieces : List (List ℕ)) : Type 0 where
   pub first : List ℕ
@@ -114,8 +105,3 @@ rejoined mark (b ∷ bytes) piece ps given =
           ∙ ap (λ p. separated mark p inner.others) (first_is (b ∷ inner.first) piece inner.others ps whole)
           ∙ ap (separated mark piece) (others_are (b ∷ inner.first) piece inner.others ps whole)
     ] refl given
-
--- lines and an empty rest, joined, are the lines, each ended
-pub separated-ended : (line : List ℕ) (lines : List (List ℕ)) → separated 10 line (lines ++ ([] ∷ [])) ≡ ended (line ∷ lines)
-separated-ended line [] = refl
-separated-ended line (next ∷ lines) = ap (λ bs. line ++ (10 ∷ bs)) (separated-ended next lines)
