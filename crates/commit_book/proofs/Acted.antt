@@ -59,6 +59,7 @@ reserved old h is = record {
   chan = refl;
   ref = refl;
   tallies = refl;
+  read = record { read = refl; floor = refl; own = λ t. refl; prints = refl; lost = refl };
 }
 
 -- a thread by its number

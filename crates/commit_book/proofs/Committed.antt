@@ -1,5 +1,5 @@
 -- What a commit answers and leaves, once it was performed and is counted.
-use Rattle.std.proofs.Common.{◌≡◌, ℕ, ◌+◌, ◌-◌, ◌≤◌, ◌<◌, Bool, true, false, cond, nat_eq, List, [], ◌∷◌, ◌++◌, length, Some, None, sym, ap, subst, ◌∙◌, length-append, arith}
+use Rattle.std.proofs.Common.{◌≡◌, ℕ, ◌+◌, ◌-◌, ◌≤◌, ◌<◌, Bool, true, false, cond, nat_eq, List, [], ◌∷◌, ◌++◌, length, Some, None, sym, ap, subst, ◌∙◌, append-nil, length-append, arith}
 use Rattle.std.specs.Prelude.{◌↔◌, IsTrue}
 use Rattle.std.specs.Ordering.{nat_cmp}
 use Rattle.std.specs.FinMap.{FinMap}
@@ -17,18 +17,19 @@ use Rattle.step_eval.specs.ControlView.{ControlView}
 use Rattle.step_eval.specs.Progress.{Advances, ProgressView}
 use Rattle.thread_slots.specs.Slot.{Slot}
 use Rattle.commit_book.specs.declared.done.Done.{Done}
-use Rattle.commit_book.specs.declared.done.Done.TheVariants.{Taken, Parked, Stale, Over, NotBuilt}
+use Rattle.commit_book.specs.declared.done.Done.TheVariants.{Taken, Parked, Undone, Stale, Over}
 use Rattle.commit_book.specs.declared.done.Outcome.{Outcome}
+use Rattle.commit_book.specs.declared.done.Outcome.TheVariants as outcome
 use Rattle.commit_book.specs.declared.parts.Parts.{Parts}
-use Rattle.commit_book.specs.Acting.{IsDoneBy, IsLateAnswer, IsPerformed, MayAct, answer_to, ended_by, outcome_of}
+use Rattle.commit_book.specs.Acting.{IsDoneBy, IsLateAnswer, IsOutcomeOf, IsPerformed, MayAct, answer_to, ended_by}
 use Rattle.commit_book.specs.Book.{Answered, BookView}
-use Rattle.commit_book.specs.Commits.{IsCommitted, IsCurrent, IsLeftBy, IsMade, IsMoved, IsOver, answer_of, commit_counted, counted, events_by, pushed, row_at}
+use Rattle.commit_book.specs.Commits.{IsAnsweredBy, IsCommitted, IsCurrent, IsLeftBy, IsMade, IsMoved, IsOver, commit_counted, counted, pushed, row_at}
 use Rattle.commit_book.specs.Layout.{IsKept, view_of}
 use Rattle.commit_book.specs.Leases.{LeaseView}
 use Rattle.commit_book.specs.Limits.{commit_reserve}
-use Rattle.commit_book.specs.Rows.{Row, alone, starts, meets, waits, stays, unbuilt, local_of, steps_of, thread}
+use Rattle.commit_book.specs.Rows.{Row, alone, starts, meets, waits, stays, undoes, local_of, steps_of, thread, events_by}
 use Rattle.commit_book.specs.Step.{next_seq}
-use Rattle.commit_book.specs.Turns.{given_back}
+use Rattle.commit_book.specs.Undoing.{IsTakenBack, begun, undo_by}
 
 -- what the test says of the lease
 pub current_by : (r : Bool) (threads : FinMap nat_cmp (Slot ControlView)) (lease : LeaseView) (given origin : ControlView) → IsTrue r ↔ IsCurrent threads lease given → given ≡ origin → r ≡ true → IsCurrent threads lease origin
@@ -43,7 +44,7 @@ committed_late old new lease progress (Stale lent now) away late = (away, late)
 committed_late old new lease progress (Taken first count) away late = absurd late
 committed_late old new lease progress (Parked first count) away late = absurd late
 committed_late old new lease progress (Over weight) away late = absurd late
-committed_late old new lease progress NotBuilt away late = absurd late
+committed_late old new lease progress (Undone first count mark removed marks) away late = absurd late
 
 -- ---- how many events there are then
 
@@ -58,7 +59,7 @@ one_step t (starts u) = omega arith
 one_step t (meets u l) = omega arith
 one_step t (waits o) = omega arith
 one_step t stays = omega arith
-one_step t unbuilt = omega arith
+one_step t (undoes m) = omega arith
 
 -- at most two are pushed
 pushed_few : (lease : LeaseView) (progress : ProgressView) (row : Row) → pushed lease progress row ≤ 2
@@ -78,8 +79,15 @@ module _ (old mid : BookView) (lease : LeaseView) (progress : ProgressView) wher
       let ls = local_of lease.thread progress.steps ++ steps_of lease.thread row in
       ap (λ j. length j.events) moved.history ∙ length-append old.history.events (events_by lease.worker ls) ∙ ap (λ n. length old.history.events + n) (length_events lease.worker ls)
 
+  undone_count : (m : ℕ) → IsTakenBack old mid lease.worker lease.thread progress.steps m (begun old lease.thread progress.steps) → length mid.history.events ≡ length old.history.events + length (local_of lease.thread progress.steps) + 1
+  undone_count m is =
+      let ls = local_of lease.thread progress.steps in
+      ap length is.events
+      ∙ length-append (old.history.events ++ events_by lease.worker ls) (undo_by lease.worker lease.thread m ∷ [])
+      ∙ ap (λ n. n + 1) (length-append old.history.events (events_by lease.worker ls) ∙ ap (λ n. length old.history.events + n) (length_events lease.worker ls))
+
   grown_by : (row : Row) → IsDoneBy old mid lease progress row → (length old.history.events ≤ length mid.history.events) × (length mid.history.events ≤ length old.history.events + 2)
-  grown_by unbuilt done = let same = ap (λ (b : BookView). length b.history.events) done in (omega (arith, same), omega (arith, same))
+  grown_by (undoes m) done = let n = undone_count m done in let few = one_or_none (nat_eq progress.steps 0) (Local (thread lease.thread) progress.steps) in (omega (arith, n), omega (arith, n, few))
   grown_by (alone l) done = let n = moved_count (alone l) done in let few = pushed_few lease progress (alone l) in (omega (arith, n), omega (arith, n, few))
   grown_by (starts u) done = let n = moved_count (starts u) done in let few = pushed_few lease progress (starts u) in (omega (arith, n), omega (arith, n, few))
   grown_by (meets u l) done = let n = moved_count (meets u l) done in let few = pushed_few lease progress (meets u l) in (omega (arith, n), omega (arith, n, few))
@@ -98,13 +106,21 @@ module _ (old mid : BookView) (lease : LeaseView) (progress : ProgressView) wher
           ap (λ (b : BookView). b.answered) is ∙ ap (λ (a : Answered). record a { commits = counted a.commits }) moved.answered,
         )
 
-    left_by : (row : Row) (o : Outcome) → o ≡ outcome_of row → IsDoneBy old mid lease progress row → new ≡ ended_by mid lease o → IsLeftBy old new lease progress row
-    left_by unbuilt o becomes done is = is ∙ ap (ended_by mid lease) becomes ∙ ap (λ (b : BookView). given_back b lease) done
-    left_by (alone l) o becomes done is = left_moved (alone l) done (is ∙ ap (ended_by mid lease) becomes)
-    left_by (starts u) o becomes done is = left_moved (starts u) done (is ∙ ap (ended_by mid lease) becomes)
-    left_by (meets u l) o becomes done is = left_moved (meets u l) done (is ∙ ap (ended_by mid lease) becomes)
-    left_by (waits w) o becomes done is = left_moved (waits w) done (is ∙ ap (ended_by mid lease) becomes)
-    left_by stays o becomes done is = left_moved stays done (is ∙ ap (ended_by mid lease) becomes)
+    left_undone : (m : ℕ) → IsTakenBack old mid lease.worker lease.thread progress.steps m (begun old lease.thread progress.steps) → new ≡ record mid { answered = commit_counted mid }
+        → IsTakenBack old (record new { answered = old.answered }) lease.worker lease.thread progress.steps m (begun old lease.thread progress.steps) × (new.answered ≡ commit_counted old)
+    left_undone m taken is =
+        let back : mid ≡ record new { answered = old.answered } = ap (λ (a : Answered). record mid { answered = a }) taken.answered ∙ ap (λ (b : BookView). record b { answered = old.answered }) (sym is) in (
+          subst (λ (b : BookView). IsTakenBack old b lease.worker lease.thread progress.steps m (begun old lease.thread progress.steps)) back taken,
+          ap (λ (b : BookView). b.answered) is ∙ ap (λ (a : Answered). record a { commits = counted a.commits }) taken.answered,
+        )
+
+    left_by : (row : Row) → IsDoneBy old mid lease progress row → new ≡ ended_by mid → IsLeftBy old new lease progress row
+    left_by (undoes m) done is = left_undone m done is
+    left_by (alone l) done is = left_moved (alone l) done is
+    left_by (starts u) done is = left_moved (starts u) done is
+    left_by (meets u l) done is = left_moved (meets u l) done is
+    left_by (waits w) done is = left_moved (waits w) done is
+    left_by stays done is = left_moved stays done is
 
     -- the answer tells the events
     number_is : (a : Seq) → a.0 ≡ next_seq old → a ≡ record { 0 = next_seq old }
@@ -121,38 +137,29 @@ module _ (old mid : BookView) (lease : LeaseView) (progress : ProgressView) wher
         → done ≡ Parked (record { 0 = next_seq old }) (pushed lease progress row)
     parked_is row a n done moved at is answers = answers ∙ ap (λ (k : Seq). Parked k n) (number_is a at) ∙ ap (Parked (record { 0 = next_seq old })) (count_is row a n moved at is)
 
-    answer_is : (row : Row) (o : Outcome) (a : Seq) (n : ℕ) (done : Done) → o ≡ outcome_of row → IsDoneBy old mid lease progress row → a.0 ≡ next_seq old → n ≡ length mid.history.events + 1 - a.0 → done ≡ answer_to o a n
-        → done ≡ answer_of (next_seq old) (pushed lease progress row) row
-    answer_is unbuilt o a n done becomes did at is answers = answers ∙ ap (λ k. answer_to k a n) becomes
-    answer_is (alone l) o a n done becomes did at is answers = taken_is (alone l) a n done did at is (answers ∙ ap (λ k. answer_to k a n) becomes)
-    answer_is (starts u) o a n done becomes did at is answers = taken_is (starts u) a n done did at is (answers ∙ ap (λ k. answer_to k a n) becomes)
-    answer_is (meets u l) o a n done becomes did at is answers = taken_is (meets u l) a n done did at is (answers ∙ ap (λ k. answer_to k a n) becomes)
-    answer_is (waits w) o a n done becomes did at is answers = parked_is (waits w) a n done did at is (answers ∙ ap (λ k. answer_to k a n) becomes)
-    answer_is stays o a n done becomes did at is answers = parked_is stays a n done did at is (answers ∙ ap (λ k. answer_to k a n) becomes)
+    undone_is : (m : ℕ) (o : Outcome) (a : Seq) (n : ℕ) → IsOutcomeOf (begun old lease.thread progress.steps) (undoes m) o → IsTakenBack old mid lease.worker lease.thread progress.steps m (begun old lease.thread progress.steps) → a.0 ≡ next_seq old → n ≡ length mid.history.events + 1 - a.0
+        → IsAnsweredBy old lease progress (undoes m) (answer_to o a n)
+    undone_is m (outcome.Undone u) a n told taken at is =
+        let more = undone_count m taken in
+        let none : length (local_of lease.thread progress.steps ++ []) ≡ length (local_of lease.thread progress.steps) = ap length (append-nil (local_of lease.thread progress.steps)) in
+        (at, omega (arith, more, at, is, none), told)
+    undone_is m outcome.Taken a n told taken at is = absurd told
+    undone_is m outcome.Parked a n told taken at is = absurd told
 
-    -- no row is answered Stale or Over
-    not_late : (first count : ℕ) (row : Row) (done : Done) → done ≡ answer_of first count row → IsMade old new lease progress (row_at old lease progress) done → IsCurrent old.threads lease progress.origin → (¬ IsOver old) → IsCommitted old new lease progress done
-    not_late first count row (Taken a n) is made current light = (current, light, made)
-    not_late first count row (Parked a n) is made current light = (current, light, made)
-    not_late first count row NotBuilt is made current light = (current, light, made)
-    not_late first count row (Stale lent now) is made current light = absurd (none row is)
-      where
-        none : (r : Row) → Stale lent now ≡ answer_of first count r → ⊥
-        none unbuilt h = absurd (cc)
-        none (alone l) h = absurd (cc)
-        none (starts u) h = absurd (cc)
-        none (meets u l) h = absurd (cc)
-        none (waits w) h = absurd (cc)
-        none stays h = absurd (cc)
-    not_late first count row (Over weight) is made current light = absurd (none row is)
-      where
-        none : (r : Row) → Over weight ≡ answer_of first count r → ⊥
-        none unbuilt h = absurd (cc)
-        none (alone l) h = absurd (cc)
-        none (starts u) h = absurd (cc)
-        none (meets u l) h = absurd (cc)
-        none (waits w) h = absurd (cc)
-        none stays h = absurd (cc)
+    answer_is : (row : Row) (o : Outcome) (a : Seq) (n : ℕ) → IsOutcomeOf (begun old lease.thread progress.steps) row o → IsDoneBy old mid lease progress row → a.0 ≡ next_seq old → n ≡ length mid.history.events + 1 - a.0
+        → IsAnsweredBy old lease progress row (answer_to o a n)
+    answer_is (undoes m) o a n becomes did at is = undone_is m o a n becomes did at is
+    answer_is (alone l) o a n becomes did at is = taken_is (alone l) a n (answer_to o a n) did at is (ap (λ k. answer_to k a n) becomes)
+    answer_is (starts u) o a n becomes did at is = taken_is (starts u) a n (answer_to o a n) did at is (ap (λ k. answer_to k a n) becomes)
+    answer_is (meets u l) o a n becomes did at is = taken_is (meets u l) a n (answer_to o a n) did at is (ap (λ k. answer_to k a n) becomes)
+    answer_is (waits w) o a n becomes did at is = parked_is (waits w) a n (answer_to o a n) did at is (ap (λ k. answer_to k a n) becomes)
+    answer_is stays o a n becomes did at is = parked_is stays a n (answer_to o a n) did at is (ap (λ k. answer_to k a n) becomes)
+
+    -- no outcome is answered Stale or Over
+    on_time_by : (o : Outcome) (a : Seq) (n : ℕ) → IsMade old new lease progress (row_at old lease progress) (answer_to o a n) → IsCurrent old.threads lease progress.origin → (¬ IsOver old) → IsCommitted old new lease progress (answer_to o a n)
+    on_time_by outcome.Taken a n made current light = (current, light, made)
+    on_time_by outcome.Parked a n made current light = (current, light, made)
+    on_time_by (outcome.Undone u) a n made current light = (current, light, made)
 
 -- ---- of a book
 
@@ -162,12 +169,13 @@ module _ (job : JobParts) (old mid : Parts) (lease : LeaseView) (progress : Prog
   grown = grown_by (view_of job old) (view_of job mid) lease progress (row_at (view_of job old) lease progress) performed.done
 
   pub committed_on_time : (new : BookView) (first : Seq) (count : ℕ) (done : Done) → IsCurrent old.slots.threads lease progress.origin → (¬ IsOver (view_of job old)) → first.0 ≡ length old.history.events + 1
-      → count ≡ length mid.history.events + 1 - first.0 → done ≡ answer_to o first count → new ≡ ended_by (view_of job mid) lease o → IsCommitted (view_of job old) new lease progress done
+      → count ≡ length mid.history.events + 1 - first.0 → done ≡ answer_to o first count → new ≡ ended_by (view_of job mid) → IsCommitted (view_of job old) new lease progress done
   committed_on_time new first count done current light at is answers left =
       let row = row_at (view_of job old) lease progress in
-      let answer = answer_is (view_of job old) (view_of job mid) lease progress new row o first count done performed.becomes performed.done at is answers in
-      not_late (view_of job old) (view_of job mid) lease progress new (next_seq (view_of job old)) (pushed lease progress row) row done answer
-      (record { answer = answer; left = left_by (view_of job old) (view_of job mid) lease progress new row o performed.becomes performed.done left }) current light
+      let answer = answer_is (view_of job old) (view_of job mid) lease progress new row o first count performed.becomes performed.done at is in
+      subst (λ (d : Done). IsCommitted (view_of job old) new lease progress d) (sym answers)
+      (on_time_by (view_of job old) (view_of job mid) lease progress new o first count
+      (record { answer = answer; left = left_by (view_of job old) (view_of job mid) lease progress new row performed.done left }) current light)
 
 -- what a commit needs once it is on time
 pub may_commit : (job : JobParts) (parts : Parts) (lease : LeaseView) (progress : ProgressView) → IsKept job parts → IsWithinLimits job → Advances job.program progress.origin progress.steps progress.end → progress.steps ≤ 4294967295

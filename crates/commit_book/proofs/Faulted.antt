@@ -33,7 +33,7 @@ unlike : (a b : ℕ) → nat_eq a b ≡ false → a ≢ b
 unlike a b apart same = false≢true (sym apart ∙ ap (λ k. nat_eq a k) (sym same) ∙ nat_eq_equiv.refl a)
 
 -- at one number another answer
-one_other : (p q : ℕ → Bool) (t n : ℕ) → t < n → ((u : ℕ) → nat_eq u t ≡ false → q u ≡ p u) → length (numbers q n) + one_if (p t) ≡ length (numbers p n) + one_if (q t)
+pub one_other : (p q : ℕ → Bool) (t n : ℕ) → t < n → ((u : ℕ) → nat_eq u t ≡ false → q u ≡ p u) → length (numbers q n) + one_if (p t) ≡ length (numbers p n) + one_if (q t)
 one_other p q t zero low is = absurd (omega arith)
 one_other p q t (suc n) low is =
     elim (nat_eq n t) as (λ b. nat_eq n t ≡ b → length (numbers q (suc n)) + one_if (p t) ≡ length (numbers p (suc n)) + one_if (q t)) [

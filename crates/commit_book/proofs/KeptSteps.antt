@@ -78,10 +78,10 @@ module _ (old new : BookView) (run : List Numbered) (s : PlainState) (worker : �
       subst (λ (k : Next). AreFew new.history.events k.thread k.chan k.ref) (sym is)
       (subst (λ (es : List Event). AreFew es n.thread n.chan n.ref) (sym pushed.events) (few_more old.history.events (event worker (Step l)) old.next.thread old.next.chan old.next.ref n.thread n.chan n.ref shown.few a b c))
 
-  next_same : (l : Label) → IsPushed old new worker l → new.next ≡ old.next → AreOld l old.next.thread old.next.chan old.next.ref → AreNext new.history.events new.next.thread new.next.chan new.next.ref
+  pub next_same : (l : Label) → IsPushed old new worker l → new.next ≡ old.next → AreOld l old.next.thread old.next.chan old.next.ref → AreNext new.history.events new.next.thread new.next.chan new.next.ref
   next_same l pushed is names = next_now l old.next pushed is (next_kept old.history.events worker old.next.thread old.next.chan old.next.ref shown.next l names)
 
-  few_same : (l : Label) → IsPushed old new worker l → new.next ≡ old.next → AreFew new.history.events new.next.thread new.next.chan new.next.ref
+  pub few_same : (l : Label) → IsPushed old new worker l → new.next ≡ old.next → AreFew new.history.events new.next.thread new.next.chan new.next.ref
   few_same l pushed is = few_now l old.next pushed is (omega arith) (omega arith) (omega arith)
 
   -- the script where the step is no probe

@@ -14,7 +14,9 @@ use Rattle.stab_code.specs.Program.{ProgramParts}
 use Rattle.stab_code.specs.Valid.{IsValid}
 use Rattle.stab_journal.specs.declared.event.Label.{Label}
 use Rattle.stab_journal.specs.declared.event.Label.TheVariants.{Local, Get, Enter, Refuse}
-use Rattle.stab_journal.specs.Journal.{Journal}
+use Rattle.stab_journal.specs.declared.event.Numbered.{Numbered}
+use Rattle.stab_journal.specs.Floor.{is_mark_revocable}
+use Rattle.stab_journal.specs.Journal.{Journal, survivors}
 use Rattle.thread_slots.specs.Slot.{Slot}
 use Rattle.checkpoint_store.specs.Saved.{Saved, is_place, saved_at}
 use Rattle.comm_graph.specs.Edge.{NodeList}
@@ -35,16 +37,19 @@ use Rattle.step_eval.specs.ControlView.{ControlView, Fits, expr_of}
 use Rattle.step_eval.specs.Progress.{ProgressView}
 use Rattle.commit_book.specs.declared.done.Outcome.TheVariants as outcome
 use Rattle.commit_book.specs.declared.parts.Parts.{Parts}
-use Rattle.commit_book.specs.Acting.{AreAsBefore, HasGoneOn, IsDone, IsDoneBy, IsLonger, IsPerformed, MayAct, StandsAt, number_after, outcome_of}
-use Rattle.commit_book.specs.Commits.{events_by, row_at}
+use Rattle.commit_book.specs.Acting.{AreAsBefore, HasGoneOn, IsDone, IsLonger, IsPerformed, MayAct, StandsAt, number_after}
+use Rattle.commit_book.specs.Commits.{row_at}
 use Rattle.commit_book.specs.Layout.{IsKept, view_of}
 use Rattle.commit_book.specs.Leases.{LeaseView}
-use Rattle.commit_book.specs.Rows.{Row, alone, local_of, row_of, thread, unbuilt}
+use Rattle.commit_book.specs.Rows.{alone, local_of, section_row, thread, undoes, events_by}
 use Rattle.commit_book.specs.Step.{wrote_after}
 use Rattle.commit_book.proofs.Acted.{both_gone, thread_is}
 use Rattle.commit_book.proofs.EffectsHeld.{Holds}
 use Rattle.commit_book.proofs.KeptLocal.{IsReady}
 use Rattle.commit_book.proofs.NodeSteps.{number_in}
+use Rattle.commit_book.proofs.Performed.{performed_as}
+use Rattle.commit_book.proofs.Rowing.{row_stabilize}
+use Rattle.commit_book.proofs.SameSections.{same_sections}
 use Rattle.commit_book.proofs.SingleActs.{ready_at}
 use Rattle.commit_book.proofs.SingleLabels.{entered_at, got, refused}
 
@@ -69,24 +74,17 @@ local_long t u n = by (nat_eq n 0)
     by true = refl
     by false = refl
 
+not_granted : (run : List Numbered) (t : ℕ) (m : Option ℕ) → is_mark_revocable run m ≡ false → section_row run t m ≡ alone (Some (Refuse (thread t)))
+not_granted run t None held = refl
+not_granted run t (Some m) held = ap (λ b. cond b (undoes m) (alone (Some (Refuse (thread t))))) held
+
 module _ (job : JobParts) (old : Parts) (lease : LeaseView) (progress : ProgressView) where
-  -- a stabilize in a section isn't built, and in none it is refused
-  row_stabilize : StandsAt job.program progress.end own.Stabilize → row_at (view_of job old) lease progress ≡ cond (is_some (mark (expr_of job.program progress.end))) unbuilt (alone (Some (Refuse (thread lease.thread))))
-  row_stabilize at = ap (row_of (view_of job old) lease.thread (expr_of job.program progress.end)) at.look
+  -- a stabilize that isn't granted is refused
+  pub row_refused : StandsAt job.program progress.end own.Stabilize → is_mark_revocable (survivors old.history) (mark (expr_of job.program progress.end)) ≡ false → row_at (view_of job old) lease progress ≡ alone (Some (Refuse (thread lease.thread)))
+  row_refused at held = row_stabilize (view_of job old) lease progress at ∙ not_granted (survivors old.history) lease.thread (mark (expr_of job.program progress.end)) held
 
-  pub unbuilt_here : StandsAt job.program progress.end own.Stabilize → is_some (mark (expr_of job.program progress.end)) ≡ true → IsPerformed job old old lease progress outcome.NotBuilt
-  unbuilt_here at marked =
-      let row : row_at (view_of job old) lease progress ≡ unbuilt = row_stabilize at ∙ ap (λ b. cond b unbuilt (alone (Some (Refuse (thread lease.thread))))) marked in
-      record { becomes = sym (ap outcome_of row); done = subst (λ (r : Row). IsDoneBy (view_of job old) (view_of job old) lease progress r) (sym row) refl }
-
-  pub refused_here : (new : Parts) → StandsAt job.program progress.end own.Stabilize → is_some (mark (expr_of job.program progress.end)) ≡ false → IsDone job old new lease progress (alone (Some (Refuse (thread lease.thread)))) → IsPerformed job old new lease progress outcome.Taken
-  refused_here new at unmarked is =
-      let row : row_at (view_of job old) lease progress ≡ alone (Some (Refuse (thread lease.thread))) = row_stabilize at ∙ ap (λ b. cond b unbuilt (alone (Some (Refuse (thread lease.thread))))) unmarked in
-      record { becomes = sym (ap outcome_of row); done = subst (λ (r : Row). IsDoneBy (view_of job old) (view_of job new) lease progress r) (sym row) is }
-
-none_there : {A : Type 0} (o : Option A) → is_some o ≡ false → o ≡ None
-none_there None is = refl
-none_there (Some a) is = absurd (false≢true (sym is))
+  pub refused_here : (new : Parts) → StandsAt job.program progress.end own.Stabilize → is_mark_revocable (survivors old.history) (mark (expr_of job.program progress.end)) ≡ false → IsDone job old new lease progress (alone (Some (Refuse (thread lease.thread)))) → IsPerformed job old new lease progress outcome.Taken
+  refused_here new at held is = performed_as job old lease progress new (alone (Some (Refuse (thread lease.thread)))) (row_refused at held) refl is
 
 module _ (job : JobParts) (old : Parts) (lease : LeaseView) (progress : ProgressView) (may : MayAct job old lease progress) (planned begins : Parts) (before : AreAsBefore old planned) (longer : IsLonger planned.history begins.history lease.worker (local_of lease.thread progress.steps)) (rest : begins ≡ record planned { history = begins.history }) where
   abbrev ready : IsReady (view_of job old) (view_of job begins) may.kept.shown.state (thread lease.thread) (expr_of job.program progress.end)
@@ -105,16 +103,16 @@ module _ (job : JobParts) (old : Parts) (lease : LeaseView) (progress : Progress
       omega (arith, pushed, same)
 
   module _ (pushed new : Parts) (u : ThreadId) (u_is : u.0 ≡ lease.thread) (more : pushed ≡ record begins { history = pushed.history }) (x : ThreadId) (x_is : x.0 ≡ lease.thread) (was c : ControlView) (fits : Fits job.program c) where
-    pub refuse_lasts : StandsAt job.program progress.end own.Stabilize → is_some (mark (expr_of job.program progress.end)) ≡ false → IsLonger begins.history pushed.history lease.worker (Refuse u ∷ [])
+    pub refuse_lasts : StandsAt job.program progress.end own.Stabilize → is_mark_revocable (survivors old.history) (mark (expr_of job.program progress.end)) ≡ false → IsLonger begins.history pushed.history lease.worker (Refuse u ∷ [])
         → expr_of job.program c ≡ failed NoSection → IfSome (map.get pushed.slots.threads x.0) (λ (k : Slot ControlView). k.control ≡ was)
         → ((p : ProgramParts) → IsValid p → Fits p c → Fits p was → HasGoneOn p pushed new x.0 was c)
         → IsPerformed job old new lease progress outcome.Taken × IsKept job new
-    refuse_lasts at unmarked history expr stood gone =
+    refuse_lasts at held history expr stood gone =
         let both : IsDone job old new lease progress (alone (Some (Refuse (thread lease.thread)))) × IsKept job new =
         both_gone job old lease progress may planned begins before longer rest pushed new own.Stabilize at refl (Refuse (thread lease.thread)) (to (language_of job.program) (failed NoSection))
-        (refused job old lease progress may planned begins before longer rest pushed at (none_there (mark (expr_of job.program progress.end)) unmarked) (by_thread pushed.history (λ y. Refuse y) u u_is history) more)
+        (refused job old lease progress may planned begins before longer rest pushed at (sym (same_sections job old lease progress may planned begins before longer rest (mark (expr_of job.program progress.end))) ∙ held) (by_thread pushed.history (λ y. Refuse y) u u_is history) more)
         (ap (λ k. k.offers) more) x was c x_is (sym expr) fits stood gone in
-        (refused_here job old lease progress new at unmarked both.0, both.1)
+        (refused_here job old lease progress new at held both.0, both.1)
 
     module _ (q : Seq) (q_is : q.0 ≡ length begins.history.events + 1) (y w : ThreadId) (y_is : y.0 ≡ lease.thread) (w_is : w.0 ≡ lease.thread) (saved : Saved ControlView) (end : ControlView) (end_is : end ≡ progress.end)
         (saves : (k : Seq) (z : ThreadId) → saved_at saved k z ≡ (if is_place q y k z then Some end else saved_at pushed.store k z)) where

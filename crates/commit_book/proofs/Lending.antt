@@ -89,6 +89,7 @@ kept_requeued job old new rest next is once kept =
         undos = kept.tallied.undos;
         faulted = kept.tallied.faulted ∙ sym (faulted_requeued job.program old.slots.threads new.slots.threads old.slots.next is);
       };
+      read = kept.read;
     })
 
 module _ {C : Type 0} where

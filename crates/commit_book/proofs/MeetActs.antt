@@ -129,6 +129,9 @@ module _ (job : JobParts) (old : Parts) (lease : LeaseView) (progress : Progress
     history_is : new.history ≡ noted.history
     history_is = ap (λ k. k.history) whole
 
+    pub rollback_met : new.rollback ≡ begins.rollback
+    rollback_met = ap (λ (k : Parts). k.rollback) whole
+
     offers_are : new.offers ≡ withdrawn.offers
     offers_are = ap (λ k. k.offers) whole
 

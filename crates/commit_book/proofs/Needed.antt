@@ -13,7 +13,7 @@ use Rattle.stab_code.specs.JobParts.{JobParts}
 use Rattle.stab_journal.specs.Event.{IsGeneration, IsName}
 use Rattle.checkpoint_store.specs.Saved.{Saved, IsBelow, saved_at}
 use Rattle.comm_graph.specs.Node.{Node}
-use Rattle.ref_log.specs.Calls.{IsAllowed, made, wrote}
+use Rattle.ref_log.specs.Calls.{IsAllowed, cut, made, wrote}
 use Rattle.ref_log.specs.Log.{Log, Write, last_of, writes_of}
 use Rattle.plain_language.specs.Expression.{Expr}
 use Rattle.plain_language.specs.Table.{gets, sets}
@@ -36,7 +36,7 @@ use Rattle.commit_book.proofs.KeptLocal.{IsReady}
 use Rattle.commit_book.proofs.Lasted.{read_so}
 use Rattle.commit_book.proofs.Room.{chan_begins, chan_name, generation_within, probes_few, ref_begins, ref_name, chan_within, ref_within}
 use Rattle.commit_book.proofs.RoomHere.{reference_away, reference_below}
-use Rattle.commit_book.proofs.RoomKept.{last_before, last_number, may_make, may_save, may_write, nodes_before, some_writes}
+use Rattle.commit_book.proofs.RoomKept.{last_before, last_number, may_cut, may_make, may_save, may_write, nodes_before, some_writes}
 use Rattle.commit_book.proofs.RoomNames.{ref_from}
 use Rattle.commit_book.proofs.SingleActs.{few_at, journal_at, ready_at, room_at, stands_there}
 
@@ -98,6 +98,10 @@ module _ (job : JobParts) (old : Parts) (lease : LeaseView) (progress : Progress
     -- so does a saved control
     pub save_behind : (store : Saved ControlView) → store.controls ≡ begins.store.controls → (q : Seq) (t : ThreadId) → q.0 ≡ length begins.history.events + 1 → (k : Seq) (u : ThreadId) → IsSome (saved_at store k u) → IsBelow (k, u) (q, t)
     save_behind store is q t q_is = may_save (view_of job begins) ready.run ready.state ready.journal store q t is q_is
+
+    pub cut_allowed : (log : Log) → log ≡ begins.log → (q : ℕ) → q ≡ length begins.history.events + 1 → IsAllowed (cut q) log
+    cut_allowed log is q q_is =
+        subst (λ (n : ℕ). IsAllowed (cut n) log) (sym q_is) (may_cut (view_of job begins) ready.run ready.state ready.journal log (ap (λ k. k.references) is) (ap (λ k. k.last_cut) is))
 
     pub ref_away : map.contains_key ready.state.references begins.next_ref ≡ false
     ref_away = reference_away (view_of job begins) ready.run ready.state ready.journal

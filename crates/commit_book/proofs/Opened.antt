@@ -116,6 +116,7 @@ module _ (job : JobParts) (old : Parts) (lease : LeaseView) (progress : Progress
                 (chan_step (view_of job begins) (view_of job done) ready.run ready.state lease.worker ready.journal (thread lease.thread) d e
                 (pushed_of job begins done lease.worker l history) (low_now job old lease progress may planned begins before longer rest_so) same refl lines_now seen_now);
             slots = ap (λ k. k.slots) more;
+            rollback = ap (λ k. k.rollback) more;
             probes = ap (λ k. k.tallies) more ∙ none_more begins.tallies;
           }
 

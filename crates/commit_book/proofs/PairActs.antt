@@ -60,6 +60,7 @@ use Rattle.commit_book.proofs.KeptTallies.{finals_now, probes_now, released_now,
 use Rattle.commit_book.proofs.Queueing.{queue_started}
 use Rattle.commit_book.proofs.RoomHere.{thread_away}
 use Rattle.commit_book.proofs.SeenAfter.{journal_after, pushed_of}
+use Rattle.commit_book.proofs.SeenRead.{begun_read, stepped_read}
 use Rattle.commit_book.proofs.SingleActs.{IsAt, doing_at, journal_at, low_at, slot_at}
 use Rattle.commit_book.proofs.Standing.{MayMove, moved, put}
 use Rattle.commit_book.proofs.Staying.{unfailed, unparked}
@@ -105,6 +106,7 @@ module _ (job : JobParts) (old : Parts) (lease : LeaseView) (progress : Progress
     pub allowed : allows ready.state l ≡ true
     pub history : IsLonger begins.history new.history lease.worker (l ∷ [])
     pub step : IsStepOf (view_of job begins) (view_of job new) ready.run ready.state lease.worker l e
+    pub rollback : new.rollback ≡ begins.rollback
 
   -- nobody was put back
   pub put_back_by : (new : Parts) (l : Label) (e : Effect Expr) → IsStepped new l e → (u : ℕ) → generation u new.history.events ≡ generation u old.history.events
@@ -149,6 +151,9 @@ module _ (job : JobParts) (old : Parts) (lease : LeaseView) (progress : Progress
           undos = ap (λ k. k.undos) tallies ∙ may.kept.tallied.undos ∙ sym ready.undos ∙ sym (undos_now begins.history.events lease.worker l) ∙ sym (ap (count_by is_undo) is.history.events);
           faulted = faulted;
         };
+        read =
+            stepped_read begins new lease.worker l is.history is.uncut is.rollback
+            (begun_read old planned begins lease.worker lease.thread progress.steps before longer rest may.kept.read);
       }
 
   -- ---- a child is started
@@ -266,6 +271,7 @@ module _ (job : JobParts) (old : Parts) (lease : LeaseView) (progress : Progress
     stepped : IsStepped new l e
     stepped = record {
       uncut = refl;
+      rollback = ap (λ (k : Parts). k.rollback) whole;
       unprobed = refl;
       may_step = tt;
       effect = spawn_effect job.program ready.state (next_seq (view_of job begins)) (thread lease.thread) (expr_of job.program progress.end) ready.stands u (called (body job.program) f.0 (operands_of progress.end)) is.looks;

@@ -1,10 +1,11 @@
 -- What a commit does, by what is asked of its thread.
-use Rattle.std.proofs.Common.{◌≡◌, ℕ, true, List, None, refl, sym, ap, subst, ◌∙◌}
+use Rattle.std.proofs.Common.{◌≡◌, ℕ, Bool, true, false, List, None, refl, sym, ap, subst, ◌∙◌}
 use Rattle.std.specs.Prelude.{Err, IfErr, IfOk, Ok, OnErr, OnOk, Result}
 use Rattle.std.proofs.lemmas.Bool.{false≢true}
 use Rattle.stab_base.specs.Datum.{Datum}
 use Rattle.stab_code.specs.JobParts.{JobParts}
 use Rattle.stab_code.specs.Program.{ProgramParts}
+use Rattle.stab_journal.specs.declared.event.Numbered.{Numbered}
 use Rattle.plain_language.specs.Expression.{Expr}
 use Rattle.plain_language.specs.Plain.{look_in}
 use Rattle.plain_language.specs.Program.{body}
@@ -19,13 +20,14 @@ use Rattle.step_eval.specs.ControlView.{ControlView, expr_of}
 use Rattle.step_eval.specs.Progress.{ProgressView}
 use Rattle.commit_book.specs.declared.done.Outcome.TheVariants as outcome
 use Rattle.commit_book.specs.declared.parts.Parts.{Parts}
-use Rattle.commit_book.specs.Acting.{IsDone, IsDoneBy, IsPerformed, StandsAt, is_simple, offer_of, outcome_of, row_by, stands_at_none}
+use Rattle.commit_book.specs.Acting.{IsDone, IsDoneBy, IsPerformed, StandsAt, IsOutcomeOf, is_simple, offer_of, row_by, stands_at_none}
 use Rattle.commit_book.specs.Book.{BookView}
 use Rattle.commit_book.specs.Commits.{IsMoved, row_at}
 use Rattle.commit_book.specs.Layout.{view_of}
 use Rattle.commit_book.specs.Leases.{LeaseView}
-use Rattle.commit_book.specs.Rows.{Row, alone, starts, meets, waits, stays, unbuilt}
-use Rattle.commit_book.proofs.Rowing.{row_cut, row_none, row_simple}
+use Rattle.commit_book.specs.Rows.{Row, alone, starts, meets}
+use Rattle.commit_book.specs.Undoing.{begun}
+use Rattle.commit_book.proofs.Rowing.{row_none, row_simple}
 
 -- ---- what is asked
 
@@ -58,57 +60,62 @@ module _ (p : ProgramParts) (c : ControlView) (q : Ask) (look : IsAsked (body p)
 
 -- ---- which act it is
 
--- an act that is on no channel, no stabilize and no cut
-pub simple_left : (a : Act) → offer_of a ≡ None → (a ≡ own.Stabilize → ⊥) → (a ≡ own.Cut → ⊥) → is_simple a ≡ true
-simple_left (own.Send c) none unstable uncut = absurd (cc)
-simple_left (own.Recv c) none unstable uncut = absurd (cc)
-simple_left (own.Pick c d) none unstable uncut = absurd (cc)
-simple_left own.Stabilize none unstable uncut = absurd (unstable refl)
-simple_left own.Cut none unstable uncut = absurd (uncut refl)
-simple_left _ none unstable uncut = refl
+-- an act that is on no channel, and no stabilize
+pub simple_left : (a : Act) → offer_of a ≡ None → (a ≡ own.Stabilize → ⊥) → is_simple a ≡ true
+simple_left (own.Send c) none unstable = absurd (cc)
+simple_left (own.Recv c) none unstable = absurd (cc)
+simple_left (own.Pick c d) none unstable = absurd (cc)
+simple_left own.Stabilize none unstable = absurd (unstable refl)
+simple_left _ none unstable = refl
 
-simple_taken : (b : BookView) (t : ℕ) (a : Act) → is_simple a ≡ true → outcome_of (row_by b t a) ≡ outcome.Taken
-simple_taken b t (own.Spawn f) h = refl
-simple_taken b t own.NewChan h = refl
-simple_taken b t own.NewRef h = refl
-simple_taken b t (own.Get r) h = refl
-simple_taken b t (own.Set r) h = refl
-simple_taken b t (own.Enter f) h = refl
-simple_taken b t own.Pin h = refl
-simple_taken b t own.Print h = refl
-simple_taken b t own.Probe h = refl
-simple_taken b t own.Attempt h = refl
-simple_taken b t _ h = absurd (false≢true h)
+-- a row by which the thread goes on
+abbrev pub goes_on : Row → Bool
+goes_on (alone l) = true
+goes_on (starts u) = true
+goes_on (meets u l) = true
+goes_on _ = false
+
+simple_goes : (b : BookView) (t : ℕ) (a : Act) → is_simple a ≡ true → goes_on (row_by b t a) ≡ true
+simple_goes b t (own.Spawn f) h = refl
+simple_goes b t own.NewChan h = refl
+simple_goes b t own.NewRef h = refl
+simple_goes b t (own.Get r) h = refl
+simple_goes b t (own.Set r) h = refl
+simple_goes b t (own.Enter f) h = refl
+simple_goes b t own.Cut h = refl
+simple_goes b t own.Pin h = refl
+simple_goes b t own.Print h = refl
+simple_goes b t own.Probe h = refl
+simple_goes b t own.Attempt h = refl
+simple_goes b t _ h = absurd (false≢true h)
 
 -- ---- what became of the thread
 
-taken_by : (old new : BookView) (lease : LeaseView) (progress : ProgressView) (row : Row) → outcome_of row ≡ outcome.Taken → IsMoved old new lease.worker lease.thread progress.steps row → IsDoneBy old new lease progress row
-taken_by old new lease progress (alone l) taken is = is
-taken_by old new lease progress (starts u) taken is = is
-taken_by old new lease progress (meets u l) taken is = is
-taken_by old new lease progress (waits o) taken is = is
-taken_by old new lease progress stays taken is = is
-taken_by old new lease progress unbuilt taken is = absurd (cc)
+taken_by : (old new : BookView) (lease : LeaseView) (progress : ProgressView) (row : Row) → goes_on row ≡ true → IsMoved old new lease.worker lease.thread progress.steps row → IsDoneBy old new lease progress row
+taken_by old new lease progress (alone l) goes is = is
+taken_by old new lease progress (starts u) goes is = is
+taken_by old new lease progress (meets u l) goes is = is
+taken_by old new lease progress _ goes is = absurd (false≢true goes)
+
+taken_as : (run : List Numbered) (row : Row) → goes_on row ≡ true → IsOutcomeOf run row outcome.Taken
+taken_as run (alone l) goes = refl
+taken_as run (starts u) goes = refl
+taken_as run (meets u l) goes = refl
+taken_as run _ goes = absurd (false≢true goes)
 
 module _ (job : JobParts) (old : Parts) (lease : LeaseView) (progress : ProgressView) where
-  performed_as : (new : Parts) (row : Row) → row_at (view_of job old) lease progress ≡ row → outcome_of row ≡ outcome.Taken → IsDone job old new lease progress row → IsPerformed job old new lease progress outcome.Taken
-  performed_as new row at taken is = record {
-    becomes = sym (ap outcome_of at ∙ taken);
-    done = subst (λ (r : Row). IsDoneBy (view_of job old) (view_of job new) lease progress r) (sym at) (taken_by (view_of job old) (view_of job new) lease progress row taken is);
+  pub performed_as : (new : Parts) (row : Row) → row_at (view_of job old) lease progress ≡ row → goes_on row ≡ true → IsDone job old new lease progress row → IsPerformed job old new lease progress outcome.Taken
+  performed_as new row at goes is = record {
+    becomes = subst (λ (r : Row). IsOutcomeOf (begun (view_of job old) lease.thread progress.steps) r outcome.Taken) (sym at) (taken_as (begun (view_of job old) lease.thread progress.steps) row goes);
+    done = subst (λ (r : Row). IsDoneBy (view_of job old) (view_of job new) lease progress r) (sym at) (taken_by (view_of job old) (view_of job new) lease progress row goes is);
   }
 
   pub simple_performed : (new : Parts) (a : Act) → StandsAt job.program progress.end a → is_simple a ≡ true → IsDone job old new lease progress (row_by (view_of job old) lease.thread a) → IsPerformed job old new lease progress outcome.Taken
   simple_performed new a at simple is =
-      performed_as new (row_by (view_of job old) lease.thread a) (row_simple (view_of job old) lease progress a at simple) (simple_taken (view_of job old) lease.thread a simple) is
+      performed_as new (row_by (view_of job old) lease.thread a) (row_simple (view_of job old) lease progress a at simple) (simple_goes (view_of job old) lease.thread a simple) is
 
   pub rest_performed : (new : Parts) → stands_at_none (look_in job.program (expr_of job.program progress.end)) ≡ true → IsDone job old new lease progress (alone None) → IsPerformed job old new lease progress outcome.Taken
   rest_performed new none is = performed_as new (alone None) (row_none (view_of job old) lease progress none) refl is
-
-  -- a cut isn't built
-  pub cut_performed : StandsAt job.program progress.end own.Cut → IsPerformed job old old lease progress outcome.NotBuilt
-  cut_performed at =
-      let row : row_at (view_of job old) lease progress ≡ unbuilt = row_cut (view_of job old) lease progress at in
-      record { becomes = sym (ap outcome_of row); done = subst (λ (r : Row). IsDoneBy (view_of job old) (view_of job old) lease progress r) (sym row) refl }
 
 -- ---- where an answer is passed on
 

@@ -51,4 +51,5 @@ kept_recounted job parts commits stale is = record {
     undos = is.tallied.undos;
     faulted = is.tallied.faulted;
   };
+  read = is.read;
 }

@@ -1,4 +1,4 @@
--- A commit of a thread that stands at no act: it goes on, or has ended.
+-- A commit of a thread that offers nothing and makes no step of an act: it goes on, or has ended.
 use Rattle.std.proofs.Common.{◌≡◌, ℕ, ◌+◌, true, false, cond, nat_eq, [], ◌∷◌, ◌++◌, length, Some, None, refl, sym, ap, subst, ◌∙◌}
 use Rattle.std.specs.Prelude.{IfSome, count_by, if◌then◌else◌}
 use Rattle.std.specs.FinMap as map
@@ -34,6 +34,7 @@ use Rattle.commit_book.proofs.Going.{get_other, shows_one}
 use Rattle.commit_book.proofs.KeptLocal.{IsReady}
 use Rattle.commit_book.proofs.Queueing.{queue_one}
 use Rattle.commit_book.proofs.SeenAfter.{journal_after}
+use Rattle.commit_book.proofs.SeenRead.{begun_read, still_read}
 use Rattle.commit_book.proofs.SingleActs.{IsAt, answers, doing_at, journal_beside, low_at, moved_on, not_listed, ready_at, slot_at}
 use Rattle.commit_book.proofs.SingleCalls.{stood_so}
 use Rattle.commit_book.proofs.Standing.{MayMove, moved, of_some, put}
@@ -41,13 +42,13 @@ use Rattle.commit_book.proofs.Staying.{ended_still, failed_over, unparked}
 use Rattle.commit_book.proofs.WaitActs.{line_itself, none_more}
 
 -- who stands at no act offers nothing
-unoffering : (k : Look Expr) → stands_at_none k ≡ true → offer_at k ≡ None
+pub unoffering : (k : Look Expr) → stands_at_none k ≡ true → offer_at k ≡ None
 unoffering (done v) h = refl
 unoffering (fault f) h = refl
 unoffering (pure e) h = refl
 unoffering (act a) h = absurd (false≢true h)
 
-module _ (job : JobParts) (old : Parts) (lease : LeaseView) (progress : ProgressView) (may : MayAct job old lease progress) (none : stands_at_none (look_in job.program (expr_of job.program progress.end)) ≡ true)
+module _ (job : JobParts) (old : Parts) (lease : LeaseView) (progress : ProgressView) (may : MayAct job old lease progress) (quiet : offer_at (look_in job.program (expr_of job.program progress.end)) ≡ None)
     (planned begins : Parts) (before : AreAsBefore old planned) (longer : IsLonger planned.history begins.history lease.worker (local_of lease.thread progress.steps)) (rest : begins ≡ record planned { history = begins.history }) where
   abbrev here : IsAt old.slots.threads lease progress.origin
   here = slot_at job old lease progress may
@@ -66,8 +67,7 @@ module _ (job : JobParts) (old : Parts) (lease : LeaseView) (progress : Progress
     slot = here.slot;
     found = here.found;
     unparked =
-        unparked job.program here.slot progress.origin progress.steps progress.end (doing_at job old lease progress may) here.control may.made
-        (unoffering (look_in job.program (expr_of job.program progress.end)) none);
+        unparked job.program here.slot progress.origin progress.steps progress.end (doing_at job old lease progress may) here.control may.made quiet;
     fits = may.made.fits;
     ended = resting_ended (over job.program progress.end);
     parked = resting_unparked (over job.program progress.end);
@@ -138,6 +138,7 @@ module _ (job : JobParts) (old : Parts) (lease : LeaseView) (progress : Progress
                 ∙ ap (λ m. faulted_in p m old.slots.next) (sym threads_are)
                 ∙ ap (faulted_in p new.slots.threads) (sym next_is);
           };
+          read = still_read begins new history_is (ap (λ (k : Parts). k.rollback) gone.rest) (begun_read old planned begins lease.worker lease.thread progress.steps before longer rest may.kept.read);
         }
 
     pub done_resting : IsDone job old new lease progress (alone None)
@@ -151,17 +152,24 @@ module _ (job : JobParts) (old : Parts) (lease : LeaseView) (progress : Progress
       answered = ap (λ (k : Tallies). answers k) tallies_are;
     }
 
+  -- what the call that puts the thread there leaves, in the words of the lease and the progress
+  pub gone_here : (new : Parts) (u : ThreadId) (was c : ControlView) → u.0 ≡ lease.thread → c ≡ progress.end → IfSome (map.get begins.slots.threads u.0) (λ (k : Slot ControlView). k.control ≡ was)
+      → ((p : ProgramParts) → IsValid p → Fits p c → Fits p was → HasGoneOn p begins new u.0 was c)
+      → (was ≡ here.slot.control) × HasGoneOn job.program begins new lease.thread was progress.end
+  gone_here new u was c number end stood gone =
+      let at : IfSome (map.get begins.slots.threads lease.thread) (λ (k : Slot ControlView). k.control ≡ was) = subst (λ (t : ℕ). IfSome (map.get begins.slots.threads t) (λ (k : Slot ControlView). k.control ≡ was)) number stood in
+      let found : map.get begins.slots.threads lease.thread ≡ Some here.slot = ap (λ (k : Parts). map.get k.slots.threads lease.thread) rest ∙ ap (λ m. map.get m lease.thread) before.threads ∙ here.found in
+      let same : was ≡ here.slot.control = stood_so (map.get begins.slots.threads lease.thread) here.slot was found at in
+      let fitted : Fits job.program here.slot.control = of_some (map.get old.slots.threads lease.thread) here.slot (λ (k : Slot ControlView). Fits job.program k.control) here.found (may.kept.shown.shows.threads.fit lease.thread) in
+      (same,
+      subst (λ (x : ControlView). HasGoneOn job.program begins new lease.thread was x) end
+      (subst (λ (t : ℕ). HasGoneOn job.program begins new t was c) number
+      (gone job.program may.kept.valid (subst (Fits job.program) (sym end) may.made.fits) (subst (Fits job.program) (sym same) fitted))))
+
   -- the thread is put where its progress ended
   pub rest_lasts : (new : Parts) (u : ThreadId) (was c : ControlView) → u.0 ≡ lease.thread → c ≡ progress.end → IfSome (map.get begins.slots.threads u.0) (λ (k : Slot ControlView). k.control ≡ was)
       → ((p : ProgramParts) → IsValid p → Fits p c → Fits p was → HasGoneOn p begins new u.0 was c)
       → IsDone job old new lease progress (alone None) × IsKept job new
   rest_lasts new u was c number end stood gone =
-      let at : IfSome (map.get begins.slots.threads lease.thread) (λ (k : Slot ControlView). k.control ≡ was) = subst (λ (t : ℕ). IfSome (map.get begins.slots.threads t) (λ (k : Slot ControlView). k.control ≡ was)) number stood in
-      let found : map.get begins.slots.threads lease.thread ≡ Some here.slot = ap (λ (k : Parts). map.get k.slots.threads lease.thread) rest ∙ ap (λ m. map.get m lease.thread) before.threads ∙ here.found in
-      let same : was ≡ here.slot.control = stood_so (map.get begins.slots.threads lease.thread) here.slot was found at in
-      let fitted : Fits job.program here.slot.control = of_some (map.get old.slots.threads lease.thread) here.slot (λ (k : Slot ControlView). Fits job.program k.control) here.found (may.kept.shown.shows.threads.fit lease.thread) in
-      let gone_so : HasGoneOn job.program begins new lease.thread was progress.end =
-      subst (λ (x : ControlView). HasGoneOn job.program begins new lease.thread was x) end
-      (subst (λ (t : ℕ). HasGoneOn job.program begins new t was c) number
-      (gone job.program may.kept.valid (subst (Fits job.program) (sym end) may.made.fits) (subst (Fits job.program) (sym same) fitted))) in
-      (done_resting new was same gone_so, kept_resting new was same gone_so)
+      let so = gone_here new u was c number end stood gone in
+      (done_resting new was so.0 so.1, kept_resting new was so.0 so.1)

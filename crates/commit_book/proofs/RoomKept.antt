@@ -1,13 +1,13 @@
 -- The next event may be added to the log of writes, to the saved controls and to the graph.
-use Rattle.std.proofs.Common.{◌≡◌, ◌≢◌, inl, inr, ℕ, ◌<◌, ◌≤◌, Bool, true, false, cond, nat_eq, List, [], ◌∷◌, ◌++◌, Option, Some, None, IsSome, refl, sym, ap, subst, ◌∙◌, arith}
+use Rattle.std.proofs.Common.{◌≡◌, ◌≢◌, inl, inr, ℕ, ◌<◌, ◌≤◌, Bool, true, false, cond, ◌||◌, nat_eq, List, [], ◌∷◌, ◌++◌, Option, Some, None, IsSome, refl, sym, ap, subst, ◌∙◌, arith}
 use Rattle.std.specs.Prelude.{is_some, nat_lt, option_map, if◌then◌else◌}
-use Rattle.std.specs.List.{All, last_or}
+use Rattle.std.specs.List.{All, AllByRecursion, last_or}
 use Rattle.std.specs.Ordering.{nat_cmp}
 use Rattle.std.specs.FinMap as map
 use Rattle.std.specs.FinMap.{FinMap}
 use Rattle.std.proofs.lemmas.Bool.{false≢true, eqb-true, and_parts}
 use Rattle.std.proofs.lemmas.Bool.Decides.{nat_tests}
-use Rattle.std.proofs.lemmas.List.Elements.{All-from_recursion}
+use Rattle.std.proofs.lemmas.List.Elements.{All-from_recursion, recursion_from_All}
 use Rattle.stab_base.specs.Datum.{Datum}
 use Rattle.stab_base.specs.declared.numbers.Seq.{Seq}
 use Rattle.stab_base.specs.declared.numbers.ThreadId.{ThreadId}
@@ -18,8 +18,8 @@ use Rattle.stab_journal.specs.Floor.{floor}
 use Rattle.stab_journal.specs.Journal.{RiseFrom}
 use Rattle.checkpoint_store.specs.Saved.{Saved, IsBelow, is_place, place_cmp, saved_at}
 use Rattle.comm_graph.specs.Node.{Node}
-use Rattle.ref_log.specs.Calls.{IsAllowed, made, wrote}
-use Rattle.ref_log.specs.Log.{Log, Write, last_of}
+use Rattle.ref_log.specs.Calls.{IsAllowed, cut, made, wrote}
+use Rattle.ref_log.specs.Log.{Log, Write, has_write, last_of, writes_of}
 use Rattle.plain_language.specs.Plain.{PlainState, effect_of, start}
 use Rattle.step_eval.specs.ControlView.{ControlView, expr_of}
 use Rattle.journal_laws.proofs.Surviving.{some_none}
@@ -29,7 +29,7 @@ use Rattle.commit_book.specs.References.{writes_at}
 use Rattle.commit_book.specs.Run.{stood_at}
 use Rattle.commit_book.specs.Saved.{saved_of}
 use Rattle.commit_book.specs.Step.{next_seq, wrote_after}
-use Rattle.commit_book.proofs.Floors.{floor_below}
+use Rattle.commit_book.proofs.Floors.{differs, floor_below}
 use Rattle.commit_book.proofs.JournalSteps.{numbered}
 use Rattle.commit_book.proofs.NodeSteps.{all_below, number_in, read_number, wrote_below}
 use Rattle.commit_book.proofs.RoomRun.{kept_writes_below, next_rises, stood_none}
@@ -68,6 +68,11 @@ cond_none : {A : Type 0} (b : Bool) (o : Option A) → o ≡ None → cond b o N
 cond_none true o is = is
 cond_none false o is = refl
 
+-- no write has a number that is above all of them
+none_written : (q : ℕ) (ws : List Write) → AllByRecursion (λ (w : Write). w.number < q) ws → has_write q ws ≡ false
+none_written q [] low = refl
+none_written q (w ∷ ws) low = ap (λ b. b || has_write q ws) (differs q w.number low.0) ∙ none_written q ws low.1
+
 any : Label
 any = Enter (record { 0 = 1 })
 
@@ -96,9 +101,9 @@ module _ (b : BookView) (run : List Numbered) (s : PlainState) (shown : ShowsJou
   pub some_writes : (r : ℕ) → map.contains_key s.references r ≡ true → writes_at b.references r ≢ []
   some_writes r there none = false≢true (ap is_some (sym (ap (λ ws. value_in (last_of ws)) none) ∙ shown.references r) ∙ there)
 
-  module _ (log : Log) (same : log.references ≡ b.references) (cut : log.last_cut ≡ b.last_cut) where
+  module _ (log : Log) (same : log.references ≡ b.references) (last : log.last_cut ≡ b.last_cut) where
     above : log.last_cut < next_seq b
-    above = subst (λ (k : ℕ). k < next_seq b) (sym cut) cut_before
+    above = subst (λ (k : ℕ). k < next_seq b) (sym last) cut_before
 
     -- a reference can be made, and one that is there written
     pub may_make : (r : ℕ) (v : Datum) → map.contains_key s.references r ≡ false → IsAllowed (made r (next_seq b) v) log
@@ -109,6 +114,13 @@ module _ (b : BookView) (run : List Numbered) (s : PlainState) (shown : ShowsJou
       λ none. some_writes r there (sym (ap (λ m. writes_at m r) same) ∙ none),
       subst (λ (m : FinMap nat_cmp (List Write)). All (λ (w : Write). w.number < next_seq b) (writes_at m r)) (sym same) (writes_before r),
       above,
+    )
+
+    -- a cut can be made at it
+    pub may_cut : IsAllowed (cut (next_seq b)) log
+    may_cut = (
+      λ r. none_written (next_seq b) (writes_of log r) (recursion_from_All (λ (w : Write). w.number < next_seq b) (writes_of log r) (subst (λ (m : FinMap nat_cmp (List Write)). All (λ (w : Write). w.number < next_seq b) (writes_at m r)) (sym same) (writes_before r))),
+      omega (arith, above),
     )
 
   -- ---- saved controls

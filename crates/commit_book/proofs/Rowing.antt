@@ -3,9 +3,11 @@ use Rattle.std.proofs.Common.{◌≡◌, ℕ, true, List, None, refl, ap, ◌∙
 use Rattle.std.proofs.lemmas.Bool.{false≢true}
 use Rattle.stab_base.specs.Datum.{Datum}
 use Rattle.stab_code.specs.Program.{ProgramParts}
+use Rattle.stab_journal.specs.Journal.{survivors}
 use Rattle.plain_language.specs.Expression.{Expr}
 use Rattle.plain_language.specs.Plain.{look_in}
 use Rattle.plain_language.specs.Program.{body}
+use Rattle.plain_language.specs.Redex.{mark}
 use Rattle.plain_language.specs.Table.{Look, act, done, fault, pure}
 use Rattle.step_eval.specs.declared.act.Act.{Act}
 use Rattle.step_eval.specs.declared.act.Act.TheVariants as own
@@ -18,9 +20,9 @@ use Rattle.commit_book.specs.Book.{BookView, offered}
 use Rattle.commit_book.specs.Commits.{row_at}
 use Rattle.commit_book.specs.Doing.{offer_at}
 use Rattle.commit_book.specs.Leases.{LeaseView}
-use Rattle.commit_book.specs.Rows.{alone, unbuilt, row_of}
+use Rattle.commit_book.specs.Rows.{alone, row_of, section_row}
 
--- an act on no channel and on no section
+-- an act after which the thread always goes on
 simple_row : (b : BookView) (t : ℕ) (e : Expr) (fs : ℕ → Expr) (vs : List Datum) (a : Act) → is_simple a ≡ true → row_of b t e (act (act_of fs vs a)) ≡ row_by b t a
 simple_row b t e fs vs (own.Spawn f) h = refl
 simple_row b t e fs vs own.NewChan h = refl
@@ -32,7 +34,7 @@ simple_row b t e fs vs (own.Recv c) h = absurd (false≢true h)
 simple_row b t e fs vs (own.Pick c d) h = absurd (false≢true h)
 simple_row b t e fs vs (own.Enter f) h = refl
 simple_row b t e fs vs own.Stabilize h = absurd (false≢true h)
-simple_row b t e fs vs own.Cut h = absurd (false≢true h)
+simple_row b t e fs vs own.Cut h = refl
 simple_row b t e fs vs own.Pin h = refl
 simple_row b t e fs vs own.Print h = refl
 simple_row b t e fs vs own.Probe h = refl
@@ -74,8 +76,8 @@ module _ (b : BookView) (lease : LeaseView) (progress : ProgressView) where
   pub row_none : stands_at_none (look_in b.job.program (expr_of b.job.program progress.end)) ≡ true → row_at b lease progress ≡ alone None
   row_none h = no_row b lease.thread (expr_of b.job.program progress.end) (look_in b.job.program (expr_of b.job.program progress.end)) h
 
-  pub row_cut : StandsAt b.job.program progress.end own.Cut → row_at b lease progress ≡ unbuilt
-  row_cut at = row_under (act (act_of (body b.job.program) (operands_of progress.end) own.Cut)) at.look
+  pub row_stabilize : StandsAt b.job.program progress.end own.Stabilize → row_at b lease progress ≡ section_row (survivors b.history) lease.thread (mark (expr_of b.job.program progress.end))
+  row_stabilize at = row_under (act (act_of (body b.job.program) (operands_of progress.end) own.Stabilize)) at.look
 
 -- with what a thread waits that stands at an act
 pub offers_by : (p : ProgramParts) (c : ControlView) (a : Act) → StandsAt p c a → offered p c ≡ offer_of a

@@ -24,11 +24,11 @@ use Rattle.commit_book.specs.declared.parts.Parts.{Parts}
 use Rattle.commit_book.specs.Acting.{AreAsBefore, IsLonger}
 use Rattle.commit_book.specs.Book.{BookView, IsShown}
 use Rattle.commit_book.specs.Counts.{faulted_in, is_undo}
-use Rattle.commit_book.specs.Commits.{events_by}
 use Rattle.commit_book.specs.Layout.{IsKept, view_of, without_spare}
-use Rattle.commit_book.specs.Rows.{local_of, thread}
+use Rattle.commit_book.specs.Rows.{local_of, thread, events_by}
 use Rattle.commit_book.proofs.KeptLocal.{IsBegun}
 use Rattle.commit_book.proofs.KeptSteps.{IsPushed}
+use Rattle.commit_book.proofs.SeenRead.{same_read}
 use Rattle.commit_book.proofs.Pushing.{local_some}
 
 abbrev seen : JobParts → Journal → FinMap nat_cmp (Slot ControlView) → List ℕ → Seen → ℕ → FinMap nat_cmp (List Write) → FinMap place_cmp ControlView → List Node → List Datum → ℕ → ℕ → ℕ → Tallies → BookView
@@ -64,7 +64,6 @@ view_same job old new before =
     ∙ ap (λ x. seen job (without_spare old.history) old.slots.threads old.slots.queue old.offers old.log.last_cut old.log.references old.store.controls old.graph.nodes old.printed.items old.slots.next old.next_chan x new.tallies) before.ref
     ∙ ap (λ x. seen job (without_spare old.history) old.slots.threads old.slots.queue old.offers old.log.last_cut old.log.references old.store.controls old.graph.nodes old.printed.items old.slots.next old.next_chan old.next_ref x) before.tallies
 
--- and what is kept stays kept
 pub kept_same : (job : JobParts) (old new : Parts) → AreAsBefore old new → IsKept job old → IsKept job new
 kept_same job old new before kept = record {
   valid = kept.valid;
@@ -79,6 +78,7 @@ kept_same job old new before kept = record {
         ∙ sym (ap (λ m. faulted_in job.program m old.slots.next) before.threads)
         ∙ sym (ap (faulted_in job.program new.slots.threads) before.next);
   };
+  read = same_read old new before kept.read;
 }
 
 events_same : (old new : Parts) → AreAsBefore old new → new.history.events ≡ old.history.events

@@ -36,6 +36,7 @@ use Rattle.commit_book.specs.Rows.{alone, local_of, thread}
 use Rattle.commit_book.specs.Step.{next_seq}
 use Rattle.commit_book.proofs.Adding.{resting_ended, resting_state, resting_unparked}
 use Rattle.commit_book.proofs.SeenAfter.{begun_of, journal_after}
+use Rattle.commit_book.proofs.SeenRead.{begun_read, stepped_read}
 use Rattle.commit_book.proofs.Faulted.{faulted_goes}
 use Rattle.commit_book.proofs.Going.{apply_one, get_other, shows_alone, still_put_back}
 use Rattle.commit_book.proofs.JournalSteps.{numbered}
@@ -146,6 +147,7 @@ module _ (job : JobParts) (old : Parts) (lease : LeaseView) (progress : Progress
       pub history : IsLonger begins.history done.history lease.worker (l ∷ [])
       pub journal : ShowsJournal (view_of job done) (ready_at.run ++ numbered (next_seq (view_of job begins)) l ∷ []) (apply ready_at.state l e)
       pub slots : done.slots ≡ begins.slots
+      pub rollback : done.rollback ≡ begins.rollback
       pub probes : done.tallies ≡ record begins.tallies { probes = begins.tallies.probes + length (probed_by (Step l)) }
 
     -- so it was, and the thread, which stood at no offer and wasn't over, stands at the control c
@@ -268,4 +270,7 @@ module _ (job : JobParts) (old : Parts) (lease : LeaseView) (progress : Progress
                   ∙ ap (λ m. faulted_in p m old.slots.next) (sym threads_now)
                   ∙ ap (faulted_in p new.slots.threads) (sym next_now);
             };
+            read =
+                stepped_read begins new lease.worker l longer_now is.stepped.uncut (ap (λ (k : Parts). k.rollback) is.gone.rest ∙ is.stepped.rollback)
+                (begun_read old planned begins lease.worker lease.thread progress.steps before longer rest may.kept.read);
           }

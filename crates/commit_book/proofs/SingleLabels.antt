@@ -64,10 +64,10 @@ module _ (job : JobParts) (old : Parts) (lease : LeaseView) (progress : Progress
 
   module _ (done : Parts) where
     -- ---- a stabilize that is refused
-    pub refused : StandsAt job.program progress.end own.Stabilize → mark (expr_of job.program progress.end) ≡ None
+    pub refused : StandsAt job.program progress.end own.Stabilize → is_mark_revocable ready.run (mark (expr_of job.program progress.end)) ≡ false
         → IsLonger begins.history done.history lease.worker (Refuse (thread lease.thread) ∷ []) → done ≡ record begins { history = done.history }
         → IsStepped job old lease progress may planned begins before longer rest done (Refuse (thread lease.thread)) (to (language_of job.program) (failed NoSection))
-    refused at unmarked history is =
+    refused at held history is =
         let l = Refuse (thread lease.thread) in
         let seen : view_of job done ≡ record (view_of job begins) { history = without_spare done.history } = ap (view_of job) is in
         let pushed = pushed_of job begins done lease.worker l history in
@@ -76,7 +76,7 @@ module _ (job : JobParts) (old : Parts) (lease : LeaseView) (progress : Progress
           uncut = refl;
           history = history;
           journal = journal_step (view_of job begins) (view_of job done) ready.run ready.state lease.worker l (to (language_of job.program) (failed NoSection)) ready.journal
-              (ap (is_mark_revocable ready.run) (ap (option_and_then mark) ready.stands ∙ unmarked))
+              (ap (is_mark_revocable ready.run) (ap (option_and_then mark) ready.stands) ∙ held)
               (refuse_effect job.program ready.state (next_seq (view_of job begins)) (thread lease.thread) (expr_of job.program progress.end) ready.stands at.look)
               (refl) refl
               (plain_step (view_of job begins) (view_of job done) ready.run ready.state lease.worker ready.journal l (to (language_of job.program) (failed NoSection)) (refuse_plain (thread lease.thread)) pushed
@@ -85,6 +85,7 @@ module _ (job : JobParts) (old : Parts) (lease : LeaseView) (progress : Progress
               (ap (λ b. b.printed) seen ∙ sym (append-nil begins.printed.items))
               (unprinted job begins done seen));
           slots = ap (λ k. k.slots) is;
+          rollback = ap (λ k. k.rollback) is;
           probes = ap (λ k. k.tallies) is ∙ none_more begins.tallies;
         }
 
@@ -111,6 +112,7 @@ module _ (job : JobParts) (old : Parts) (lease : LeaseView) (progress : Progress
               (ap (λ b. b.printed) seen ∙ sym (append-nil begins.printed.items))
               (unprinted job begins done seen));
           slots = ap (λ k. k.slots) is;
+          rollback = ap (λ k. k.rollback) is;
           probes = ap (λ k. k.tallies) is ∙ none_more begins.tallies;
         }
 
@@ -138,6 +140,7 @@ module _ (job : JobParts) (old : Parts) (lease : LeaseView) (progress : Progress
               (ap (λ b. b.printed) seen ∙ sym (append-nil begins.printed.items))
               (unprinted job begins done seen));
           slots = ap (λ k. k.slots) is;
+          rollback = ap (λ k. k.rollback) is;
           probes = ap (λ k. k.tallies) is;
         }
 
@@ -160,6 +163,7 @@ module _ (job : JobParts) (old : Parts) (lease : LeaseView) (progress : Progress
               (pin_step (view_of job begins) (view_of job done) ready.run ready.state lease.worker ready.journal (thread lease.thread) (to (language_of job.program) (answered (expr_of job.program progress.end) unit))
               (pushed_of job begins done lease.worker l history) low_now refl nodes (ap (view_of job) is));
           slots = ap (λ k. k.slots) is;
+          rollback = ap (λ k. k.rollback) is;
           probes = ap (λ k. k.tallies) is ∙ none_more begins.tallies;
         }
 
@@ -183,6 +187,7 @@ module _ (job : JobParts) (old : Parts) (lease : LeaseView) (progress : Progress
               (enter_step (view_of job begins) (view_of job done) ready.run ready.state lease.worker ready.journal (thread lease.thread) (to (language_of job.program) (entered (expr_of job.program progress.end) (length begins.history.events + 1) b)) progress.end
               (pushed_of job begins done lease.worker l history) low_now refl (sym ready.stands) may.made.fits saved nodes (ap (view_of job) is));
           slots = ap (λ k. k.slots) is;
+          rollback = ap (λ k. k.rollback) is;
           probes = ap (λ k. k.tallies) is ∙ none_more begins.tallies;
         }
 
@@ -207,6 +212,7 @@ module _ (job : JobParts) (old : Parts) (lease : LeaseView) (progress : Progress
               (get_step (view_of job begins) (view_of job done) ready.run ready.state lease.worker ready.journal (thread lease.thread) r (to (language_of job.program) (answered (expr_of job.program progress.end) v)) progress.end w
               (pushed_of job begins done lease.worker l history) low_now there refl (sym ready.stands) may.made.fits saved last nodes (ap (view_of job) is));
           slots = ap (λ k. k.slots) is;
+          rollback = ap (λ k. k.rollback) is;
           probes = ap (λ k. k.tallies) is ∙ none_more begins.tallies;
         }
 
@@ -235,6 +241,7 @@ module _ (job : JobParts) (old : Parts) (lease : LeaseView) (progress : Progress
               (writes_wrote begins.log done.log r.0 (length begins.history.events + 1) v after) nodes
               (seen ∙ uncut_by));
           slots = ap (λ k. k.slots) is;
+          rollback = ap (λ k. k.rollback) is;
           probes = ap (λ k. k.tallies) is ∙ none_more begins.tallies;
         }
 
@@ -265,5 +272,6 @@ module _ (job : JobParts) (old : Parts) (lease : LeaseView) (progress : Progress
               (writes_made begins.log done.log begins.next_ref (length begins.history.events + 1) v after) nodes
               (seen ∙ uncut_by));
           slots = ap (λ k. k.slots) is;
+          rollback = ap (λ k. k.rollback) is;
           probes = ap (λ k. k.tallies) is ∙ none_more begins.tallies;
         }

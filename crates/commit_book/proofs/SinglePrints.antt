@@ -53,5 +53,6 @@ module _ (job : JobParts) (old : Parts) (lease : LeaseView) (progress : Progress
             printed
             (ap (view_of job) is));
         slots = ap (λ k. k.slots) is;
+        rollback = ap (λ k. k.rollback) is;
         probes = ap (λ k. k.tallies) is ∙ none_more begins.tallies;
       }

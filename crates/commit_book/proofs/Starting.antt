@@ -33,6 +33,7 @@ use Rattle.commit_book.specs.Doing.{IsDoing, is_over, is_failed, waits_with}
 use Rattle.commit_book.specs.Layout.{AreTallied, IsKept, view_of}
 use Rattle.commit_book.specs.Numbers.{greatest, threads_by, named_by, chans_in, refs_in}
 use Rattle.commit_book.specs.Started.{IsStarted}
+use Rattle.commit_book.proofs.ReadKept.{read_none_yet}
 
 none_got : (script : List ℤ) (i : ℕ) → IfSome (slice_get [] i) (λ n. n ≡ script_at script i)
 none_got script zero = tt
@@ -163,4 +164,4 @@ start_tallied p parts is = record {
 }
 
 pub start_kept : (job : JobParts) (parts : Parts) → IsStarted job.program parts → IsKept job parts
-start_kept job parts is = record { valid = is.valid; shown = record { run = []; state = start job.program; shows = start_shown job parts is }; tallied = start_tallied job.program parts is }
+start_kept job parts is = record { valid = is.valid; shown = record { run = []; state = start job.program; shows = start_shown job parts is }; tallied = start_tallied job.program parts is; read = read_none_yet parts.history parts.rollback (ap (survivors_from parts.history.struck 1) is.events) is.unread }

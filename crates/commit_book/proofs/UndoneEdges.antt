@@ -12,7 +12,7 @@ use Rattle.stab_journal.specs.declared.event.Label.{Label}
 use Rattle.stab_journal.specs.declared.event.Label.TheVariants.{Spawn, Comm, NewRef, Get, Set, Enter, Pin}
 use Rattle.stab_journal.specs.declared.event.Numbered.{Numbered}
 use Rattle.stab_journal.specs.Dependence.{writes, writes_what}
-use Rattle.stab_journal.specs.Floor.{floor, is_enter, is_entered, is_revocable}
+use Rattle.stab_journal.specs.Floor.{floor, is_enter, is_entered, is_pin, is_revocable}
 use Rattle.stab_journal.specs.Journal.{RiseFrom}
 use Rattle.stab_journal.specs.Label.{actors, spawned, touched, written}
 use Rattle.stab_journal.specs.Names.{has, is_at, read}
@@ -26,9 +26,9 @@ use Rattle.restore.specs.Line.{starts, IsMarkedAs, AreThere}
 use Rattle.journal_laws.specs.Lines.{is_node, has_node, Leads, by_thread, by_write, IsEdge, Marked, itself, edge}
 use Rattle.journal_laws.proofs.Chains.{or_cases, or_right}
 use Rattle.journal_laws.proofs.Entries.{nodes as marked_nodes}
-use Rattle.journal_laws.proofs.Held.{parts_of, cuts_hold, entry_of}
+use Rattle.journal_laws.proofs.Held.{parts_of, entry_of, reached_above}
 use Rattle.journal_laws.proofs.Numbers.{one_step}
-use Rattle.commit_book.specs.Graph.{node_of, wrote_by, nodes_from, AreNodesOf}
+use Rattle.commit_book.specs.Graph.{is_pinned, node_of, wrote_by, nodes_from, AreNodesOf}
 use Rattle.commit_book.specs.Step.{wrote_after}
 use Rattle.commit_book.proofs.Floors.{less_is}
 use Rattle.commit_book.proofs.NodeSteps.{above_floor}
@@ -175,9 +175,21 @@ at_some : (o : Option ℕ) (r : ℕ) → is_at o r ≡ true → is_some o ≡ tr
 at_some None r h = absurd (false≢true h)
 at_some (Some k) r h = refl
 
-enter_node : (l : Label) → is_enter l ≡ true → is_node l ≡ true
+pub enter_node : (l : Label) → is_enter l ≡ true → is_node l ≡ true
 enter_node (Enter t) h = refl
 enter_node _ h = absurd (false≢true h)
+
+-- the section entered at m was entered after the last cut; a pin may depend on it
+pub record IsUncut (run : List Numbered) (m : ℕ) : Type 0 where
+  pub entered : is_entered m run ≡ true
+  pub above : floor run < m
+
+pub uncut_of : (run : List Numbered) (m : ℕ) → is_revocable run m ≡ true → IsUncut run m
+uncut_of run m revocable = let parts = parts_of run m revocable in record { entered = parts.entered; above = parts.above }
+
+-- what is reached from it stands above the last cut
+pub stays_above : (run : List Numbered) (m q : ℕ) → RiseFrom 1 run → IsUncut run m → has (reached run m) q ≡ true → floor run < q
+stays_above run m q rise uncut lost = omega (arith, uncut.above, reached_above run m 1 q rise lost)
 
 -- the node of a step is there, and its threads are the step's
 pub record IsKindOf (nodes : List Node) (n : Numbered) : Type 0 where
@@ -186,6 +198,7 @@ pub record IsKindOf (nodes : List Node) (n : Numbered) : Type 0 where
   pub acts : (t : ℕ) → graph.acts t kind ≡ has (actors n.label) t
   pub touches : (t : ℕ) → graph.touches t kind ≡ has (touched n.label) t
   pub starts : (t : ℕ) → starts t kind ≡ is_at (spawned n.label) t
+  pub pins : is_pinned kind ≡ is_pin n.label
 
 write_end : (a b : Bool) → a ≡ true → b ≡ false → (a && not b) ≡ true
 write_end a b first second = ap (λ c. c && not b) first ∙ ap (λ c. not c) second
@@ -218,6 +231,7 @@ module _ (run : List Numbered) (nodes : List Node) (rise : RiseFrom 1 run) (are 
       acts = λ t. listed_is t (graph.actors own.kind) ∙ ap (λ ts. has ts t) own.actors;
       touches = λ t. listed_is t (graph.touched own.kind) ∙ ap (λ ts. has ts t) own.touched;
       starts = own.starts;
+      pins = own.pins;
     }
 
     leads_to : ends nodes e.seq.0 ≡ flat_map (λ t. next_of t later) (graph.touched own.kind) ++ read_ends (record { number = e.seq.0; kind = own.kind }) (nodes_from parts.now (place.front ++ e ∷ after))
@@ -313,9 +327,9 @@ module _ (run : List Numbered) (nodes : List Node) (rise : RiseFrom 1 run) (are 
       leads (by_thread t touches acts none) = thread_end e d.before (d.between ++ f ∷ d.after) d.is d.from over d.between f d.after t refl d.to touches acts none
       leads (by_write h) = what_case e.label d.between (read f.label) (list_any (nat_eq f.seq.0) (ends nodes e.seq.0) ≡ true) (λ r reads wrote none. read_end e d.before (d.between ++ f ∷ d.after) d.is d.from over d.between f d.after r refl reads wrote none) h
 
-  module _ (m : ℕ) (revocable : is_revocable run m ≡ true) where
+  module _ (m : ℕ) (uncut : IsUncut run m) where
     entered : is_entered m run ≡ true
-    entered = (parts_of run m revocable).entered
+    entered = uncut.entered
 
     -- the step numbered q is marked in the run
     pub record IsMark (q : ℕ) : Type 0 where
@@ -338,7 +352,7 @@ module _ (run : List Numbered) (nodes : List Node) (rise : RiseFrom 1 run) (are 
     goes f marked = let p = placed f marked in (marked_nodes run m rise entered p.before f p.after p.is p.node).1 marked
 
     above : (f : Numbered) → Marked run m f → floor run < f.seq.0
-    above f marked = cuts_hold run m f.seq.0 rise revocable (goes f marked)
+    above f marked = stays_above run m f.seq.0 rise uncut (goes f marked)
 
     pub reached_mark : (q : ℕ) → marks.Reached nodes m q → IsMark q
     reached_mark _ marks.itself =
@@ -379,9 +393,9 @@ module _ (run : List Numbered) (nodes : List Node) (rise : RiseFrom 1 run) (are 
 
     -- a lost node is marked, as what its step is
     pub marked_as : (qs : List ℕ) → marks.AreReached nodes m qs → (P : NodeFor → Bool) (before : List Numbered) (f : Numbered) (after : List Numbered) (cut : run ≡ before ++ f ∷ after) (node : is_node f.label ≡ true) (lost : has (reached run m) f.seq.0 ≡ true)
-        → P (kind_step f before after cut node (cuts_hold run m f.seq.0 rise revocable lost)).kind ≡ true → IsMarkedAs nodes qs P f.seq.0
+        → P (kind_step f before after cut node (stays_above run m f.seq.0 rise uncut lost)).kind ≡ true → IsMarkedAs nodes qs P f.seq.0
     marked_as qs reach P before f after cut node lost passes =
-        let k = kind_step f before after cut node (cuts_hold run m f.seq.0 rise revocable lost) in
+        let k = kind_step f before after cut node (stays_above run m f.seq.0 rise uncut lost) in
         record { kind = k.kind; marked = marks_are qs reach before f after cut node ∙ lost; there = k.there; passes = passes }
 
     -- the lost step of a marked node
@@ -413,6 +427,22 @@ module _ (run : List Numbered) (nodes : List Node) (rise : RiseFrom 1 run) (are 
           kind = own;
           passes = ap P (same_kind own.kind is.kind (kind_of nodes k.f.seq.0) own.there (ap (kind_of nodes) k.number ∙ is.there)) ∙ is.passes;
         }
+
+    -- the lost node of a mark
+    pub record IsNodeAt (q : ℕ) : Type 0 where
+      pub before : List Numbered
+      pub f : Numbered
+      pub after : List Numbered
+      pub is : run ≡ before ++ f ∷ after
+      pub number : f.seq.0 ≡ q
+      pub lost : has (reached run m) f.seq.0 ≡ true
+      pub node : is_node f.label ≡ true
+
+    pub marked_at : (qs : List ℕ) → marks.AreReached nodes m qs → (q : ℕ) → marks.has q qs ≡ true → IsNodeAt q
+    marked_at qs reach q marked =
+        let k = reached_mark q (among (marks.Reached nodes m) qs q reach.only marked) in
+        let at = placed k.f k.marked in
+        record { before = at.before; f = k.f; after = at.after; is = at.is; number = k.number; lost = goes k.f k.marked; node = at.node }
 
     -- each marked node is in the graph
     pub marks_there : (qs : List ℕ) → marks.AreReached nodes m qs → AreThere nodes qs

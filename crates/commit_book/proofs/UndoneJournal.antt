@@ -57,7 +57,7 @@ pub record IsUndoOf (old new : BookView) (run : List Numbered) (worker t m : ℕ
   pub nodes : new.nodes ≡ stay (has (reached run m)) old.nodes
 
 -- no step comes
-survivors-undo : (struck : FinSet nat_cmp) (q worker t m : ℕ) (es : List Event) → survivors_from struck q (es ++ undo_of worker t m ∷ []) ≡ survivors_from struck q es
+pub survivors-undo : (struck : FinSet nat_cmp) (q worker t m : ℕ) (es : List Event) → survivors_from struck q (es ++ undo_of worker t m ∷ []) ≡ survivors_from struck q es
 survivors-undo struck q worker t m [] = elim (contains struck q) as (λ b. cond {A = List Numbered} b [] [] ++ [] ≡ []) [ true ↦ refl | false ↦ refl ]
 survivors-undo struck q worker t m (e ∷ es) = ap (λ ns. cond (contains struck q) [] (step_at q e.what) ++ ns) (survivors-undo struck (suc q) worker t m es)
 

@@ -27,12 +27,12 @@ use Rattle.journal_laws.specs.Lines.{is_node}
 use Rattle.journal_laws.specs.Lost.{is_hit}
 use Rattle.journal_laws.proofs.Chains.{or_right}
 use Rattle.journal_laws.proofs.Gone.{spawn_touches}
-use Rattle.journal_laws.proofs.Held.{cuts_hold, parts_of}
+use Rattle.journal_laws.proofs.Held.{parts_of}
 use Rattle.journal_laws.proofs.Numbers.{rise_front}
 use Rattle.commit_book.specs.Graph.{AreNodesOf}
 use Rattle.commit_book.specs.Run.{saves}
 use Rattle.commit_book.specs.Saved.{saved_of}
-use Rattle.commit_book.proofs.UndoneEdges.{IsKindOf, kind_step, marked_as, lost_mark}
+use Rattle.commit_book.proofs.UndoneEdges.{IsKindOf, kind_step, marked_as, lost_mark, stays_above, uncut_of}
 use Rattle.commit_book.proofs.UndoneThreads.{IsBack, AreCarried, first_saved}
 
 acts_touched : (l : Label) (t : ℕ) → has (actors l) t ≡ true → has (touched l) t ≡ true
@@ -44,17 +44,17 @@ spawn_node (Spawn a b) t h = refl
 spawn_node _ t h = absurd (false≢true h)
 
 -- a lost step that touches the thread
-hit_here : (gone : ℕ → Bool) (t : ℕ) (before : List Numbered) (n : Numbered) (after : List Numbered) → gone n.seq.0 ≡ true → has (touched n.label) t ≡ true → is_hit gone t (before ++ n ∷ after) ≡ true
+pub hit_here : (gone : ℕ → Bool) (t : ℕ) (before : List Numbered) (n : Numbered) (after : List Numbered) → gone n.seq.0 ≡ true → has (touched n.label) t ≡ true → is_hit gone t (before ++ n ∷ after) ≡ true
 hit_here gone t [] n after goes at = ap (λ b. (b && has (touched n.label) t) || is_hit gone t after) goes ∙ ap (λ b. b || is_hit gone t after) at
 hit_here gone t (k ∷ before) n after goes at = or_right (gone k.seq.0 && has (touched k.label) t) _ (hit_here gone t before n after goes at)
 
 -- a step of a smaller number stands before another one
-record IsEarlier (before : List Numbered) (f : Numbered) : Type 0 where
-  front : List Numbered
-  back : List Numbered
-  is : before ≡ front ++ f ∷ back
+pub record IsEarlier (before : List Numbered) (f : Numbered) : Type 0 where
+  pub front : List Numbered
+  pub back : List Numbered
+  pub is : before ≡ front ++ f ∷ back
 
-earlier_in : (p : ℕ) (b : List Numbered) (f : Numbered) (a before : List Numbered) (n : Numbered) (after : List Numbered) → RiseFrom p (b ++ f ∷ a) → b ++ f ∷ a ≡ before ++ n ∷ after → f.seq.0 < n.seq.0 → IsEarlier before f
+pub earlier_in : (p : ℕ) (b : List Numbered) (f : Numbered) (a before : List Numbered) (n : Numbered) (after : List Numbered) → RiseFrom p (b ++ f ∷ a) → b ++ f ∷ a ≡ before ++ n ∷ after → f.seq.0 < n.seq.0 → IsEarlier before f
 earlier_in p [] f a [] n after rise cut low =
     let same : f ≡ n = cc in
     let number : f.seq.0 ≡ n.seq.0 = ap (λ (k : Numbered). k.seq.0) same in
@@ -79,7 +79,7 @@ not_below a b h = grind (arith, nat_tests)
 both_ways : (a b : ℕ) → a ≤ b → b ≤ a → a ≡ b
 both_ways a b low high = omega arith
 
-saves_node : (l : Label) → saves l ≡ true → is_node l ≡ true
+pub saves_node : (l : Label) → saves l ≡ true → is_node l ≡ true
 saves_node (Enter t) h = refl
 saves_node (Comm s r c) h = refl
 saves_node (Get t r) h = refl
@@ -105,16 +105,16 @@ module _ (run : List Numbered) (nodes : List Node) (rise : RiseFrom 1 run) (are 
   gone = has (reached run m)
 
   own : (before : List Numbered) (n : Numbered) (after : List Numbered) → run ≡ before ++ n ∷ after → is_node n.label ≡ true → gone n.seq.0 ≡ true → IsKindOf nodes n
-  own before n after cut node lost = kind_step run nodes rise are n before after cut node (cuts_hold run m n.seq.0 rise revocable lost)
+  own before n after cut node lost = kind_step run nodes rise are n before after cut node (stays_above run m n.seq.0 rise (uncut_of run m revocable) lost)
 
   -- a thread that loses nothing has no line
   pub line_untouched : (t : ℕ) (o : Option Line) → is_hit gone t run ≡ false → IsLineOf nodes qs t o → o ≡ None
   line_untouched t None miss is = refl
   line_untouched t (Some Gone) miss is =
-      let l = lost_mark run nodes rise are m revocable qs reach (starts t) is.0 is.1 in
+      let l = lost_mark run nodes rise are m (uncut_of run m revocable) qs reach (starts t) is.0 is.1 in
       absurd (false≢true (sym miss ∙ ap (is_hit gone t) l.is ∙ hit_here gone t l.before l.f l.after l.lost (spawn_touches l.f.label t (sym (l.kind.starts t) ∙ l.passes))))
   line_untouched t (Some (From q)) miss is =
-      let l = lost_mark run nodes rise are m revocable qs reach (graph.acts t) q.0 is.1 in
+      let l = lost_mark run nodes rise are m (uncut_of run m revocable) qs reach (graph.acts t) q.0 is.1 in
       absurd (false≢true (sym miss ∙ ap (is_hit gone t) l.is ∙ hit_here gone t l.before l.f l.after l.lost (acts_touched l.f.label t (sym (l.kind.acts t) ∙ l.passes))))
 
   -- a thread that a lost step spawned is gone
@@ -124,10 +124,10 @@ module _ (run : List Numbered) (nodes : List Node) (rise : RiseFrom 1 run) (are 
       let node = spawn_node n.label t spawns in
       let k = own before n after cut node lost in
       elim o as (λ o. IsLineOf nodes qs t o → o ≡ Some Gone) [
-        | None ↦ λ is. absurd (is n.seq.0 (marked_as run nodes rise are m revocable qs reach (graph.touches t) before n after cut node lost (k.touches t ∙ spawn_touches n.label t spawns)))
+        | None ↦ λ is. absurd (is n.seq.0 (marked_as run nodes rise are m (uncut_of run m revocable) qs reach (graph.touches t) before n after cut node lost (k.touches t ∙ spawn_touches n.label t spawns)))
         | (Some line) ↦ elim line as (λ l. IsLineOf nodes qs t (Some l) → Some l ≡ Some Gone) [
           | Gone ↦ λ is. refl
-          | (From q) ↦ λ is. absurd (is.0 n.seq.0 (marked_as run nodes rise are m revocable qs reach (starts t) before n after cut node lost (k.starts t ∙ spawns)))
+          | (From q) ↦ λ is. absurd (is.0 n.seq.0 (marked_as run nodes rise are m (uncut_of run m revocable) qs reach (starts t) before n after cut node lost (k.starts t ∙ spawns)))
         ]
       ]
 
@@ -139,12 +139,12 @@ module _ (run : List Numbered) (nodes : List Node) (rise : RiseFrom 1 run) (are 
   line_from t o before n after cut miss lost acts node alive =
       let k = own before n after cut node lost in
       elim o as (λ o. IsLineOf nodes qs t o → o ≡ Some (From (record { 0 = n.seq.0 }))) [
-        | None ↦ λ is. absurd (is n.seq.0 (marked_as run nodes rise are m revocable qs reach (graph.touches t) before n after cut node lost (k.touches t ∙ acts_touched n.label t acts)))
+        | None ↦ λ is. absurd (is n.seq.0 (marked_as run nodes rise are m (uncut_of run m revocable) qs reach (graph.touches t) before n after cut node lost (k.touches t ∙ acts_touched n.label t acts)))
         | (Some line) ↦ elim line as (λ l. IsLineOf nodes qs t (Some l) → Some l ≡ Some (From (record { 0 = n.seq.0 }))) [
-          | Gone ↦ λ is. let l = lost_mark run nodes rise are m revocable qs reach (starts t) is.0 is.1 in absurd (alive l.before l.f l.after l.is l.lost (sym (l.kind.starts t) ∙ l.passes))
+          | Gone ↦ λ is. let l = lost_mark run nodes rise are m (uncut_of run m revocable) qs reach (starts t) is.0 is.1 in absurd (alive l.before l.f l.after l.is l.lost (sym (l.kind.starts t) ∙ l.passes))
           | (From q) ↦ λ is.
-              let l = lost_mark run nodes rise are m revocable qs reach (graph.acts t) q.0 is.1 in
-              let low : q.0 ≤ n.seq.0 = is.2 n.seq.0 (marked_as run nodes rise are m revocable qs reach (graph.acts t) before n after cut node lost (k.acts t ∙ acts)) in
+              let l = lost_mark run nodes rise are m (uncut_of run m revocable) qs reach (graph.acts t) q.0 is.1 in
+              let low : q.0 ≤ n.seq.0 = is.2 n.seq.0 (marked_as run nodes rise are m (uncut_of run m revocable) qs reach (graph.acts t) before n after cut node lost (k.acts t ∙ acts)) in
               let high : n.seq.0 ≤ q.0 = (elim (nat_lt l.f.seq.0 n.seq.0) as (λ b. nat_lt l.f.seq.0 n.seq.0 ≡ b → n.seq.0 ≤ q.0) [
                 | true ↦ λ e.
                     let at = earlier_in 1 l.before l.f l.after before n after (subst (λ (r : List Numbered). RiseFrom 1 r) l.is rise) (sym l.is ∙ cut) (below_is l.f.seq.0 n.seq.0 e) in

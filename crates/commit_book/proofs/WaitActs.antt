@@ -21,12 +21,11 @@ use Rattle.step_eval.specs.Progress.{ProgressView}
 use Rattle.commit_book.specs.declared.parts.Parts.{Parts}
 use Rattle.commit_book.specs.Acting.{AreAsBefore, IsDone, IsLonger, MayAct}
 use Rattle.commit_book.specs.Book.{BookView, ShowsJournal, ShowsThreads, offered, over}
-use Rattle.commit_book.specs.Commits.{events_by}
 use Rattle.commit_book.specs.Counts.{faulted_in, is_undo}
 use Rattle.commit_book.specs.Doing.{is_failed}
 use Rattle.commit_book.specs.Layout.{IsKept, view_of}
 use Rattle.commit_book.specs.Leases.{LeaseView}
-use Rattle.commit_book.specs.Rows.{local_of, stays, stays_or_waits, thread, waits}
+use Rattle.commit_book.specs.Rows.{local_of, stays, stays_or_waits, thread, waits, events_by}
 use Rattle.commit_book.proofs.EffectsAsked.{not_failed}
 use Rattle.commit_book.proofs.Faulted.{faulted_same}
 use Rattle.commit_book.proofs.Going.{get_other, shows_parked}
@@ -34,6 +33,7 @@ use Rattle.commit_book.proofs.KeptLocal.{IsReady}
 use Rattle.commit_book.proofs.Parking.{MayPark}
 use Rattle.commit_book.proofs.Partners.{IsUnmet, no_offer, parked_unqueued, some_offer}
 use Rattle.commit_book.proofs.SeenAfter.{journal_after}
+use Rattle.commit_book.proofs.SeenRead.{begun_read, still_read}
 use Rattle.commit_book.proofs.SingleActs.{IsAt, doing_at, low_at, slot_at}
 use Rattle.commit_book.proofs.Standing.{moved, put}
 use Rattle.commit_book.proofs.Staying.{offering, parked_still, unfailed}
@@ -228,6 +228,9 @@ module _ (job : JobParts) (old : Parts) (lease : LeaseView) (progress : Progress
                 ∙ ap (λ m. faulted_in p m old.slots.next) (sym threads_are)
                 ∙ ap (faulted_in p new.slots.threads) (sym next_is);
           };
+          read =
+              still_read begins new history_is (ap (λ (k : Parts). k.rollback) is.slots_alone)
+              (begun_read old (record planned { offers = old.offers }) (record begins { offers = old.offers }) lease.worker lease.thread progress.steps is.before is.longer (ap (λ (k : Parts). record k { offers = old.offers }) is.rest) may.kept.read);
         }
 
     pub done_parked : IsDone job old new lease progress (waits offer)

@@ -1,5 +1,5 @@
 -- What an act needs, and what its parts leave.
-use Rattle.std.specs.Prelude.{◌≡◌, ℕ, suc, ◌+◌, ◌<◌, ◌≤◌, ◌^◌, Bool, cond, not, ◌&&◌, true, false, List, [], ◌∷◌, ◌++◌, length, Option, Some, None, option_map, if◌then◌else◌}
+use Rattle.std.specs.Prelude.{◌≡◌, ℕ, ◌+◌, ◌<◌, ◌≤◌, ◌^◌, Bool, cond, not, ◌&&◌, true, false, List, [], ◌∷◌, ◌++◌, length, Option, Some, None, option_map, if◌then◌else◌}
 use Rattle.std.specs.FinMap as map
 use Rattle.linked_lists.specs.Lists.{without}
 use Rattle.stab_code.specs.JobParts.{JobParts, IsWithinLimits}
@@ -24,19 +24,20 @@ use Rattle.step_eval.specs.Operands.{HasOperands}
 use Rattle.step_eval.specs.Progress.{Advances, ProgressView}
 use Rattle.stab_base.specs.declared.numbers.Seq.{Seq}
 use Rattle.commit_book.specs.declared.done.Done.{Done}
-use Rattle.commit_book.specs.declared.done.Done.TheVariants.{Taken, Parked, Stale, NotBuilt}
+use Rattle.commit_book.specs.declared.done.Done.TheVariants.{Taken, Parked, Undone, Stale}
 use Rattle.commit_book.specs.declared.done.Outcome.{Outcome}
 use Rattle.commit_book.specs.declared.done.Outcome.TheVariants as outcome
 use Rattle.commit_book.specs.declared.parts.Parts.{Parts}
 use Rattle.commit_book.specs.Book.{BookView, over}
-use Rattle.commit_book.specs.Commits.{IsCurrent, IsLate, IsMoved, commit_counted, events_by, row_at}
+use Rattle.commit_book.specs.Commits.{IsCurrent, IsLate, IsMoved, commit_counted, row_at}
 use Rattle.commit_book.specs.Doing.{is_failed}
 use Rattle.commit_book.specs.Layout.{IsKept, view_of}
 use Rattle.commit_book.specs.Leases.{LeaseView}
 use Rattle.commit_book.specs.Limits.{commit_reserve}
-use Rattle.commit_book.specs.Turns.{given_back}
-use Rattle.commit_book.specs.Rows.{Row, alone, starts, waits, stays, unbuilt, local_of, thread, chan, ref}
-use Rattle.stab_journal.specs.declared.event.Label.TheVariants.{NewChan, NewRef, Get, Set, Enter, Pin, Print, Probe, Attempt}
+use Rattle.commit_book.specs.OwnSteps.{SaysTheSame}
+use Rattle.commit_book.specs.Rows.{Row, alone, starts, waits, stays, undoes, events_by, local_of, numbered_from, thread, chan, ref}
+use Rattle.commit_book.specs.Undoing.{begun, IsTakenBack, IsToldOf}
+use Rattle.stab_journal.specs.declared.event.Label.TheVariants.{NewChan, NewRef, Get, Set, Enter, Cut, Pin, Print, Probe, Attempt}
 use Rattle.stab_journal.specs.Generation.{generation}
 use Rattle.stab_journal.specs.Script.{probed, script_at}
 use Rattle.rendezvous.specs.declared.offer.Offer.{Offer}
@@ -59,7 +60,7 @@ pub record StandsAt (p : ProgramParts) (c : ControlView) (a : Act) : Type 0 wher
   pub next : act_next c ≡ Some a
   pub operands : HasOperands p (length (operands_of c)) a
 
--- all is the same but room
+-- all is the same but room, and what a rollback reads
 pub record AreAsBefore (old new : Parts) : Type 0 where
   pub history : new.history ≡ record old.history { spare = new.history.spare }
   pub threads : new.slots.threads ≡ old.slots.threads
@@ -74,11 +75,7 @@ pub record AreAsBefore (old new : Parts) : Type 0 where
   pub chan : new.next_chan ≡ old.next_chan
   pub ref : new.next_ref ≡ old.next_ref
   pub tallies : new.tallies ≡ old.tallies
-
--- these steps, numbered from q on
-abbrev pub numbered_from : ℕ → List Label → List Numbered
-numbered_from q [] = []
-numbered_from q (l ∷ ls) = record { seq = record { 0 = q }; label = l } ∷ numbered_from (suc q) ls
+  pub read : SaysTheSame old.rollback new.rollback
 
 -- these steps of a worker were pushed
 pub record IsLonger (old new : Journal) (worker : ℕ) (ls : List Label) : Type 0 where
@@ -120,19 +117,20 @@ pub record HasGoneOn (p : ProgramParts) (old new : Parts) (t : ℕ) (before c : 
 abbrev pub IsDone : JobParts → Parts → Parts → LeaseView → ProgressView → Row → Type 0
 IsDone job old new lease progress row = IsMoved (view_of job old) (view_of job new) lease.worker lease.thread progress.steps row
 
--- what became of the thread, by the row
-abbrev pub outcome_of : Row → Outcome
-outcome_of (waits o) = outcome.Parked
-outcome_of stays = outcome.Parked
-outcome_of unbuilt = outcome.NotBuilt
-outcome_of row = outcome.Taken
+-- what became of the thread, by the row, where the run is that after the pure steps
+abbrev pub IsOutcomeOf : List Numbered → Row → Outcome → Type 0
+IsOutcomeOf run (undoes m) (outcome.Undone u) = IsToldOf run m u.mark u.removed u.marks
+IsOutcomeOf run (undoes m) o = ⊥
+IsOutcomeOf run (waits offer) o = o ≡ outcome.Parked
+IsOutcomeOf run stays o = o ≡ outcome.Parked
+IsOutcomeOf run row o = o ≡ outcome.Taken
 
 abbrev pub IsDoneBy : BookView → BookView → LeaseView → ProgressView → Row → Type 0
-IsDoneBy old new lease progress unbuilt = new ≡ old
+IsDoneBy old new lease progress (undoes m) = IsTakenBack old new lease.worker lease.thread progress.steps m (begun old lease.thread progress.steps)
 IsDoneBy old new lease progress row = IsMoved old new lease.worker lease.thread progress.steps row
 
 pub record IsPerformed (job : JobParts) (old new : Parts) (lease : LeaseView) (progress : ProgressView) (outcome : Outcome) : Type 0 where
-  pub becomes : outcome ≡ outcome_of (row_at (view_of job old) lease progress)
+  pub becomes : IsOutcomeOf (begun (view_of job old) lease.thread progress.steps) (row_at (view_of job old) lease progress) outcome
   pub done : IsDoneBy (view_of job old) (view_of job new) lease progress (row_at (view_of job old) lease progress)
 
 -- the thread t goes on from a control that stands for e, or has ended there
@@ -156,13 +154,12 @@ offer_of (own.Recv c) = Some (offer.Recv c)
 offer_of (own.Pick c d) = Some (offer.Pick c d)
 offer_of _ = None
 
--- an act on no channel, and on no section that is left
+-- an act after which the thread always goes on
 abbrev pub is_simple : Act → Bool
 is_simple (own.Send c) = false
 is_simple (own.Recv c) = false
 is_simple (own.Pick c d) = false
 is_simple own.Stabilize = false
-is_simple own.Cut = false
 is_simple _ = true
 
 -- the row of such an act
@@ -173,11 +170,12 @@ row_by b t own.NewRef = alone (Some (NewRef (thread t) (ref b.next.ref)))
 row_by b t (own.Get r) = alone (Some (Get (thread t) r))
 row_by b t (own.Set r) = alone (Some (Set (thread t) r))
 row_by b t (own.Enter f) = alone (Some (Enter (thread t)))
+row_by b t own.Cut = alone (Some (Cut (thread t)))
 row_by b t own.Pin = alone (Some (Pin (thread t)))
 row_by b t own.Print = alone (Some (Print (thread t)))
 row_by b t own.Probe = alone (Some (Probe (thread t) (script_at b.job.script (length (probed b.history.events)))))
 row_by b t own.Attempt = alone (Some (Attempt (thread t) (generation t b.history.events)))
-row_by b t _ = unbuilt
+row_by b t _ = alone None
 
 -- the number of the event that comes after the pure steps
 abbrev pub number_after : Journal → ProgressView → ℕ
@@ -196,13 +194,12 @@ pub record HasJoined (p : ProgramParts) (old new : Parts) (c : ControlView) : Ty
 abbrev pub answer_to : Outcome → Seq → ℕ → Done
 answer_to outcome.Taken first count = Taken first count
 answer_to outcome.Parked first count = Parked first count
-answer_to outcome.NotBuilt first count = NotBuilt
+answer_to (outcome.Undone u) first count = Undone first count u.mark u.removed u.marks
 
 abbrev pub IsLateAnswer : BookView → BookView → LeaseView → Done → Type 0
 IsLateAnswer old new lease (Stale lent now) = IsLate old new lease lent now
 IsLateAnswer old new lease done = ⊥
 
--- the lease is given back where its row isn't built, and else the commit is counted
-abbrev pub ended_by : BookView → LeaseView → Outcome → BookView
-ended_by b lease outcome.NotBuilt = given_back b lease
-ended_by b lease _ = record b { answered = commit_counted b }
+-- the commit is counted
+abbrev pub ended_by : BookView → BookView
+ended_by b = record b { answered = commit_counted b }

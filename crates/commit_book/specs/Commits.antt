@@ -17,13 +17,14 @@ use Rattle.plain_language.specs.Standing.{event}
 use Rattle.step_eval.specs.ControlView.{ControlView, expr_of}
 use Rattle.step_eval.specs.Progress.{ProgressView}
 use Rattle.commit_book.specs.declared.done.Done.{Done}
-use Rattle.commit_book.specs.declared.done.Done.TheVariants.{Taken, Parked, Stale, Over, NotBuilt}
+use Rattle.commit_book.specs.declared.done.Done.TheVariants.{Taken, Parked, Undone, Stale, Over}
 use Rattle.commit_book.specs.Book.{BookView, Answered}
 use Rattle.commit_book.specs.Leases.{LeaseView}
 use Rattle.commit_book.specs.Limits.{commit_reserve, most_counted}
-use Rattle.commit_book.specs.Rows.{Row, meets, waits, stays, unbuilt, row_of, local_of, steps_of, movers}
+use Rattle.commit_book.specs.Rows.{Row, meets, waits, stays, undoes, row_of, events_by, local_of, steps_of, movers}
 use Rattle.commit_book.specs.Step.{next_seq}
 use Rattle.commit_book.specs.Turns.{given_back}
+use Rattle.commit_book.specs.Undoing.{begun, IsTakenBack, IsToldOf}
 
 -- the thread is there, of the lease's generation, and its control is this one
 abbrev pub IsCurrent : FinMap nat_cmp (Slot ControlView) → LeaseView → ControlView → Type 0
@@ -39,11 +40,7 @@ line_after t (meets u l) c line = left u line
 line_after t (waits o) c line = joined t o c line
 line_after t _ c line = line
 
--- the events that these steps of a worker are
-abbrev pub events_by : ℕ → List Label → List Event
-events_by worker labels = each (λ l. event worker (Step l)) labels
-
--- a commit by the row: with what every book shows, this determines the new book but for what it counts and the forms of its controls
+-- a commit by the row: with what every book shows, this determines the new book but for what it counts
 pub record IsMoved (old new : BookView) (worker t n : ℕ) (row : Row) : Type 0 where
   -- the steps are pushed, with the lease's worker
   pub history : new.history ≡ record old.history { events = old.history.events ++ events_by worker (local_of t n ++ steps_of t row) }
@@ -74,17 +71,22 @@ row_at b lease progress = let e = expr_of b.job.program progress.end in row_of b
 abbrev pub pushed : LeaseView → ProgressView → Row → ℕ
 pushed lease progress row = length (local_of lease.thread progress.steps ++ steps_of lease.thread row)
 
--- what is answered to a row
+-- what is answered to a row but an undo's
 abbrev pub answer_of : ℕ → ℕ → Row → Done
 answer_of first count (waits o) = Parked (record { 0 = first }) count
 answer_of first count stays = Parked (record { 0 = first }) count
-answer_of first count unbuilt = NotBuilt
 answer_of first count row = Taken (record { 0 = first }) count
 
--- what a row leaves: a lease whose row isn't built is given back
+-- what a row leaves
 abbrev pub IsLeftBy : BookView → BookView → LeaseView → ProgressView → Row → Type 0
-IsLeftBy old new lease progress unbuilt = new ≡ given_back old lease
+IsLeftBy old new lease progress (undoes m) = IsTakenBack old (record new { answered = old.answered }) lease.worker lease.thread progress.steps m (begun old lease.thread progress.steps) × (new.answered ≡ commit_counted old)
 IsLeftBy old new lease progress row = IsMoved old (record new { answered = old.answered }) lease.worker lease.thread progress.steps row × (new.answered ≡ commit_counted old)
+
+-- what is answered to a row: to an undo its section, how many steps it struck, and which of them are nodes
+abbrev pub IsAnsweredBy : BookView → LeaseView → ProgressView → Row → Done → Type 0
+IsAnsweredBy old lease progress (undoes m) (Undone first count mark removed marks) = (first.0 ≡ next_seq old) × (count ≡ pushed lease progress (undoes m) + 1) × IsToldOf (begun old lease.thread progress.steps) m mark removed marks
+IsAnsweredBy old lease progress (undoes m) done = ⊥
+IsAnsweredBy old lease progress row done = done ≡ answer_of (next_seq old) (pushed lease progress row) row
 
 -- too late: which generation was lent, and which the thread has now, if it is there
 pub record IsLate (old new : BookView) (lease : LeaseView) (lent : Generation) (now : Option Generation) : Type 0 where
@@ -94,7 +96,7 @@ pub record IsLate (old new : BookView) (lease : LeaseView) (lent : Generation) (
 
 -- what a row answers and leaves
 pub record IsMade (old new : BookView) (lease : LeaseView) (progress : ProgressView) (row : Row) (done : Done) : Type 0 where
-  pub answer : done ≡ answer_of (next_seq old) (pushed lease progress row) row
+  pub answer : IsAnsweredBy old lease progress row done
   pub left : IsLeftBy old new lease progress row
 
 -- Stale exactly where the lease isn't current, Over exactly where it is and the book is over, and else what the table says

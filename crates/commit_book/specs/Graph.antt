@@ -1,5 +1,5 @@
 -- The nodes of the graph, from which its edges follow.
-use Rattle.std.specs.Prelude.{◌≡◌, ℕ, cond, nat_lt, List, [], ◌∷◌, ◌++◌, filter}
+use Rattle.std.specs.Prelude.{◌≡◌, ℕ, Bool, true, false, cond, nat_lt, List, [], ◌∷◌, ◌++◌, filter}
 use Rattle.stab_journal.specs.declared.event.Label.{Label}
 use Rattle.stab_journal.specs.declared.event.Label.TheVariants.{Spawn, Comm, NewRef, Get, Set, Enter, Pin}
 use Rattle.stab_journal.specs.declared.event.Numbered.{Numbered}
@@ -9,6 +9,11 @@ use Rattle.stab_journal.specs.Names.{is_at}
 use Rattle.comm_graph.specs.declared.node.NodeFor.{NodeFor}
 use Rattle.comm_graph.specs.declared.node.NodeFor.TheVariants as node
 use Rattle.comm_graph.specs.Node.{Node}
+
+-- whether a node is a pin's
+abbrev pub is_pinned : NodeFor → Bool
+is_pinned (node.Pin t) = true
+is_pinned _ = false
 
 abbrev pub one_node : ℕ → NodeFor → List Node
 one_node q k = record { number = q; kind = k } ∷ []

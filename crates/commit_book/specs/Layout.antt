@@ -9,6 +9,7 @@ use Rattle.stab_journal.specs.Script.{probed}
 use Rattle.commit_book.specs.declared.parts.Parts.{Parts}
 use Rattle.commit_book.specs.Book.{BookView, IsShown}
 use Rattle.commit_book.specs.Counts.{is_undo, faulted_in}
+use Rattle.commit_book.specs.OwnSteps.{IsRead}
 
 -- a journal without the room that it has
 abbrev pub without_spare : Journal → Journal
@@ -43,3 +44,4 @@ pub record IsKept (job : JobParts) (parts : Parts) : Type 0 where
   pub valid : IsValid job.program
   pub shown : IsShown (view_of job parts)
   pub tallied : AreTallied job.program parts
+  pub read : IsRead parts.history parts.rollback

@@ -1,17 +1,23 @@
 -- What a commit does, by where its thread stands after its pure steps: the table.
-use Rattle.std.specs.Prelude.{ℕ, cond, nat_eq, is_some, List, [], ◌∷◌, length, slice_get, Option, Some, None, option_to_list}
+use Rattle.std.specs.Prelude.{ℕ, suc, map as each, cond, nat_eq, is_some, List, [], ◌∷◌, length, slice_get, Option, Some, None, option_to_list}
 use Rattle.std.specs.FinMap as map
 use Rattle.stab_base.specs.declared.numbers.ThreadId.{ThreadId}
 use Rattle.stab_base.specs.declared.numbers.ChanId.{ChanId}
 use Rattle.stab_base.specs.declared.numbers.RefId.{RefId}
 use Rattle.stab_journal.specs.declared.event.Label.{Label}
-use Rattle.stab_journal.specs.declared.event.Label.TheVariants.{Local, Spawn, NewChan, Comm, NewRef, Get, Set, Enter, Print, Probe, Refuse, Pin, Attempt}
+use Rattle.stab_journal.specs.declared.event.Label.TheVariants.{Local, Spawn, NewChan, Comm, NewRef, Get, Set, Enter, Cut, Print, Probe, Refuse, Pin, Attempt}
+use Rattle.stab_journal.specs.declared.event.Event.{Event}
+use Rattle.stab_journal.specs.declared.event.Numbered.{Numbered}
+use Rattle.stab_journal.specs.declared.event.What.TheVariants.{Step}
+use Rattle.stab_journal.specs.Floor.{is_revocable}
 use Rattle.stab_journal.specs.Generation.{generation}
+use Rattle.stab_journal.specs.Journal.{survivors}
 use Rattle.stab_journal.specs.Script.{probed, script_at}
 use Rattle.rendezvous.specs.declared.offer.Offer.{Offer}
 use Rattle.rendezvous.specs.declared.offer.Offer.TheVariants as offer
 use Rattle.plain_language.specs.Expression.{Expr}
 use Rattle.plain_language.specs.Redex.{mark}
+use Rattle.plain_language.specs.Standing.{event}
 use Rattle.plain_language.specs.Table.{Look, act, spawns, makes_chan, makes_ref, gets, sets, sends, receives, picks, enters, stabilizes, cuts, pins, prints, probes, attempts}
 use Rattle.commit_book.specs.Book.{BookView}
 use Rattle.commit_book.specs.Offers.{sends_at, receives_at}
@@ -27,8 +33,8 @@ pub data Row : Type 0 where
   waits : Offer → Row
   -- it waits already, and keeps its place
   stays : Row
-  -- for the time being: it stands at an act that isn't built
-  unbuilt : Row
+  -- it takes the section entered at this number back
+  undoes : ℕ → Row
 
 abbrev pub thread : ℕ → ThreadId
 thread t = record { 0 = t }
@@ -38,6 +44,11 @@ chan c = record { 0 = c }
 
 abbrev pub ref : ℕ → RefId
 ref r = record { 0 = r }
+
+-- the section is taken back where that may be, and else the stabilize is refused
+abbrev pub section_row : List Numbered → ℕ → Option ℕ → Row
+section_row run t None = alone (Some (Refuse (thread t)))
+section_row run t (Some m) = cond (is_revocable run m) (undoes m) (alone (Some (Refuse (thread t))))
 
 -- the thread that waits longest in a line
 abbrev pub longest : List ℕ → Option ℕ
@@ -68,8 +79,8 @@ module _ (b : BookView) (t : ℕ) where
   row_of e (act (receives c)) = receives_from c (longest (sends_at b.offers.lines c)) (stays_or_waits (offer.Recv (chan c)))
   row_of e (act (picks c d)) = receives_from c (longest (sends_at b.offers.lines c)) (receives_from d (longest (sends_at b.offers.lines d)) (stays_or_waits (offer.Pick (chan c) (chan d))))
   row_of e (act (enters body)) = alone (Some (Enter (thread t)))
-  row_of e (act stabilizes) = cond (is_some (mark e)) unbuilt (alone (Some (Refuse (thread t))))
-  row_of e (act cuts) = unbuilt
+  row_of e (act stabilizes) = section_row (survivors b.history) t (mark e)
+  row_of e (act cuts) = alone (Some (Cut (thread t)))
   row_of e (act pins) = alone (Some (Pin (thread t)))
   row_of e (act (prints v)) = alone (Some (Print (thread t)))
   row_of e (act probes) = alone (Some (Probe (thread t) (script_at b.job.script (length (probed b.history.events)))))
@@ -79,6 +90,15 @@ module _ (b : BookView) (t : ℕ) where
 -- the pure steps are one step, if there are any
 abbrev pub local_of : ℕ → ℕ → List Label
 local_of t n = cond (nat_eq n 0) [] (Local (thread t) n ∷ [])
+
+-- the events that these steps of a worker are
+abbrev pub events_by : ℕ → List Label → List Event
+events_by worker labels = each (λ l. event worker (Step l)) labels
+
+-- these steps, numbered from q on
+abbrev pub numbered_from : ℕ → List Label → List Numbered
+numbered_from q [] = []
+numbered_from q (l ∷ ls) = record { seq = record { 0 = q }; label = l } ∷ numbered_from (suc q) ls
 
 -- the step of the act
 abbrev pub steps_of : ℕ → Row → List Label

@@ -12,6 +12,7 @@ use Rattle.step_eval.specs.ControlView.{ControlView, Fits, expr_of}
 use Rattle.commit_book.specs.declared.parts.Parts.{Parts}
 use Rattle.commit_book.specs.declared.counts.Tallies.{Tallies}
 use Rattle.commit_book.specs.Doing.{is_over, is_failed}
+use Rattle.commit_book.specs.OwnSteps.{IsUnread}
 
 abbrev pub first_tallies : Bool → Tallies
 first_tallies failed = record { probes = 0; finals = 0; released = 0; undos = 0; faulted = (if failed then 1 else 0); commits = 0; stale = 0 }
@@ -37,3 +38,4 @@ pub record IsStarted (p : ProgramParts) (parts : Parts) : Type 0 where
   pub chan : parts.next_chan ≡ 1
   pub ref : parts.next_ref ≡ 1
   pub tallies : parts.tallies ≡ first_tallies (is_failed (expr_of p main))
+  pub unread : IsUnread parts.rollback

@@ -9,12 +9,11 @@ ghost use Rattle.commit_book.specs.Acting.{AreAsBefore, IsDone, IsPerformed, May
 ghost use Rattle.commit_book.specs.Layout.{IsKept};
 ghost use Rattle.commit_book.specs.Rows.{alone, thread};
 
-use crate::done::Outcome;
 use crate::lease::Lease;
 use crate::parts::Parts;
 use crate::perform::first;
 use comm_graph::NodeFor;
-use stab_base::{Fault, NoMemory, Value};
+use stab_base::{NoMemory, Value};
 use stab_code::Job;
 use stab_journal::Label;
 use step_eval::{Act, Control, Progress};
@@ -129,33 +128,6 @@ impl Parts {
         self.graph.add(q, NodeFor::Pin(lease.thread()));
         self.answer(job.program(), lease.thread(), control, Value::unit());
         Ok(())
-    }
-
-    /// A stabilize in no section is refused.
-    pub(crate) fn stabilize(
-        &mut self,
-        job: &Job,
-        lease: &Lease,
-        progress: Progress,
-    ) -> Result<Outcome, Progress>
-        requires may { MayAct job.now self.old lease.now progress }
-        requires at { StandsAt job.now.program progress.end Act.Stabilize }
-        ensures done { IfOk result (λ outcome. IsPerformed job.now self.old self.new lease.now progress outcome) }
-        ensures back { IfErr result (λ g. g ≡ progress) }
-        ensures err { OnErr result (AreAsBefore self.old self.new) }
-        ensures kept { IsKept job.now self.new }
-    {
-        if progress.end().mark().is_some() {
-            return Ok(Outcome::NotBuilt);
-        }
-        if self.history.reserve(2).is_err() {
-            return Err(progress);
-        }
-        let mut control = self.begin(lease, progress);
-        self.push(lease, Label::Refuse(lease.thread()));
-        control.fail(Fault::NoSection);
-        self.go_on(lease.thread(), control);
-        Ok(Outcome::Taken)
     }
 
     /// Room for two events and a node.

@@ -79,19 +79,22 @@ impl Book {
         requires first { first.0 ≤ length self.old.history.events + 1 }
         requires few { length self.old.history.events < 4294967295 }
         ensures answer { result ≡ answer_to outcome first (length self.old.history.events + 1 - first.0) }
-        ensures new { self.new ≡ ended_by self.old lease outcome }
+        ensures new { self.new ≡ ended_by self.old }
         ensures shown { IsShown self.new }
     {
-        if outcome == Outcome::NotBuilt {
-            self.give_back(lease);
-            return Done::NotBuilt;
-        }
         let _ended = lease.end();
         self.parts.tallies.commits = self.parts.tallies.commits.saturating_add(1);
         let count = (self.parts.history.len() + 1 - first.0) as u32;
         match outcome {
             Outcome::Parked => Done::Parked { first, count },
-            _ => Done::Taken { first, count },
+            Outcome::Taken => Done::Taken { first, count },
+            Outcome::Undone(undone) => Done::Undone {
+                first,
+                count,
+                mark: undone.mark,
+                removed: undone.removed,
+                marks: undone.marks,
+            },
         }
     }
 }

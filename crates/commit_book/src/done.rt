@@ -1,12 +1,13 @@
 //! What a commit answers.
 
 use crate::lease::Lease;
+use reach_line::Marks;
 use stab_base::{Generation, Seq};
 use step_eval::Progress;
 
 /// What a commit answers. `first` is the number that the next event had before it, and `count` is how many
 /// events it made: 0, 1 or 2.
-#[derive(Clone, Copy, PartialEq, Eq, Debug)]
+#[derive(Drop)]
 pub enum Done {
     /// The thread goes on or has ended.
     Taken {
@@ -18,6 +19,15 @@ pub enum Done {
         first: Seq,
         count: u32,
     },
+    /// A section was taken back, with all that depends on it: the number of its entry, how many steps that were, and
+    /// which of them are nodes of the graph.
+    Undone {
+        first: Seq,
+        count: u32,
+        mark: Seq,
+        removed: u64,
+        marks: Marks,
+    },
     /// The thread isn't as it was lent: its generation is another one, it is gone, or it stands elsewhere.
     Stale {
         lease_generation: Generation,
@@ -27,8 +37,6 @@ pub enum Done {
     Over {
         weight: u64,
     },
-    /// For the time being: the thread stands at `cut`, or at `stabilize` in a section. The lease was given back.
-    NotBuilt,
 }
 
 /// The memory that a commit needs isn't there. The book is as before.
@@ -38,9 +46,17 @@ pub struct CommitRefused {
 }
 
 /// What became of a thread that was committed.
-#[derive(Clone, Copy, PartialEq, Eq, Debug)]
+#[derive(Drop)]
 pub(crate) enum Outcome {
     Taken,
     Parked,
-    NotBuilt,
+    Undone(Undone),
+}
+
+/// What an undo took back.
+#[derive(Drop)]
+pub(crate) struct Undone {
+    pub(crate) mark: Seq,
+    pub(crate) removed: u64,
+    pub(crate) marks: Marks,
 }

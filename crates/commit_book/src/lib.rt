@@ -6,13 +6,17 @@ mod book;
 mod commit;
 mod counts;
 mod create;
+mod cut;
 mod done;
 mod exchange;
 mod lease;
 mod parts;
 mod perform;
 mod references;
+mod release;
+mod rollback;
 mod turn;
+mod undo;
 
 pub use book::Book;
 pub use commit::COMMIT_RESERVE;

@@ -15,6 +15,7 @@ ghost use Rattle.commit_book.specs.Turns.{is_lent};
 
 use crate::counts::Tallies;
 use crate::lease::Lease;
+use crate::rollback::Rollback;
 use checkpoint_store::Store;
 use comm_graph::Graph;
 use ref_log::RefLog;
@@ -42,6 +43,7 @@ pub(crate) struct Parts {
     pub(crate) next_chan: u32,
     pub(crate) next_ref: u32,
     pub(crate) tallies: Tallies,
+    pub(crate) rollback: Rollback,
 }
 
 impl Parts {
@@ -66,6 +68,7 @@ impl Parts {
             next_chan: 1,
             next_ref: 1,
             tallies: Tallies::first(failed),
+            rollback: Rollback::new(alloc),
         })
     }
 

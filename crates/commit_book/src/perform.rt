@@ -81,7 +81,6 @@ impl Parts {
         }
         match act {
             Act::Stabilize => self.stabilize(job, lease, progress),
-            Act::Cut => Ok(Outcome::NotBuilt),
             simple => taken(self.act(job, lease, progress, simple)),
         }
     }
@@ -110,6 +109,7 @@ impl Parts {
             Act::Get(r) => self.get(job, lease, progress, r),
             Act::Set(r) => self.set(job, lease, progress, r),
             Act::Enter(_) => self.enter(job, lease, progress),
+            Act::Cut => self.cut(job, lease, progress),
             Act::Pin => self.pin(job, lease, progress),
             Act::Print => self.print(job, lease, progress),
             Act::Probe => self.probe(job, lease, progress),

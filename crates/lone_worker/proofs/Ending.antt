@@ -18,10 +18,10 @@ use Rattle.step_eval.specs.Progress.{ProgressView}
 use Rattle.commit_book.specs.declared.done.Done.{Done}
 use Rattle.commit_book.specs.declared.done.Done.TheVariants as done
 use Rattle.commit_book.specs.Book.{BookView}
-use Rattle.commit_book.specs.Commits.{IsCommitted, IsCurrent, IsLeftBy, IsMade, IsMoved, IsOver, answer_of, events_by, pushed, row_at}
+use Rattle.commit_book.specs.Commits.{IsCommitted, IsCurrent, IsLeftBy, IsMade, IsMoved, IsOver, answer_of, pushed, row_at}
 use Rattle.commit_book.specs.Counts.{in_state}
 use Rattle.commit_book.specs.Leases.{LeaseView}
-use Rattle.commit_book.specs.Rows.{Row, alone, starts, meets, waits, stays, unbuilt, local_of, steps_of}
+use Rattle.commit_book.specs.Rows.{Row, alone, starts, meets, waits, stays, unbuilt, local_of, steps_of, events_by}
 use Rattle.commit_book.specs.Step.{next_seq}
 use Rattle.commit_book.specs.Turns.{given_back, is_held, requeued}
 use Rattle.commit_book.proofs.Lending.{get-changed}

@@ -20,10 +20,10 @@ use Rattle.journal_laws.proofs.Surviving.{some_is, some_none}
 use Rattle.step_eval.specs.ControlView.{ControlView, expr_of}
 use Rattle.step_eval.specs.Progress.{ProgressView}
 use Rattle.commit_book.specs.Book.{BookView}
-use Rattle.commit_book.specs.Commits.{IsMoved, events_by, row_at}
+use Rattle.commit_book.specs.Commits.{IsMoved, row_at}
 use Rattle.commit_book.specs.Doing.{is_over}
 use Rattle.commit_book.specs.Leases.{LeaseView}
-use Rattle.commit_book.specs.Rows.{Row, alone, starts, meets, waits, stays, unbuilt, local_of, movers, steps_of, thread}
+use Rattle.commit_book.specs.Rows.{Row, alone, starts, meets, waits, stays, unbuilt, local_of, movers, steps_of, thread, events_by}
 use Rattle.book_text.proofs.Showing.{goes_on}
 use Rattle.book_text.proofs.Going.{whole}
 use Rattle.lone_worker.specs.Turn.{IsAdvanced, IsLentAlone, left_to_do}

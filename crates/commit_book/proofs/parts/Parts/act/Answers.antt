@@ -54,6 +54,13 @@ pub returns-in-Pin-clause-done : goal.returns-in-Pin-clause-done
 returns-in-Pin-clause-done c =
     subst (λ (a : Act). OnOk c.pin.result (IsDone c.args.job.now c.args.self.now c.pin.new.self c.args.lease.now c.args.progress (row_by (view_of c.args.job.now c.args.self.now) c.args.lease.now.thread a))) (sym c.in-Pin.is) c.pin.ensures.done
 
+pub cut-requires-clause-at : goal.cut-requires-clause-at
+cut-requires-clause-at c = subst (StandsAt c.args.job.now.program c.args.progress.end) c.in-Cut.is c.requires.at
+
+pub returns-in-Cut-clause-done : goal.returns-in-Cut-clause-done
+returns-in-Cut-clause-done c =
+    subst (λ (a : Act). OnOk c.cut.result (IsDone c.args.job.now c.args.self.now c.cut.new.self c.args.lease.now c.args.progress (row_by (view_of c.args.job.now c.args.self.now) c.args.lease.now.thread a))) (sym c.in-Cut.is) c.cut.ensures.done
+
 pub print-requires-clause-at : goal.print-requires-clause-at
 print-requires-clause-at c = subst (StandsAt c.args.job.now.program c.args.progress.end) c.in-Print.is c.requires.at
 

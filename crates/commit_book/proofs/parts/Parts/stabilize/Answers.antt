@@ -1,62 +1,25 @@
-use Rattle.std.proofs.Common.{refl, sym, ap, subst, ◌∙◌}
-use Rattle.commit_book.specs.declared.parts.Parts.{Parts}
-use Rattle.plain_language.specs.Redex.{mark}
-use Rattle.step_eval.specs.ControlView.{Fits, expr_of}
-use Rattle.stab_code.specs.Valid.{IsValid}
-use Rattle.step_eval.specs.ControlView.{ControlView}
-use Rattle.commit_book.proofs.Acted.{in_ok, named_so, needs_few, needs_there, reserved}
-use Rattle.commit_book.proofs.Lasted.{marked_so, refuse_lasts, unbuilt_here}
-use Rattle.commit_book.proofs.SeenAfter.{kept_same}
-use Rattle.commit_book.proofs.SingleActs.{few_at, may_begin}
+use Rattle.std.proofs.Common.{◌≡◌, subst}
 use Rattle.std.specs.Prelude.{option_map}
-use Rattle.std.proofs.Common.{◌≡◌}
+use Rattle.stab_code.specs.Valid.{IsValid}
+use Rattle.plain_language.specs.Redex.{mark}
+use Rattle.step_eval.specs.ControlView.{ControlView, Fits, expr_of}
+use Rattle.stab_journal.specs.Journal.{survivors}
+use Rattle.commit_book.proofs.Granting.{held_low, held_none, mark_is, no_mark}
 use Rattle.commit_book.proofs.parts.Parts.stabilize.Goals as goal
 
-pub returns-then-is_some-clause-done : goal.returns-then-is_some-clause-done
-returns-then-is_some-clause-done c =
-    unbuilt_here c.args.job.now c.args.self.now c.args.lease.now c.args.progress c.requires.at (marked_so c.mark.result (mark (expr_of c.args.job.now.program c.args.progress.end)) _ (subst (λ (g : ControlView). IsValid c.args.job.now.program → Fits c.args.job.now.program g → option_map (λ m. m.0) c.mark.result ≡ mark (expr_of c.args.job.now.program g)) c.end.ensures.end (c.mark.ensures c.args.job.now.program) c.requires.may.kept.valid c.requires.may.made.fits) (sym c.is_some.ensures ∙ c.if-is_some.true))
+pub take_back-requires-clause-mark : goal.take_back-requires-clause-mark
+take_back-requires-clause-mark c =
+    mark_is c.mark.result (mark (expr_of c.args.job.now.program c.args.progress.end)) c.in-Some.mark
+    (subst (λ (g : ControlView). IsValid c.args.job.now.program → Fits c.args.job.now.program g → option_map (λ m. m.0) c.mark.result ≡ mark (expr_of c.args.job.now.program g)) c.end.ensures.end (c.mark.ensures c.args.job.now.program) c.requires.may.kept.valid c.requires.may.made.fits) c.in-Some.is
 
-pub returns-then-is_some-clause-kept : goal.returns-then-is_some-clause-kept
-returns-then-is_some-clause-kept c = c.requires.may.kept
+pub refuse-requires-clause-held : goal.refuse-requires-clause-held
+refuse-requires-clause-held c =
+    held_low (survivors c.args.self.now.history) (mark (expr_of c.args.job.now.program c.args.progress.end)) c.in-Some.mark.0 c.args.self.now.rollback.floor.0
+    (mark_is c.mark.result (mark (expr_of c.args.job.now.program c.args.progress.end)) c.in-Some.mark
+    (subst (λ (g : ControlView). IsValid c.args.job.now.program → Fits c.args.job.now.program g → option_map (λ m. m.0) c.mark.result ≡ mark (expr_of c.args.job.now.program g)) c.end.ensures.end (c.mark.ensures c.args.job.now.program) c.requires.may.kept.valid c.requires.may.made.fits) c.in-Some.is) c.requires.may.kept.read.floor ?
 
-pub reserve-requires : goal.reserve-requires
-reserve-requires c =
-    few_at c.args.job.now c.args.self.now c.args.lease.now c.args.progress c.requires.may
-
-pub returns-then-is_err-clause-back : goal.returns-then-is_err-clause-back
-returns-then-is_err-clause-back c = refl
-
-pub returns-then-is_err-clause-err : goal.returns-then-is_err-clause-err
-returns-then-is_err-clause-err c =
-    reserved c.args.self.now c.reserve.new.self c.reserve.ensures.rest
-
-pub returns-then-is_err-clause-kept : goal.returns-then-is_err-clause-kept
-returns-then-is_err-clause-kept c =
-    kept_same c.args.job.now c.args.self.now (record c.args.self.now { history = c.reserve.new.self }) (reserved c.args.self.now c.reserve.new.self c.reserve.ensures.rest) c.requires.may.kept
-
-pub begin-control-requires : goal.begin-control-requires
-begin-control-requires c =
-    may_begin c.args.job.now c.args.self.now c.args.lease.now c.args.progress c.requires.may (record c.args.self.now { history = c.reserve.new.self }) (reserved c.args.self.now c.reserve.new.self c.reserve.ensures.rest) (in_ok c.reserve.result c.is_err.result c.reserve.ensures.ok c.is_err.ensures.value c.if-is_err.false)
-
-pub push-requires-clause-more : goal.push-requires-clause-more
-push-requires-clause-more c = c.begin-control.ensures.more
-
-pub push-requires-clause-label : goal.push-requires-clause-label
-push-requires-clause-label c =
-    named_so c.args.job.now c.args.self.now c.args.lease.now c.args.progress c.requires.may c.thread.result c.thread.ensures
-
-pub go_on-requires-clause-there : goal.go_on-requires-clause-there
-go_on-requires-clause-there c =
-    needs_there c.args.job.now c.args.self.now c.args.lease.now c.args.progress c.requires.may (record c.args.self.now { history = c.reserve.new.self }) c.begin-control.new.self (c.push.new.self) (reserved c.args.self.now c.reserve.new.self c.reserve.ensures.rest) c.begin-control.ensures.rest (ap (λ k. k.slots) c.push.ensures.rest) c.thread-2.result c.thread-2.ensures
-
-pub go_on-requires-clause-few : goal.go_on-requires-clause-few
-go_on-requires-clause-few c =
-    needs_few c.args.job.now c.args.self.now c.args.lease.now c.args.progress c.requires.may (record c.args.self.now { history = c.reserve.new.self }) c.begin-control.new.self (c.push.new.self) (reserved c.args.self.now c.reserve.new.self c.reserve.ensures.rest) c.begin-control.ensures.rest (ap (λ k. k.slots) c.push.ensures.rest) (ap (λ (k : Parts). k.tallies.faulted) c.push.ensures.rest)
-
-pub returns-clause-done : goal.returns-clause-done
-returns-clause-done c =
-    (refuse_lasts c.args.job.now c.args.self.now c.args.lease.now c.args.progress c.requires.may (record c.args.self.now { history = c.reserve.new.self }) c.begin-control.new.self (reserved c.args.self.now c.reserve.new.self c.reserve.ensures.rest) c.begin-control.ensures.history c.begin-control.ensures.rest c.push.new.self c.go_on.new.self c.thread.result c.thread.ensures c.push.ensures.rest c.thread-2.result c.thread-2.ensures c.go_on.result c.fail.new.self (c.fail.ensures.fits c.args.job.now.program) c.requires.at (marked_so c.mark.result (mark (expr_of c.args.job.now.program c.args.progress.end)) _ (subst (λ (g : ControlView). IsValid c.args.job.now.program → Fits c.args.job.now.program g → option_map (λ m. m.0) c.mark.result ≡ mark (expr_of c.args.job.now.program g)) c.end.ensures.end (c.mark.ensures c.args.job.now.program) c.requires.may.kept.valid c.requires.may.made.fits) (sym c.is_some.ensures ∙ c.if-is_some.false)) c.push.ensures.history (c.fail.ensures.expr c.args.job.now.program) c.go_on.ensures.before c.go_on.ensures.gone).0
-
-pub returns-clause-kept : goal.returns-clause-kept
-returns-clause-kept c =
-    (refuse_lasts c.args.job.now c.args.self.now c.args.lease.now c.args.progress c.requires.may (record c.args.self.now { history = c.reserve.new.self }) c.begin-control.new.self (reserved c.args.self.now c.reserve.new.self c.reserve.ensures.rest) c.begin-control.ensures.history c.begin-control.ensures.rest c.push.new.self c.go_on.new.self c.thread.result c.thread.ensures c.push.ensures.rest c.thread-2.result c.thread-2.ensures c.go_on.result c.fail.new.self (c.fail.ensures.fits c.args.job.now.program) c.requires.at (marked_so c.mark.result (mark (expr_of c.args.job.now.program c.args.progress.end)) _ (subst (λ (g : ControlView). IsValid c.args.job.now.program → Fits c.args.job.now.program g → option_map (λ m. m.0) c.mark.result ≡ mark (expr_of c.args.job.now.program g)) c.end.ensures.end (c.mark.ensures c.args.job.now.program) c.requires.may.kept.valid c.requires.may.made.fits) (sym c.is_some.ensures ∙ c.if-is_some.false)) c.push.ensures.history (c.fail.ensures.expr c.args.job.now.program) c.go_on.ensures.before c.go_on.ensures.gone).1
+pub refuse-requires-clause-held-in-None : goal.refuse-requires-clause-held-in-None
+refuse-requires-clause-held-in-None c =
+    held_none (survivors c.args.self.now.history) (mark (expr_of c.args.job.now.program c.args.progress.end))
+    (no_mark c.mark.result (mark (expr_of c.args.job.now.program c.args.progress.end))
+    (subst (λ (g : ControlView). IsValid c.args.job.now.program → Fits c.args.job.now.program g → option_map (λ m. m.0) c.mark.result ≡ mark (expr_of c.args.job.now.program g)) c.end.ensures.end (c.mark.ensures c.args.job.now.program) c.requires.may.kept.valid c.requires.may.made.fits) c.in-None.is)

@@ -39,4 +39,5 @@ returns c =
       chan = refl;
       ref = refl;
       tallies = c.first.ensures ∙ ap first_tallies failed;
+      unread = c.new-7.ensures;
     }

@@ -1,0 +1,134 @@
+-- What a release needs of a book, and what its calls leave.
+use Rattle.std.proofs.Common.{◌≡◌, ℕ, suc, ◌+◌, ◌-◌, ◌<◌, ◌≤◌, Bool, true, false, cond, ◌&&◌, List, [], ◌∷◌, ◌++◌, length, take, drop, refl, sym, ap, subst, ◌∙◌, arith}
+use Rattle.std.specs.Prelude.{count_by, nat_lt}
+use Rattle.std.specs.List.{AllByRecursion, flat_map}
+use Rattle.stab_base.specs.Datum.{Datum}
+use Rattle.stab_base.specs.Printed.{printed}
+use Rattle.stab_code.specs.JobParts.{JobParts}
+use Rattle.stab_journal.specs.declared.event.Numbered.{Numbered}
+use Rattle.stab_journal.specs.declared.event.What.TheVariants.{Release}
+use Rattle.stab_journal.specs.Due.{due, final_prints, is_print, released}
+use Rattle.stab_journal.specs.Floor.{floor}
+use Rattle.stab_journal.specs.Journal.{Journal, RiseFrom, survivors}
+use Rattle.stab_journal.specs.Surviving.{run_of}
+use Rattle.stab_journal.proofs.Surviving.{are_survivors}
+use Rattle.plain_language.specs.Plain.{start}
+use Rattle.plain_language.specs.Shown.{line}
+use Rattle.plain_language.specs.Standing.{event}
+use Rattle.journal_laws.proofs.Undone.{stands_run}
+use Rattle.commit_book.specs.declared.counts.Tallies.{Tallies}
+use Rattle.commit_book.specs.declared.parts.Parts.{Parts}
+use Rattle.commit_book.specs.Acting.{AreAsBefore}
+use Rattle.commit_book.specs.Book.{BookView}
+use Rattle.commit_book.specs.Layout.{IsKept, view_of, without_spare}
+use Rattle.commit_book.specs.Releases.{IsReleased, IsReleasedBy, due_lines}
+use Rattle.commit_book.proofs.Acted.{reserved}
+use Rattle.commit_book.proofs.Choosing.{due_is}
+use Rattle.commit_book.proofs.LostSteps.{survivors_up_to}
+use Rattle.commit_book.proofs.PrintCounts.{counted, run_printed}
+use Rattle.commit_book.proofs.ReleaseActs.{kept_released}
+use Rattle.commit_book.proofs.SeenAfter.{kept_same, view_same}
+
+-- no more pass two tests than one
+and_fewer : (p r : Numbered → Bool) (ns : List Numbered) → count_by (λ (n : Numbered). p n && r n) ns ≤ count_by p ns
+and_fewer p r [] = omega arith
+and_fewer p r (n ∷ ns) =
+    let both = counted (λ (k : Numbered). p k && r k) n ns in
+    let one = counted p n ns in
+    let more : count_by (λ (k : Numbered). p k && r k) ns ≤ count_by p ns = and_fewer p r ns in
+    let here : cond {A = ℕ} (p n && r n) 1 0 ≤ cond {A = ℕ} (p n) 1 0 = fewer (p n) (r n) in
+    omega (arith, both, one, more, here)
+  where
+    fewer : (a b : Bool) → cond {A = ℕ} (a && b) 1 0 ≤ cond {A = ℕ} a 1 0
+    fewer true true = omega arith
+    fewer true false = omega arith
+    fewer false b = omega arith
+
+pub all_few : (p : Numbered → Bool) (ns : List Numbered) → count_by p ns ≤ length ns
+all_few p [] = omega arith
+all_few p (n ∷ ns) =
+    let one = counted p n ns in
+    let more : count_by p ns ≤ length ns = all_few p ns in
+    let here : cond {A = ℕ} (p n) 1 0 ≤ 1 = at_most (p n) in
+    omega (arith, one, more, here)
+  where
+    at_most : (a : Bool) → cond {A = ℕ} a 1 0 ≤ 1
+    at_most true = omega arith
+    at_most false = omega arith
+
+-- steps whose numbers rise up to e
+rise_few : (q e : ℕ) (ns : List Numbered) → RiseFrom q ns → AllByRecursion (λ (n : Numbered). n.seq.0 ≤ e) ns → length ns ≤ e + 1 - q
+rise_few q e [] rise low = omega arith
+rise_few q e (n ∷ ns) rise low =
+    let more : length ns ≤ e + 1 - suc n.seq.0 = rise_few (suc n.seq.0) e ns rise.1 low.1 in
+    let first = rise.0 in
+    let under = low.0 in
+    omega (arith, more, first, under)
+
+pub run_few : (j : Journal) → length (survivors j) ≤ length j.events
+run_few j = let few : length (survivors j) ≤ length j.events + 1 - 1 = rise_few 1 (length j.events) (survivors j) (are_survivors j).rising (survivors_up_to j) in omega (arith, few)
+
+module _ (job : JobParts) (old : Parts) (kept : IsKept job old) where
+  run_same : survivors old.history ≡ run_of old.history.events
+  run_same =
+      let journal = kept.shown.shows.journal in
+      journal.history.left ∙ (stands_run job.program old.history.events kept.shown.run kept.shown.state journal.history.stands).0
+
+  finals_are : old.tallies.finals ≡ final_prints (run_of old.history.events)
+  finals_are = kept.tallied.finals ∙ ap final_prints run_same
+
+  -- all final values are there
+  pub finals_fit : old.tallies.finals ≤ length old.printed.items
+  finals_fit =
+      let journal = kept.shown.shows.journal in
+      let run = (stands_run job.program old.history.events kept.shown.run kept.shown.state journal.history.stands).1 in
+      let all : length kept.shown.state.output ≡ count_by (λ (n : Numbered). is_print n.label) kept.shown.run = run_printed job.program kept.shown.run (start job.program) kept.shown.state run.ends in
+      let some : final_prints kept.shown.run ≤ count_by (λ (n : Numbered). is_print n.label) kept.shown.run = and_fewer (λ (n : Numbered). is_print n.label) (λ (n : Numbered). nat_lt n.seq.0 (floor kept.shown.run)) kept.shown.run in
+      let same : old.tallies.finals ≡ final_prints kept.shown.run = kept.tallied.finals ∙ ap final_prints journal.history.left in
+      let out : length old.printed.items ≡ length kept.shown.state.output = ap length journal.printed in
+      omega (arith, all, some, same, out)
+
+  -- there are no more than events
+  pub finals_few : old.tallies.finals ≤ length old.history.events
+  finals_few =
+      let some : final_prints (survivors old.history) ≤ length (survivors old.history) = all_few (λ (n : Numbered). is_print n.label && nat_lt n.seq.0 (floor (survivors old.history))) (survivors old.history) in
+      let few = run_few old.history in
+      let same = kept.tallied.finals in
+      omega (arith, some, few, same)
+
+  pub due_so : 0 < due old.history.events → old.tallies.released < old.tallies.finals
+  due_so some = let is = due_is job old kept in omega (arith, some, is)
+
+  -- the values that are due
+  pub lines_so : (values : List Datum) → values ≡ drop old.tallies.released (take old.tallies.finals old.printed.items) → flat_map (λ (v : Datum). line (printed job.program.texts v)) values ≡ due_lines (view_of job old)
+  lines_so values is =
+      ap (flat_map (λ (v : Datum). line (printed job.program.texts v)))
+      (is
+      ∙ ap (λ n. drop n (take old.tallies.finals old.printed.items)) kept.tallied.released
+      ∙ ap (λ n. drop (released old.history.events) (take n old.printed.items)) finals_are)
+
+  -- with more room
+  module _ (mid : Parts) (room : mid ≡ record old { history = record old.history { spare = mid.history.spare } }) where
+    as_before : AreAsBefore old mid
+    as_before = subst (AreAsBefore old) (sym room) (reserved old (record old.history { spare = mid.history.spare }) refl)
+
+    pub kept_reserved : IsKept job mid
+    kept_reserved = kept_same job old mid as_before kept
+
+    pub view_reserved : view_of job mid ≡ view_of job old
+    view_reserved = view_same job old mid as_before
+
+    -- the release was pushed
+    module _ (new : Parts) (worker : ℕ) (some : 0 < due old.history.events) (is : IsReleasedBy mid new worker) where
+      pub kept_after_release : IsKept job new
+      kept_after_release =
+          kept_released job mid new worker kept_reserved
+          (let low = due_so some in let tallies = ap (λ (x : Parts). x.tallies) room in subst (λ (t : Tallies). t.released < t.finals) (sym tallies) low) is
+
+      pub released_so : IsReleased (view_of job old) (view_of job new) worker
+      released_so =
+          subst (λ (b : BookView). view_of job new ≡ record b { history = record b.history { events = b.history.events ++ event worker (Release (final_prints (run_of old.history.events))) ∷ [] } }) view_reserved
+          (ap (view_of job) is.others
+          ∙ ap (λ (t : Tallies). view_of job (record mid { history = new.history; tallies = t })) is.tallies
+          ∙ (λ i. record (view_of job mid) { history = record (without_spare mid.history) { events = is.events i; struck = is.struck i } })
+          ∙ ap (λ (n : ℕ). record (view_of job mid) { history = record (without_spare mid.history) { events = mid.history.events ++ event worker (Release n) ∷ [] } }) (ap (λ (x : Parts). x.tallies.finals) room ∙ finals_are))

@@ -1,0 +1,87 @@
+//! A release: the lines of values that a cut made final.
+ghost use Rattle.std.specs.Prelude.{◌≡◌, ◌<◌, ◌≤◌, ◌+◌, ◌^◌, ◌++◌, ℕ, List, IfOk, OnErr, OnOk, length};
+ghost use Rattle.std.specs.List.{flat_map};
+ghost use Rattle.stab_base.specs.Printed.{printed};
+ghost use Rattle.stab_journal.specs.Due.{due};
+ghost use Rattle.stab_journal.specs.Event.{IsWorker, weight_of};
+ghost use Rattle.plain_language.specs.Shown.{line};
+ghost use Rattle.commit_book.specs.Book.{IsShown};
+ghost use Rattle.commit_book.specs.Releases.{IsReleased, IsReleasedBy, due_lines};
+
+use crate::book::Book;
+use crate::parts::Parts;
+use stab_base::{NoMemory, Seq, Texts, Value};
+use stab_journal::{Event, What};
+
+/// A journal holds no more events.
+const MOST_EVENTS: u64 = 4_294_967_294;
+
+impl Book {
+    /// Adds the lines of the values that are due, and counts them as released. Without memory nothing is added.
+    pub fn release(&mut self, worker: u32, out: &mut Vec<u8>) -> Result<Seq, NoMemory>
+        requires due { 0 < due self.old.history.events }
+        requires worker { IsWorker worker }
+        ensures number { IfOk result (λ q. q.0 ≡ length self.old.history.events + 1) }
+        ensures released { OnOk result (IsReleased self.old self.new worker) }
+        ensures lines { OnOk result (out.new.items ≡ out.old.items ++ due_lines self.old) }
+        ensures err { OnErr result ((self.new ≡ self.old) × (out.new.items ≡ out.old.items)) }
+        ensures shown { IsShown self.new }
+    {
+        self.parts.reserve_event()?;
+        let before = out.len();
+        let (finals, _later) = self
+            .parts
+            .printed
+            .split_at(self.parts.tallies.finals as usize);
+        let (_released, due) = finals.split_at(self.parts.tallies.released as usize);
+        if put_lines(due, self.job.program().texts(), out).is_err() {
+            out.truncate(before);
+            return Err(NoMemory);
+        }
+        Ok(self.parts.release(worker))
+    }
+}
+
+impl Parts {
+    /// Room for one event more. A journal that holds as many as it can, or weighs as much, has none.
+    fn reserve_event(&mut self) -> Result<(), NoMemory>
+        ensures spare { OnOk result (1 ≤ self.new.history.spare) }
+        ensures weight { OnOk result (weight_of self.new.history.events + 1 < 2 ^ 64) }
+        ensures few { OnOk result (length self.new.history.events < 4294967294) }
+        ensures rest { self.new ≡ record self.old { history = record self.old.history { spare = self.new.history.spare } } }
+    {
+        if self.history.len() >= MOST_EVENTS || self.history.weight() == u64::MAX {
+            return Err(NoMemory);
+        }
+        self.history.reserve(1)
+    }
+
+    /// All values that are final count as released.
+    fn release(&mut self, worker: u32) -> Seq
+        requires worker { IsWorker worker }
+        requires spare { 1 ≤ self.old.history.spare }
+        requires weight { weight_of self.old.history.events + 1 < 2 ^ 64 }
+        requires count { (1 ≤ self.old.tallies.finals) × (self.old.tallies.finals ≤ 4294967295) }
+        ensures number { result.0 ≡ length self.old.history.events + 1 }
+        ensures released { IsReleasedBy self.old self.new worker }
+    {
+        self.tallies.released = self.tallies.finals;
+        self.history.push(Event {
+            worker,
+            what: What::Release(self.tallies.finals),
+        })
+    }
+}
+
+/// Adds the line of each value. Without memory some of it may be there.
+fn put_lines(values: &[Value], texts: &Texts, out: &mut Vec<u8>) -> Result<(), NoMemory>
+    ensures lines { OnOk result
+        (out.new.items ≡ out.old.items ++ flat_map (λ v. line (printed texts.now v)) values.now) }
+    ensures front { (more : List ℕ) × (out.new.items ≡ out.old.items ++ more) }
+{
+    for v in values {
+        v.put_text(texts, out)?;
+        out.push(b'\n')?;
+    }
+    Ok(())
+}
