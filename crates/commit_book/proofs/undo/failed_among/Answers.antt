@@ -15,13 +15,13 @@ loop-t-preserved c =
     let ks = map.keys c.args.plan.now.lines in
     let t = (get_or ts c.loop-t.t-index (record { 0 = 0 })).0 in
     record {
-      few = let one = at_most_one c.has_failed.result c.from.result (one_from c.has_failed.result c.from.result c.from.ensures) in omega (arith, one, c.loop-t.invariant.few);
+      few = let one = at_most_one c.has_failed.result c.from-failed.result (one_from c.has_failed.result c.from-failed.result c.from-failed.ensures) in omega (arith, one, c.loop-t.invariant.few);
       count = λ p valid fit n low.
-          next_counted (is_faulted_at p c.args.slots.now.threads) (take c.loop-t.t-index ks) (take (c.loop-t.t-index + 1) ks) t n c.loop-t.failed c.from.result c.has_failed.result
+          next_counted (is_faulted_at p c.args.slots.now.threads) (take c.loop-t.t-index ks) (take (c.loop-t.t-index + 1) ks) t n c.loop-t.failed c.from-failed.result c.has_failed.result
           (low t (sym (listed_key c.args.plan.now.lines t) ∙ key_listed ts ks c.loop-t.t-index c.loop-t-test.true c.touched-t-items.ensures))
           (key_fresh ts ks c.loop-t.t-index (once_keys c.args.plan.now.lines) c.loop-t-test.true c.touched-t-items.ensures)
           (keys_more ts ks c.loop-t.t-index c.loop-t-test.true c.touched-t-items.ensures)
-          (c.has_failed.ensures p valid fit) (one_from c.has_failed.result c.from.result c.from.ensures) (c.loop-t.invariant.count p valid fit n low);
+          (c.has_failed.ensures p valid fit) (one_from c.has_failed.result c.from-failed.result c.from-failed.ensures) (c.loop-t.invariant.count p valid fit n low);
     }
 
 pub returns : goal.returns
