@@ -140,7 +140,7 @@ module _ (s : ℕ → Bool) where
     }
 
     module _ (qs : List Seq) (vs : List Datum) (kept i : ℕ) (is : IsKeeping before all qs values vs kept i) (low : i < length all) (q : Seq) (q_is : q ≡ get_or qs i q) where
-      q_all : q ≡ get_or all i q
+      pub q_all : q ≡ get_or all i q
       q_all = q_is ∙ same_at qs all i q (let long = is.long in omega (arith, low, long)) low is.more
 
       more_all : take (i + 1) all ≡ take i all ++ q ∷ []
