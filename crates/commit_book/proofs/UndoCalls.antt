@@ -118,7 +118,7 @@ module _ (old : Parts) (m : ℕ) (qs : List ℕ) (u : IsUndoing old m qs) where
         let w = within_at (floor u.run) last is_print u.run q among in
         let e = entry_of m u.run (parts_of u.run m u.may.revocable).entered in
         let here : q ≡ m = let high : m ≤ q = reached_above u.run m 1 q runs.rises goes in omega (arith, high, low) in
-        let entry : IsStepAt u.run q = record { before = e.place.before; n = e.n; after = e.place.after; is = e.place.is; number = e.at ∙ sym here } in
+        let entry : IsStepAt u.run q = record { before = e.place.before; n = e.n; after = e.place.after; is = e.place.is; number = sym e.at ∙ sym here } in
         absurd (no_print e.n.label e.enters (ap is_print (same_label e.n.label w.at.n.label (label_at old.history.events q) (at_journal q entry).0 (at_journal q w.at).0) ∙ w.passes))
     | false ↦ λ off. refl
   ] refl
