@@ -15,7 +15,7 @@ use Rattle.stab_journal.specs.declared.event.Numbered.{Numbered}
 use Rattle.stab_journal.specs.Journal.{IsLive, IsSurvivor, Journal, RiseFrom, label_at, survivors}
 use Rattle.stab_journal.specs.Label.{written}
 use Rattle.stab_journal.specs.Names.{has, is_at, made}
-use Rattle.stab_journal.specs.Reached.{Lost, keep, lose, is_reached, reached, reached_from}
+use Rattle.stab_journal.specs.Reached.{Lost, keep, lose, is_reached, reached_from}
 use Rattle.stab_journal.proofs.Surviving.{are_survivors}
 use Rattle.ref_log.specs.Log.{Write, has_below, has_write, kept}
 use Rattle.plain_language.specs.Steps.{State, Table, after_steps, allows, next, plain}

@@ -1,11 +1,11 @@
-use Rattle.std.proofs.Common.{◌≡◌, ◌-◌, ◌+◌, ◌<◌, ◌≤◌, List, length, get_or, refl, sym, ap, subst, ◌∙◌, arith}
+use Rattle.std.proofs.Common.{◌≡◌, ◌-◌, ◌+◌, ◌<◌, ◌≤◌, List, length, get_or, refl, ap, subst, ◌∙◌, arith}
 use Rattle.std.specs.Prelude.{◌↔◌, IsTrue, slice_index}
 use Rattle.stab_base.specs.declared.numbers.Seq.{Seq}
 use Rattle.reach_line.specs.MarkList.{numbers}
 use Rattle.stab_journal.specs.Journal.{IsLive, Journal}
 use Rattle.commit_book.specs.declared.parts.Parts.{Parts}
 use Rattle.commit_book.specs.OwnSteps.{stays}
-use Rattle.commit_book.proofs.PrintKeeping.{first_stay, keep_none, keep_next, kept_prints, kept_values, live_is, number_has, q_all}
+use Rattle.commit_book.proofs.PrintKeeping.{first_stay, keep_none, keep_next, kept_prints, live_is, number_has, q_all}
 use Rattle.commit_book.proofs.parts.Parts.drop_prints.Goals as goal
 
 pub loop-i-init : goal.loop-i-init
