@@ -258,7 +258,7 @@ module _ (j : Journal) where
   first_stay (q ∷ qs) (suc n) m low is live = (
     stays_live q.0 (live q.0 (is 0 (omega arith)) (ap (λ b. cond b true (has (numbers qs) q.0)) (nat_eq_equiv.refl q.0))),
     first_stay qs n m (omega (arith, low)) (λ i under. is (suc i) (omega (arith, under)))
-    (λ k under at. live k under (elim (nat_eq k q.0) as (λ b. cond b true (has (numbers qs) k) ≡ true) [ true ↦ refl | false ↦ at ])),
+        (λ k under at. live k under (elim (nat_eq k q.0) as (λ b. cond b true (has (numbers qs) k) ≡ true) [ true ↦ refl | false ↦ at ])),
   )
 
   -- a step that isn't live doesn't

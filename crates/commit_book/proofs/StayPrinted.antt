@@ -65,7 +65,7 @@ module _ (p : ProgramParts) where
   stay_all gone [] s end run = refl
   stay_all gone (n ∷ ns) s end run =
       elim (plain (effect_of p) s n.seq.0 n.label) as (λ o. plain (effect_of p) s n.seq.0 n.label ≡ o → after_steps (effect_of p) o ns ≡ Some end
-          → stay_of (λ q. not (gone q)) (print_numbers (n ∷ ns)) (printed_of (effect_of p) (effect_in (effect_of p) s n.seq.0 n.label) ++ prints (effect_of p) (λ _. false) o ns) ≡ cond (gone n.seq.0) [] (printed_of (effect_of p) (effect_in (effect_of p) s n.seq.0 n.label)) ++ prints (effect_of p) gone o ns) [
+      → stay_of (λ q. not (gone q)) (print_numbers (n ∷ ns)) (printed_of (effect_of p) (effect_in (effect_of p) s n.seq.0 n.label) ++ prints (effect_of p) (λ _. false) o ns) ≡ cond (gone n.seq.0) [] (printed_of (effect_of p) (effect_in (effect_of p) s n.seq.0 n.label)) ++ prints (effect_of p) gone o ns) [
         | None ↦ λ none run. absurd (some_none (sym run ∙ no_steps (effect_of p) ns))
         | (Some m) ↦ λ made run.
             let st = step_of (effect_of p) s n.seq.0 n.label m made in

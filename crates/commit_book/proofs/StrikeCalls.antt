@@ -301,9 +301,9 @@ module _ (old now mid : Parts) (lost : List ℕ) (left rest : List Seq) (q : Seq
       there = elim (has so.qs q.0) as (λ b. has so.qs q.0 ≡ b → b ≡ true) [
         | true ↦ λ at. refl
         | false ↦ λ off. absurd (dead (record {
-            step = subst (λ (es : List Event). IsSome (label_at es q.0)) (sym struck_mid.events) (may.each q.0 here_lost).live.step;
-            kept = struck_mid.struck q.0 ∙ ap (λ b. b || set.contains old.history.struck q.0) off ∙ (may.each q.0 here_lost).live.kept;
-          }))
+          step = subst (λ (es : List Event). IsSome (label_at es q.0)) (sym struck_mid.events) (may.each q.0 here_lost).live.step;
+          kept = struck_mid.struck q.0 ∙ ap (λ b. b || set.contains old.history.struck q.0) off ∙ (may.each q.0 here_lost).live.kept;
+        }))
       ] refl
 
       by : (k : ℕ) → (has so.qs k || has (numbers rest) k) ≡ (has so.qs k || (has (numbers rest) k || nat_eq k q.0))

@@ -82,7 +82,7 @@ at_most_one false one is = omega (arith, is)
 pub all_counted : (lines : LineMap) (p : ℕ → Bool) (n k : ℕ) (ts : List ℕ) → ts ≡ map.keys lines → k + length (threads_below (left_of p ts) n) ≡ length (threads_below p n) → k + length (threads_below (λ t. p t && not (is_touched lines t)) n) ≡ length (threads_below p n)
 all_counted lines p n k ts all count =
     let same : length (threads_below (λ t. p t && not (is_touched lines t)) n) ≡ length (threads_below (left_of p ts) n) =
-        ap length (numbers-same (left_of p ts) (λ t. p t && not (is_touched lines t)) n (λ t low. ap (λ b. p t && not b) (sym (listed_key lines t) ∙ ap (is_listed t) (sym all)))) in
+    ap length (numbers-same (left_of p ts) (λ t. p t && not (is_touched lines t)) n (λ t low. ap (λ b. p t && not b) (sym (listed_key lines t) ∙ ap (is_listed t) (sym all)))) in
     omega (arith, same, count)
 
 -- ---- pins

@@ -44,11 +44,13 @@ pub gather-requires-clause-rising : goal.gather-requires-clause-rising
 gather-requires-clause-rising c = c.read_all.ensures.rising
 
 pub strike_all-removed-requires : goal.strike_all-removed-requires
-strike_all-removed-requires c = record { may =
-    may_strike_all c.args.self.now c.args.mark.0 c.args.marks.now.nodes c.requires c.lines_in.new.plan.lines c.lines_in.ensures.lines c.apply.new.slots.threads (λ t. c.apply.ensures.threads (record { 0 = t }))
-    (record c.args.self.now { slots = c.apply.new.slots; offers = c.apply.new.offers; store = c.apply.new.store; graph = c.apply.new.graph; tallies = record c.args.self.now.tallies { faulted = c.args.self.now.tallies.faulted - c.failed_among.result }; rollback = c.gather.new.self })
-    refl refl c.apply.ensures.waiting c.apply.ensures.offers (numbers c.gather.new.self.lost.items)
-    (lost_all c.args.self.now c.args.mark.0 c.args.marks.now.nodes c.requires (record c.read_all.new.self { plan = c.lines_in.new.plan }) c.gather.new.self (read_planned c.args.self.now.history c.read_all.new.self (record c.read_all.new.self { plan = c.lines_in.new.plan }) c.read_all.ensures.read refl) c.read_all.ensures.all c.lines_in.ensures.lines c.gather.ensures.gathered); }
+strike_all-removed-requires c = record {
+  may =
+      may_strike_all c.args.self.now c.args.mark.0 c.args.marks.now.nodes c.requires c.lines_in.new.plan.lines c.lines_in.ensures.lines c.apply.new.slots.threads (λ t. c.apply.ensures.threads (record { 0 = t }))
+      (record c.args.self.now { slots = c.apply.new.slots; offers = c.apply.new.offers; store = c.apply.new.store; graph = c.apply.new.graph; tallies = record c.args.self.now.tallies { faulted = c.args.self.now.tallies.faulted - c.failed_among.result }; rollback = c.gather.new.self })
+      refl refl c.apply.ensures.waiting c.apply.ensures.offers (numbers c.gather.new.self.lost.items)
+      (lost_all c.args.self.now c.args.mark.0 c.args.marks.now.nodes c.requires (record c.read_all.new.self { plan = c.lines_in.new.plan }) c.gather.new.self (read_planned c.args.self.now.history c.read_all.new.self (record c.read_all.new.self { plan = c.lines_in.new.plan }) c.read_all.ensures.read refl) c.read_all.ensures.all c.lines_in.ensures.lines c.gather.ensures.gathered);
+}
 
 pub drop_prints-requires-clause-printed : goal.drop_prints-requires-clause-printed
 drop_prints-requires-clause-printed c =
