@@ -1,4 +1,4 @@
-use Rattle.std.proofs.Common.{◌≡◌, subst}
+use Rattle.std.proofs.Common.{◌≡◌, ◌≤◌, subst, arith}
 use Rattle.std.specs.Prelude.{option_map}
 use Rattle.stab_code.specs.Valid.{IsValid}
 use Rattle.plain_language.specs.Redex.{mark}
@@ -14,12 +14,13 @@ take_back-requires-clause-mark c =
 
 pub refuse-requires-clause-held : goal.refuse-requires-clause-held
 refuse-requires-clause-held c =
+    let low : c.in-Some.mark.0 ≤ c.args.self.now.rollback.floor.0 = omega arith in
     held_low (survivors c.args.self.now.history) (mark (expr_of c.args.job.now.program c.args.progress.end)) c.in-Some.mark.0 c.args.self.now.rollback.floor.0
     (mark_is c.mark.result (mark (expr_of c.args.job.now.program c.args.progress.end)) c.in-Some.mark
-    (subst (λ (g : ControlView). IsValid c.args.job.now.program → Fits c.args.job.now.program g → option_map (λ m. m.0) c.mark.result ≡ mark (expr_of c.args.job.now.program g)) c.end.ensures.end (c.mark.ensures c.args.job.now.program) c.requires.may.kept.valid c.requires.may.made.fits) c.in-Some.is) c.requires.may.kept.read.floor ?
+    (subst (λ (g : ControlView). IsValid c.args.job.now.program → Fits c.args.job.now.program g → option_map (λ m. m.0) c.mark.result ≡ mark (expr_of c.args.job.now.program g)) c.end.ensures.end (c.mark.ensures c.args.job.now.program) c.requires.may.kept.valid c.requires.may.made.fits) c.in-Some.is) c.requires.may.kept.read.floor low
 
-pub refuse-requires-clause-held-in-None : goal.refuse-requires-clause-held-in-None
-refuse-requires-clause-held-in-None c =
+pub refuse-requires-in-None-clause-held : goal.refuse-requires-in-None-clause-held
+refuse-requires-in-None-clause-held c =
     held_none (survivors c.args.self.now.history) (mark (expr_of c.args.job.now.program c.args.progress.end))
     (no_mark c.mark.result (mark (expr_of c.args.job.now.program c.args.progress.end))
     (subst (λ (g : ControlView). IsValid c.args.job.now.program → Fits c.args.job.now.program g → option_map (λ m. m.0) c.mark.result ≡ mark (expr_of c.args.job.now.program g)) c.end.ensures.end (c.mark.ensures c.args.job.now.program) c.requires.may.kept.valid c.requires.may.made.fits) c.in-None.is)

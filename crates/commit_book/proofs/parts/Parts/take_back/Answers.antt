@@ -1,6 +1,7 @@
 use Rattle.std.proofs.Common.{refl}
 use Rattle.commit_book.proofs.Acted.{needs_few, needs_there}
 use Rattle.commit_book.proofs.Granting.{done_again, err_again, marked_there, may_again, node_there, pinned_held}
+use Rattle.commit_book.proofs.SeenAfter.{kept_same}
 use Rattle.commit_book.proofs.SingleActs.{few_at, may_begin}
 use Rattle.commit_book.proofs.TakeBack.{mark_within, next_some, read_low, spare_left, taken, taken_kept, thread_named, undoing, undos_low, weight_left}
 use Rattle.commit_book.proofs.parts.Parts.take_back.Goals as goal
@@ -16,6 +17,10 @@ plan_undo-requires-clause-there c = node_there c.args.job.now c.args.self.now c.
 
 pub plan_undo-requires-clause-read : goal.plan_undo-requires-clause-read
 plan_undo-requires-clause-read c = c.requires.may.kept.read
+
+pub returns-in_default-clause-kept : goal.returns-in_default-clause-kept
+returns-in_default-clause-kept c =
+    kept_same c.args.job.now c.args.self.now c.plan_undo.new.self c.plan_undo.ensures.before c.requires.may.kept
 
 pub holds_pin-requires : goal.holds_pin-requires
 holds_pin-requires c = record { there = marked_there c.args.job.now c.args.self.now c.args.lease.now c.args.progress c.requires.may c.plan_undo.new.self c.plan_undo.ensures.before c.args.mark.0 c.requires.mark c.requires.above c.in-Ok.marks.nodes c.in-Ok.ensures.reached }
