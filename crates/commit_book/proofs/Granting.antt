@@ -97,8 +97,7 @@ module _ (job : JobParts) (old : Parts) (lease : LeaseView) (progress : Progress
   enters_by : (k m : ℕ) → progress.steps ≡ k → mark (expr_of job.program progress.end) ≡ Some m → is_entered m may.kept.shown.run ≡ true
   enters_by zero m none marked =
       let here : mark_in s lease.thread ≡ Some m = ap (option_and_then mark) (stands_there job old lease progress may) ∙ ap mark (sym (unmoved p s 1 (thread lease.thread) progress.steps progress.origin progress.end (stands_there job old lease progress may) may.made none)) ∙ marked in
-      let e = mark_entered p s run stood lease.thread m here in
-      ap (is_entered m) e.is ∙ entered_in lease.thread m e.before e.n e.after e.number e.enters
+      entered_in lease.thread m run (mark_entered p s run stood lease.thread m here)
   enters_by (suc k) m some marked =
       let q : ℕ = length old.history.events + 1 in
       let l : Label = Local (thread lease.thread) progress.steps in
@@ -109,8 +108,8 @@ module _ (job : JobParts) (old : Parts) (lease : LeaseView) (progress : Progress
         ends = steps_append (effect_of p) run (numbered q l ∷ []) (Some (start p)) ∙ ap (λ o. after_steps (effect_of p) o (numbered q l ∷ [])) stood.ends ∙ plain_of (effect_of p) s q l e found refl;
       } in
       let here : mark_in (apply s l e) lease.thread ≡ Some m = ap (option_and_then mark) (local_stands p s q (thread lease.thread) progress.steps progress.origin progress.end (stands_there job old lease progress may) may.made) ∙ marked in
-      let entry = mark_entered p (apply s l e) (run ++ numbered q l ∷ []) later lease.thread m here in
-      sym (entered_same m run (numbered q l) refl) ∙ ap (is_entered m) entry.is ∙ entered_in lease.thread m entry.before entry.n entry.after entry.number entry.enters
+      sym (entered_same m run (numbered q l) refl)
+      ∙ entered_in lease.thread m (run ++ numbered q l ∷ []) (mark_entered p (apply s l e) (run ++ numbered q l ∷ []) later lease.thread m here)
 
   -- the thread's section was entered before its pure steps
   pub entered_before : (m : ℕ) → mark (expr_of job.program progress.end) ≡ Some m → is_entered m may.kept.shown.run ≡ true

@@ -2,7 +2,6 @@
 use Rattle.std.proofs.Common.{◌≡◌, ℕ, suc, ◌+◌, ◌<◌, Bool, true, false, cond, nat_eq, List, [], ◌∷◌, ◌++◌, length, Option, Some, None, refl, sym, ap, subst, ◌∙◌, length-append, arith}
 use Rattle.std.specs.Prelude.{IfSome, is_some, option_map, if◌then◌else◌}
 use Rattle.std.specs.FinMap as map
-use Rattle.std.proofs.lemmas.Bool.{false≢true}
 use Rattle.stab_base.specs.Datum.{Datum}
 use Rattle.stab_base.specs.declared.fault.Fault.TheVariants.{NoSection}
 use Rattle.stab_base.specs.declared.numbers.FnId.{FnId}

@@ -16,7 +16,7 @@ use Rattle.plain_language.specs.declared.head.Head.{Head}
 use Rattle.plain_language.specs.declared.head.Head.TheVariants.{Section}
 use Rattle.plain_language.specs.Expression.{Expr, Parts, value, variable, failed, form, none, part}
 use Rattle.plain_language.specs.Plain.{IsRun, PlainState, mark_in}
-use Rattle.plain_language.specs.Redex.{Frame, first_counts_alone, frames, frames_of, innermost, mark, redex, redex_in, redex_of, section_or}
+use Rattle.plain_language.specs.Redex.{Frame, first_counts_alone, frames, frames_of, innermost, mark, redex_in, redex_of, section_or}
 use Rattle.journal_laws.specs.Entered.{enters_by, is_entered_by}
 use Rattle.journal_laws.specs.Known.{ArePartsIn, IsExprIn, IsHeadIn, Known, sections_alone}
 use Rattle.journal_laws.proofs.Runs.{run_entered}
@@ -86,13 +86,16 @@ entry_by t m (n ∷ ns) h =
     ] refl h
 
 -- so it is a section of the run
-pub entered_in : (t m : ℕ) (before : List Numbered) (n : Numbered) (after : List Numbered) → n.seq.0 ≡ m → is_enter n.label ≡ true → is_entered m (before ++ n ∷ after) ≡ true
-entered_in t m [] n after number enter = ap (λ b. (b && is_enter n.label) || is_entered m after) (ap (nat_eq m) number ∙ nat_eq_equiv.refl m) ∙ ap (λ b. b || is_entered m after) enter
-entered_in t m (k ∷ before) n after number enter = ap (λ b. (nat_eq m k.seq.0 && is_enter k.label) || b) (entered_in t m before n after number enter) ∙ or_true (nat_eq m k.seq.0 && is_enter k.label)
+entered_at : (t m : ℕ) (before : List Numbered) (n : Numbered) (after : List Numbered) → n.seq.0 ≡ m → is_enter n.label ≡ true → is_entered m (before ++ n ∷ after) ≡ true
+entered_at t m [] n after number enter = ap (λ b. (b && is_enter n.label) || is_entered m after) (ap (nat_eq m) number ∙ nat_eq_equiv.refl m) ∙ ap (λ b. b || is_entered m after) enter
+entered_at t m (k ∷ before) n after number enter = ap (λ b. (nat_eq m k.seq.0 && is_enter k.label) || b) (entered_at t m before n after number enter) ∙ or_true (nat_eq m k.seq.0 && is_enter k.label)
   where
     or_true : (b : Bool) → (b || true) ≡ true
     or_true true = refl
     or_true false = refl
+
+pub entered_in : (t m : ℕ) (run : List Numbered) → IsEntry t m run → is_entered m run ≡ true
+entered_in t m run e = ap (is_entered m) e.is ∙ entered_at t m e.before e.n e.after e.number e.enters
 
 pub mark_entered : (p : ProgramParts) (s : PlainState) (run : List Numbered) → IsRun p run s → (t m : ℕ) → mark_in s t ≡ Some m → IsEntry t m run
 mark_entered p s run r t m is =

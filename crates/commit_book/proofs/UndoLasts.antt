@@ -138,7 +138,7 @@ module _ (job : JobParts) (old : Parts) (lease : LeaseView) (progress : Progress
   entry = mark_entered p kept.shown.state kept.shown.run stood lease.thread m mark_now
 
   pub entered_now : is_entered m kept.shown.run ≡ true
-  entered_now = ap (is_entered m) entry.is ∙ entered_in lease.thread m entry.before entry.n entry.after entry.number entry.enters
+  entered_now = entered_in lease.thread m kept.shown.run entry
 
   module _ (revocable : is_revocable kept.shown.run m ≡ true) where
     pub may_undo : MayUndo job.program kept.shown.run kept.shown.state lease.thread m
