@@ -4,6 +4,7 @@ use Rattle.std.specs.Prelude.{is_some, option_map}
 use Rattle.std.specs.Option.{option_map_or}
 use Rattle.std.specs.FinMap as map
 use Rattle.std.proofs.lemmas.Bool.{false≢true}
+use Rattle.linked_lists.specs.Lists.{is_listed}
 use Rattle.thread_slots.specs.declared.state.State.{State}
 use Rattle.thread_slots.specs.declared.state.State.TheVariants.{Ready, Leased, Parked, Ended}
 use Rattle.thread_slots.specs.Ready.{numbers}
@@ -12,6 +13,7 @@ use Rattle.thread_slots.proofs.Counted.{numbers-some}
 use Rattle.step_eval.specs.ControlView.{ControlView, expr_of}
 use Rattle.commit_book.specs.Book.{BookView, IsShown}
 use Rattle.commit_book.specs.Counts.{in_state}
+use Rattle.commit_book.specs.Rows.{Row, alone, starts, meets, waits, stays, undoes, may_change, movers}
 use Rattle.commit_book.proofs.Choosing.{found_in}
 use Rattle.commit_book.proofs.Named.{old_thread}
 
@@ -64,3 +66,12 @@ parked_not_leased Parked is = refl
 parked_not_leased Leased is = absurd (false≢true is)
 parked_not_leased Ended is = refl
 parked_not_leased Ready is = refl
+
+-- who doesn't move, and isn't the thread itself, isn't changed by a row
+pub isnt_changed : (t u : ℕ) (row : Row) → is_listed u (t ∷ movers t row) ≡ false → is_listed u (may_change t row) ≡ false
+isnt_changed t u stays unlisted = refl
+isnt_changed t u (alone l) unlisted = unlisted
+isnt_changed t u (starts v) unlisted = unlisted
+isnt_changed t u (meets v l) unlisted = unlisted
+isnt_changed t u (waits o) unlisted = unlisted
+isnt_changed t u (undoes m) unlisted = unlisted

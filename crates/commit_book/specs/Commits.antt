@@ -21,7 +21,7 @@ use Rattle.commit_book.specs.declared.done.Done.TheVariants.{Taken, Parked, Undo
 use Rattle.commit_book.specs.Book.{BookView, Answered}
 use Rattle.commit_book.specs.Leases.{LeaseView}
 use Rattle.commit_book.specs.Limits.{commit_reserve, most_counted}
-use Rattle.commit_book.specs.Rows.{Row, meets, waits, stays, undoes, row_of, events_by, local_of, steps_of, movers}
+use Rattle.commit_book.specs.Rows.{Row, meets, waits, stays, undoes, row_of, events_by, local_of, steps_of, may_change, movers}
 use Rattle.commit_book.specs.Step.{next_seq}
 use Rattle.commit_book.specs.Turns.{given_back}
 use Rattle.commit_book.specs.Undoing.{begun, IsTakenBack, IsToldOf}
@@ -46,8 +46,8 @@ pub record IsMoved (old new : BookView) (worker t n : ℕ) (row : Row) : Type 0 
   pub history : new.history ≡ record old.history { events = old.history.events ++ events_by worker (local_of t n ++ steps_of t row) }
   -- the thread leaves its place, and those that the row moves come to the tail; they are Ready there, or have Ended
   pub queue : new.queue ≡ without t old.queue ++ filter (λ u. not (is_in Ended new.threads u)) (movers t row)
-  -- nobody else changes
-  pub others : (u : ℕ) → is_listed u (t ∷ movers t row) ≡ false → map.get new.threads u ≡ map.get old.threads u
+  -- nobody else changes; where the thread keeps its place, it doesn't either
+  pub others : (u : ℕ) → is_listed u (may_change t row) ≡ false → map.get new.threads u ≡ map.get old.threads u
   -- lines keep their order
   pub lines : (c : ℕ) → IfSome (map.get old.offers.lines c) (λ line. map.get new.offers.lines c ≡ Some (line_after t row c line))
   pub job : new.job ≡ old.job

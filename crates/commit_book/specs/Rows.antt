@@ -113,3 +113,8 @@ movers t (alone l) = t ∷ []
 movers t (starts u) = u ∷ t ∷ []
 movers t (meets u l) = u ∷ t ∷ []
 movers t _ = []
+
+-- whom the row may change: the thread and those that move, and nobody where the thread keeps its place
+abbrev pub may_change : ℕ → Row → List ℕ
+may_change t stays = []
+may_change t row = t ∷ movers t row
