@@ -82,11 +82,12 @@ module _ (job : JobParts) (old : Parts) (kept : IsKept job old) where
   finals_fit =
       let journal = kept.shown.shows.journal in
       let run = (stands_run job.program old.history.events kept.shown.run kept.shown.state journal.history.stands).1 in
-      let all : length kept.shown.state.output ≡ count_by (λ (n : Numbered). is_print n.label) kept.shown.run = run_printed job.program kept.shown.run (start job.program) kept.shown.state run.ends in
+      let none : length (start job.program).output ≡ 0 = refl in
+      let all : length kept.shown.state.output ≡ length (start job.program).output + count_by (λ (n : Numbered). is_print n.label) kept.shown.run = run_printed job.program kept.shown.run (start job.program) kept.shown.state run.ends in
       let some : final_prints kept.shown.run ≤ count_by (λ (n : Numbered). is_print n.label) kept.shown.run = and_fewer (λ (n : Numbered). is_print n.label) (λ (n : Numbered). nat_lt n.seq.0 (floor kept.shown.run)) kept.shown.run in
       let same : old.tallies.finals ≡ final_prints kept.shown.run = kept.tallied.finals ∙ ap final_prints journal.history.left in
       let out : length old.printed.items ≡ length kept.shown.state.output = ap length journal.printed in
-      omega (arith, all, some, same, out)
+      omega (arith, none, all, some, same, out)
 
   -- there are no more than events
   pub finals_few : old.tallies.finals ≤ length old.history.events
