@@ -118,3 +118,4 @@ pub mod Releasing
 pub mod Committed
 pub mod Holding
 pub mod Chosen
+pub mod Crossing
