@@ -160,11 +160,12 @@ module _ (job : JobParts) (old : Parts) (lease : LeaseView) (progress : Progress
       let at : IfSome (map.get begins.slots.threads lease.thread) (λ (k : Slot ControlView). k.control ≡ was) = subst (λ (t : ℕ). IfSome (map.get begins.slots.threads t) (λ (k : Slot ControlView). k.control ≡ was)) number stood in
       let found : map.get begins.slots.threads lease.thread ≡ Some here.slot = ap (λ (k : Parts). map.get k.slots.threads lease.thread) rest ∙ ap (λ m. map.get m lease.thread) before.threads ∙ here.found in
       let same : was ≡ here.slot.control = stood_so (map.get begins.slots.threads lease.thread) here.slot was found at in
-      let fitted : Fits job.program here.slot.control = of_some (map.get old.slots.threads lease.thread) here.slot (λ (k : Slot ControlView). Fits job.program k.control) here.found (may.kept.shown.shows.threads.fit lease.thread) in
-      (same,
-      subst (λ (x : ControlView). HasGoneOn job.program begins new lease.thread was x) end
-      (subst (λ (t : ℕ). HasGoneOn job.program begins new t was c) number
-      (gone job.program may.kept.valid (subst (Fits job.program) (sym end) may.made.fits) (subst (Fits job.program) (sym same) fitted))))
+      let fitted : Fits job.program here.slot.control = of_some (map.get old.slots.threads lease.thread) here.slot (λ (k : Slot ControlView). Fits job.program k.control) here.found (may.kept.shown.shows.threads.fit lease.thread) in (
+        same,
+        subst (λ (x : ControlView). HasGoneOn job.program begins new lease.thread was x) end
+            (subst (λ (t : ℕ). HasGoneOn job.program begins new t was c) number
+            (gone job.program may.kept.valid (subst (Fits job.program) (sym end) may.made.fits) (subst (Fits job.program) (sym same) fitted))),
+      )
 
   -- the thread is put where its progress ended
   pub rest_lasts : (new : Parts) (u : ThreadId) (was c : ControlView) → u.0 ≡ lease.thread → c ≡ progress.end → IfSome (map.get begins.slots.threads u.0) (λ (k : Slot ControlView). k.control ≡ was)

@@ -37,7 +37,7 @@ returns-clause-lines c =
     ∙ ap (λ l. c.args.out.now.items ++ l)
     (ap (λ texts. flat_map (λ (v : Datum). line (printed texts v)) c.split_at-2.result.1.now) (c.texts.ensures.value ∙ ap (λ (p : ProgramParts). p.texts) (c.deref-2.ensures ∙ c.program.ensures.value))
     ∙ lines_so c.self.inside.job c.reserve_event.new.self (kept_reserved c.self.inside.job c.self.inside.parts c.self.invariant c.reserve_event.new.self c.reserve_event.ensures.rest) c.split_at-2.result.1.now
-        (c.split_at-2.ensures.back ∙ ap (λ vs. drop c.reserve_event.new.self.tallies.released vs) (c.split_at.ensures.front ∙ ap (λ vs. take c.reserve_event.new.self.tallies.finals vs) c.deref.ensures.value))
+    (c.split_at-2.ensures.back ∙ ap (λ vs. drop c.reserve_event.new.self.tallies.released vs) (c.split_at.ensures.front ∙ ap (λ vs. take c.reserve_event.new.self.tallies.finals vs) c.deref.ensures.value))
     ∙ ap due_lines (view_reserved c.self.inside.job c.self.inside.parts c.self.invariant c.reserve_event.new.self c.reserve_event.ensures.rest ∙ c.self.view_is))
 
 pub returns-clause-shown : goal.returns-clause-shown
