@@ -1,4 +1,5 @@
 pub mod Turn
 pub mod Desk
 pub mod Running
+pub mod Rounds
 pub mod Solo

@@ -5,7 +5,7 @@ use Rattle.stab_journal.specs.declared.event.Event.{Event}
 use Rattle.commit_book.specs.Book.{BookView, IsAtStart}
 use Rattle.lone_worker.specs.declared.worker.RunEnd.{RunEnd}
 use Rattle.lone_worker.specs.declared.worker.RunEnd.TheVariants.{Quiet, Spent}
-use Rattle.lone_worker.specs.Running.{IsRun}
+use Rattle.lone_worker.specs.Rounds.{IsPlayed}
 
 -- the list begins with these events
 pub record BeginsWith (events first : List Event) : Type 0 where
@@ -24,13 +24,13 @@ pub record AreOfOne (e f : RunEnd) (xs ys : List Event) : Type 0 where
   pub whole : IsWhole e → BeginsWith xs ys
   pub same : IsWhole e → IsWhole f → (e ≡ f) × (xs ≡ ys)
 
--- a run of the job by one worker, from the book before its first event, has these events and this end
+-- rounds of the job by one worker from the book before its first event, and then a run, have these events and this end
 pub record IsSolo (job : JobParts) (end : RunEnd) (events : List Event) : Type 0 where
   pub old : BookView
   pub new : BookView
   pub start : IsAtStart old
   pub of_job : old.job ≡ job
-  pub run : IsRun end old new
+  pub run : IsPlayed end old new
   pub left : new.history.events ≡ events
 
 -- the events of the whole run of the job by one worker

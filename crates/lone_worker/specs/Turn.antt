@@ -8,7 +8,7 @@ use Rattle.thread_slots.specs.Slot.{Slot, is_in}
 use Rattle.step_eval.specs.ControlView.{ControlView, Fits, expr_of}
 use Rattle.step_eval.specs.Progress.{Advances, ProgressView, Rests}
 use Rattle.commit_book.specs.declared.done.Done.{Done}
-use Rattle.commit_book.specs.declared.done.Done.TheVariants.{Taken, Parked}
+use Rattle.commit_book.specs.declared.done.Done.TheVariants.{Taken, Parked, Undone}
 use Rattle.commit_book.specs.declared.turn.Turn.TheVariants.{Work}
 use Rattle.commit_book.specs.Book.{BookView}
 use Rattle.commit_book.specs.Commits.{IsCommitted}
@@ -31,6 +31,7 @@ pub record IsAdvanced (job : JobParts) (control : ControlView) (progress : Progr
 abbrev pub is_made : Done → Bool
 is_made (Taken first count) = true
 is_made (Parked first count) = true
+is_made (Undone first count mark removed marks) = true
 is_made _ = false
 
 -- what was lent made its pure steps, and they were committed with its act
@@ -64,6 +65,10 @@ pub record IsLentAlone (b : BookView) (lease : LeaseView) (control : ControlView
   pub going : is_over (expr_of b.job.program control) ≡ false
   pub light : weight_of b.history.events < b.job.fuel
 
--- what is left to do: an event weighs, and brings one thread more to the queue at most
+-- no queue is longer
+abbrev pub most_queued : ℕ
+most_queued = 4294967296
+
+-- what is left to do: an event weighs, and an undo brings to the queue as many threads as it can hold
 abbrev pub left_to_do : BookView → ℕ
-left_to_do b = 2 * (b.job.fuel - weight_of b.history.events) + length b.queue
+left_to_do b = most_queued * (b.job.fuel - weight_of b.history.events) + length b.queue

@@ -4,32 +4,36 @@ ghost use Rattle.std.specs.Prelude.{◌≡◌, List};
 ghost use Rattle.stab_code.specs.JobParts.{JobParts};
 ghost use Rattle.stab_journal.specs.declared.event.Event.{Event};
 ghost use Rattle.commit_book.specs.Book.{BookView, IsAtStart};
+ghost use Rattle.commit_book.specs.Releases.{IsReleased};
 ghost use Rattle.commit_book.specs.Turns.{choice_of};
 ghost use Rattle.lone_worker.specs.declared.worker.RunEnd.{RunEnd as End};
 ghost use Rattle.lone_worker.specs.Desk.{IsUnlent, desk_of};
-ghost use Rattle.lone_worker.specs.Running.{IsRun};
+ghost use Rattle.lone_worker.specs.Rounds.{IsPlayed};
 ghost use Rattle.lone_worker.specs.Solo.{AreOfOne, BeginsWith, IsSolo, IsWhole, IsWholeSolo};
-ghost use Rattle.lone_worker.specs.Turn.{IsTurnOf};
+ghost use Rattle.lone_worker.specs.Turn.{IsTurnOf, worker};
 
 /// Where nobody has a lease, the desk fixes the turn: at two books with one desk the same turn comes next, and after a turn
-/// each they have one desk.
+/// each, or a release each, they have one desk.
 pub fn one_turn()
     ensures chosen { (a b : BookView) → IsUnlent a → IsUnlent b → desk_of a ≡ desk_of b → choice_of a ≡ choice_of b }
     ensures next { (a b x y : BookView) → IsUnlent a → IsUnlent b → IsUnlent x → IsUnlent y → desk_of a ≡ desk_of b
         → IsTurnOf a x → IsTurnOf b y → desk_of x ≡ desk_of y }
+    ensures release { (a b x y : BookView) → desk_of a ≡ desk_of b
+        → IsReleased a x worker → IsReleased b y worker → desk_of x ≡ desk_of y }
 {}
 
-/// So it fixes the run: of two runs from one desk, one made the first events of the other, one that came to its end made all
-/// events of the other, and two that came to their ends made the same events, and left one desk.
+/// So it fixes the run, with the releases of the values that fall due: of two runs from one desk, one made the first events of
+/// the other, one that came to its end made all events of the other, and two that came to their ends made the same events, and
+/// left one desk.
 pub fn one_run()
     ensures events { (a b x y : BookView) (e f : End) → IsUnlent a → IsUnlent b → desk_of a ≡ desk_of b
-        → IsRun e a x → IsRun f b y → AreOfOne e f x.history.events y.history.events }
+        → IsPlayed e a x → IsPlayed f b y → AreOfOne e f x.history.events y.history.events }
     ensures desk { (a b x y : BookView) (e f : End) → IsUnlent a → IsUnlent b → desk_of a ≡ desk_of b
-        → IsRun e a x → IsRun f b y → IsWhole e → IsWhole f → desk_of x ≡ desk_of y }
+        → IsPlayed e a x → IsPlayed f b y → IsWhole e → IsWhole f → desk_of x ≡ desk_of y }
 {}
 
-/// A job has one journal by one worker, of which a run that wants memory makes the first events: the books before the first
-/// events of two equal jobs have one desk.
+/// A job has one journal by one worker, of which a run that wants memory makes the first events, and one that isn't gone on with
+/// where values are due: the books before the first events of two equal jobs have one desk.
 pub fn one_journal()
     ensures start { (b : BookView) → IsAtStart b → IsUnlent b }
     ensures desk { (a b : BookView) → IsAtStart a → IsAtStart b → a.job ≡ b.job → desk_of a ≡ desk_of b }

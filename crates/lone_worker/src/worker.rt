@@ -20,14 +20,14 @@ pub enum RunEnd {
     Quiet,
     /// The fuel is used up, and a thread is ready.
     Spent,
+    /// Printed values are due.
+    Due,
     /// The memory that the next turn needs isn't there.
     NoMemory,
-    /// For the time being: a thread came to `cut`, or to `stabilize` in a section, or printed values are to be released.
-    NotBuilt,
 }
 
 /// Lends the thread that is ready longest, lets it make pure steps up to the quantum, and commits them with its act, until
-/// no thread can step or the fuel is used up. Nobody may have a lease.
+/// no thread can step, the fuel is used up, or printed values are due. Nobody may have a lease.
 pub fn run(book: &mut Book) -> RunEnd
     requires { in_state Leased book.old ≡ 0 }
     ensures later { IsLater book.old book.new }
@@ -59,7 +59,7 @@ fn turn(book: &mut Book) -> Option<RunEnd>
         Ok(Turn::Work(lease, control)) => work(book, lease, control),
         Ok(Turn::Quiet) => Some(RunEnd::Quiet),
         Ok(Turn::Spent) => Some(RunEnd::Spent),
-        Ok(Turn::Release) => Some(RunEnd::NotBuilt),
+        Ok(Turn::Release) => Some(RunEnd::Due),
         Ok(Turn::Idle) => unreachable!(),
         Err(NoMemory) => Some(RunEnd::NoMemory),
     }
@@ -106,7 +106,10 @@ fn commit(book: &mut Book, lease: Lease, progress: Progress) -> Option<RunEnd>
     match book.commit(lease, progress) {
         Ok(Done::Taken { .. }) => None,
         Ok(Done::Parked { .. }) => None,
-        Ok(Done::NotBuilt) => Some(RunEnd::NotBuilt),
+        Ok(Done::Undone { .. }) => {
+            let _last = book.last_thread();
+            None
+        }
         Ok(Done::Stale { .. }) => unreachable!(),
         Ok(Done::Over { .. }) => unreachable!(),
         Err(CommitRefused { lease, progress: _ }) => {
