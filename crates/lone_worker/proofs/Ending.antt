@@ -1,5 +1,5 @@
 -- How a turn ends.
-use Rattle.std.proofs.Common.{◌≡◌, inr, ℕ, Bool, true, false, cond, ◌&&◌, nat_eq, List, [], ◌∷◌, ◌++◌, Some, refl, sym, ap, subst, ◌∙◌, arith, append-nil}
+use Rattle.std.proofs.Common.{◌≡◌, ◌⊎◌, inl, inr, ℕ, Bool, true, false, cond, ◌&&◌, nat_eq, List, [], ◌∷◌, ◌++◌, refl, sym, ap, subst, ◌∙◌, arith, append-nil, append_assoc}
 use Rattle.std.specs.Prelude.{IsSomeAnd, option_map, if◌then◌else◌}
 use Rattle.std.specs.Option.{option_map_or}
 use Rattle.std.specs.Cmp.{nat_eq_equiv}
@@ -11,25 +11,22 @@ use Rattle.stab_journal.specs.declared.event.Event.{Event}
 use Rattle.stab_journal.specs.declared.event.Label.{Label}
 use Rattle.thread_slots.specs.declared.state.State.TheVariants.{Ready, Leased}
 use Rattle.thread_slots.specs.Slot.{Slot, same_state, is_in, changed}
-use Rattle.plain_language.specs.Plain.{look_in, language_of}
-use Rattle.plain_language.specs.Table.{pure_steps}
-use Rattle.step_eval.specs.ControlView.{ControlView, expr_of}
+use Rattle.step_eval.specs.ControlView.{ControlView}
 use Rattle.step_eval.specs.Progress.{ProgressView}
 use Rattle.commit_book.specs.declared.done.Done.{Done}
 use Rattle.commit_book.specs.declared.done.Done.TheVariants as done
 use Rattle.commit_book.specs.Book.{BookView}
-use Rattle.commit_book.specs.Commits.{IsCommitted, IsCurrent, IsLeftBy, IsMade, IsMoved, IsOver, answer_of, pushed, row_at}
+use Rattle.commit_book.specs.Commits.{IsAnsweredBy, IsCommitted, IsCurrent, IsLeftBy, IsMade, IsMoved, IsOver, row_at}
 use Rattle.commit_book.specs.Counts.{in_state}
 use Rattle.commit_book.specs.Leases.{LeaseView}
-use Rattle.commit_book.specs.Rows.{Row, alone, starts, meets, waits, stays, unbuilt, local_of, steps_of, events_by}
-use Rattle.commit_book.specs.Step.{next_seq}
+use Rattle.commit_book.specs.Rows.{Row, alone, starts, meets, waits, stays, undoes, local_of, steps_of, events_by}
 use Rattle.commit_book.specs.Turns.{given_back, is_held, requeued}
+use Rattle.commit_book.specs.Undoing.{IsTakenBack, begun, undo_by}
 use Rattle.commit_book.proofs.Lending.{get-changed}
 use Rattle.commit_book.proofs.Partners.{IsThere, there_of}
-use Rattle.lone_worker.specs.Running.{IsLater, IsUnbuilt}
-use Rattle.lone_worker.specs.Turn.{IsAdvanced, IsHeldAs, IsLentAlone, is_made, worker}
+use Rattle.lone_worker.specs.Running.{IsLater}
+use Rattle.lone_worker.specs.Turn.{IsHeldAs, IsLentAlone, is_made, worker}
 use Rattle.commit_book.proofs.Holding.{none_counted}
-use Rattle.lone_worker.proofs.Moving.{row_says}
 
 -- ---- where the lease is given back
 
@@ -83,75 +80,86 @@ module _ (lent : BookView) (lease : LeaseView) (control : ControlView) (is : IsL
   pub given_job : (new : BookView) → new ≡ given_back lent lease → new.job ≡ lent.job
   given_job new left = ap (λ (b : BookView). b.job) (left ∙ given)
 
-  found_back : map.get back.threads lease.thread ≡ Some (to_ready here.value)
-  found_back = back_at lease.thread ∙ ap (λ b. cond b (option_map to_ready (map.get lent.threads lease.thread)) (map.get lent.threads lease.thread)) (nat_eq_equiv.refl lease.thread) ∙ ap (option_map to_ready) here.found
-
-  -- the thread still comes to the act that isn't built
-  pub given_unbuilt : (new : BookView) (progress : ProgressView) → IsAdvanced lent.job control progress → new ≡ given_back lent lease → row_at lent lease progress ≡ unbuilt → IsUnbuilt new
-  given_unbuilt new progress advanced left at =
-      subst IsUnbuilt (sym (left ∙ given)) (inr (record {
-        thread = lease.thread;
-        slot = to_ready here.value;
-        found = found_back;
-        steps = progress.steps;
-        end = expr_of lent.job.program progress.end;
-        made = ap (λ c. pure_steps (language_of lent.job.program) progress.steps (expr_of lent.job.program c)) (here.is.control ∙ sym advanced.origin) ∙ advanced.made.made;
-        stands = (row_says lent lease.thread (expr_of lent.job.program progress.end) (look_in lent.job.program (expr_of lent.job.program progress.end))).unbuilt at;
-      }))
-
 -- nothing happened: what happened before is all
 pub same_later : (old new : BookView) → new.job ≡ old.job → new.history ≡ old.history → IsLater old new
 same_later old new job history = record { job = job; added = []; events = ap (λ j. j.events) history ∙ sym (append-nil old.history.events); by_one = tt }
+
+both_by : (xs ys : List Event) → AllByRecursion (λ (e : Event). e.worker ≡ worker) xs → AllByRecursion (λ (e : Event). e.worker ≡ worker) ys → AllByRecursion (λ (e : Event). e.worker ≡ worker) (xs ++ ys)
+both_by [] ys h k = k
+both_by (x ∷ xs) ys h k = (h.0, both_by xs ys h.1 k)
 
 -- one after another
 pub later_both : (a b c : BookView) → IsLater a b → IsLater b c → IsLater a c
 later_both a b c first second = record {
   job = second.job ∙ first.job;
   added = first.added ++ second.added;
-  events = second.events ∙ ap (λ es. es ++ second.added) first.events ∙ assoc a.history.events first.added second.added;
-  by_one = both first.added second.added first.by_one second.by_one;
+  events = second.events ∙ ap (λ es. es ++ second.added) first.events ∙ append_assoc a.history.events first.added second.added;
+  by_one = both_by first.added second.added first.by_one second.by_one;
 }
-  where
-    both : (xs ys : List Event) → AllByRecursion (λ (e : Event). e.worker ≡ worker) xs → AllByRecursion (λ (e : Event). e.worker ≡ worker) ys → AllByRecursion (λ (e : Event). e.worker ≡ worker) (xs ++ ys)
-    both [] ys h k = k
-    both (x ∷ xs) ys h k = (h.0, both xs ys h.1 k)
-
-    assoc : {X : Type 0} (xs ys zs : List X) → (xs ++ ys) ++ zs ≡ xs ++ (ys ++ zs)
-    assoc [] ys zs = refl
-    assoc (x ∷ xs) ys zs = ap (λ r. x ∷ r) (assoc xs ys zs)
 
 -- ---- by the row of a commit
 
+abbrev pub is_undone : Done → Bool
+is_undone (done.Undone first count mark removed marks) = true
+is_undone d = false
+
 module _ (lent new : BookView) (lease : LeaseView) (progress : ProgressView) where
-  -- what a commit moved that was made
+  -- the row moved threads
   pub record Moved : Type 0 where
     pub moved : IsMoved lent (record new { answered = lent.answered }) lease.worker lease.thread progress.steps (row_at lent lease progress)
-    pub built : row_at lent lease progress ≡ unbuilt → ⊥
+    pub undoes_nothing : (m : ℕ) → row_at lent lease progress ≡ undoes m → ⊥
 
-  moved_by : (d : Done) (row : Row) → row_at lent lease progress ≡ row → is_made d ≡ true → d ≡ answer_of (next_seq lent) (pushed lease progress row) row → IsLeftBy lent new lease progress row → Moved
-  moved_by d (alone l) at made answer left = record { moved = subst (IsMoved lent (record new { answered = lent.answered }) lease.worker lease.thread progress.steps) (sym at) left.0; built = λ is. absurd (cc) }
-  moved_by d (starts u) at made answer left = record { moved = subst (IsMoved lent (record new { answered = lent.answered }) lease.worker lease.thread progress.steps) (sym at) left.0; built = λ is. absurd (cc) }
-  moved_by d (meets u l) at made answer left = record { moved = subst (IsMoved lent (record new { answered = lent.answered }) lease.worker lease.thread progress.steps) (sym at) left.0; built = λ is. absurd (cc) }
-  moved_by d (waits o) at made answer left = record { moved = subst (IsMoved lent (record new { answered = lent.answered }) lease.worker lease.thread progress.steps) (sym at) left.0; built = λ is. absurd (cc) }
-  moved_by d stays at made answer left = record { moved = subst (IsMoved lent (record new { answered = lent.answered }) lease.worker lease.thread progress.steps) (sym at) left.0; built = λ is. absurd (cc) }
-  moved_by d unbuilt at made answer left = absurd (false≢true (sym (ap is_made answer) ∙ made))
+  -- it took a section back
+  pub record TookBack : Type 0 where
+    pub section : ℕ
+    pub row : row_at lent lease progress ≡ undoes section
+    pub taken : IsTakenBack lent (record new { answered = lent.answered }) lease.worker lease.thread progress.steps section (begun lent lease.thread progress.steps)
 
-  pub moved_of : (d : Done) → is_made d ≡ true → IsMade lent new lease progress (row_at lent lease progress) d → Moved
-  moved_of d made is = moved_by d (row_at lent lease progress) refl made is.answer is.left
+  abbrev moved_as : Row → Type 0
+  moved_as row = IsMoved lent (record new { answered = lent.answered }) lease.worker lease.thread progress.steps row
+
+  left_by : (row : Row) → row_at lent lease progress ≡ row → IsLeftBy lent new lease progress row → Moved ⊎ TookBack
+  left_by (alone l) at left = inl (record { moved = subst moved_as (sym at) left.0; undoes_nothing = λ m is. let other = sym at ∙ is in absurd (cc) })
+  left_by (starts u) at left = inl (record { moved = subst moved_as (sym at) left.0; undoes_nothing = λ m is. let other = sym at ∙ is in absurd (cc) })
+  left_by (meets u l) at left = inl (record { moved = subst moved_as (sym at) left.0; undoes_nothing = λ m is. let other = sym at ∙ is in absurd (cc) })
+  left_by (waits o) at left = inl (record { moved = subst moved_as (sym at) left.0; undoes_nothing = λ m is. let other = sym at ∙ is in absurd (cc) })
+  left_by stays at left = inl (record { moved = subst moved_as (sym at) left.0; undoes_nothing = λ m is. let other = sym at ∙ is in absurd (cc) })
+  left_by (undoes m) at left = inr (record { section = m; row = at; taken = left.0 })
 
   -- what is made was answered so
-  pub made_of : (d : Done) → is_made d ≡ true → IsCommitted lent new lease progress d → IsMade lent new lease progress (row_at lent lease progress) d
+  made_of : (d : Done) → is_made d ≡ true → IsCommitted lent new lease progress d → IsMade lent new lease progress (row_at lent lease progress) d
   made_of (done.Taken first count) made is = is.2
   made_of (done.Parked first count) made is = is.2
+  made_of (done.Undone first count mark removed marks) made is = is.2
   made_of (done.Stale g now) made is = absurd (false≢true made)
   made_of (done.Over w) made is = absurd (false≢true made)
-  made_of done.NotBuilt made is = absurd (false≢true made)
+
+  -- what is left of a commit that was made
+  pub left_of : (d : Done) → is_made d ≡ true → IsCommitted lent new lease progress d → Moved ⊎ TookBack
+  left_of d made commits = left_by (row_at lent lease progress) refl (made_of d made commits).left
+
+  -- a section was taken back where that was answered, and only there
+  answers_undone : (d : Done) (m : ℕ) → IsAnsweredBy lent lease progress (undoes m) d → is_undone d ≡ true
+  answers_undone (done.Undone first count mark removed marks) m is = refl
+  answers_undone (done.Taken first count) m is = absurd is
+  answers_undone (done.Parked first count) m is = absurd is
+  answers_undone (done.Stale g now) m is = absurd is
+  answers_undone (done.Over w) m is = absurd is
+
+  pub moved_of : (d : Done) → is_made d ≡ true → is_undone d ≡ false → IsCommitted lent new lease progress d → Moved
+  moved_of d made plain commits = by (left_of d made commits)
+    where
+      by : Moved ⊎ TookBack → Moved
+      by (inl moved) = moved
+      by (inr took) =
+          let answer = subst (λ (row : Row). IsAnsweredBy lent lease progress row d) took.row (made_of d made commits).answer in
+          absurd (false≢true (sym plain ∙ answers_undone d took.section answer))
 
   all_by : (w : ℕ) → w ≡ worker → (labels : List Label) → AllByRecursion (λ (e : Event). e.worker ≡ worker) (events_by w labels)
   all_by w is [] = tt
   all_by w is (l ∷ labels) = (is, all_by w is labels)
 
-  pub moved_later : lease.worker ≡ worker → Moved → IsLater lent new
+  moved_later : lease.worker ≡ worker → Moved → IsLater lent new
   moved_later is m = record {
     job = m.moved.job;
     added = events_by lease.worker (local_of lease.thread progress.steps ++ steps_of lease.thread (row_at lent lease progress));
@@ -159,14 +167,14 @@ module _ (lent new : BookView) (lease : LeaseView) (progress : ProgressView) whe
     by_one = all_by lease.worker is (local_of lease.thread progress.steps ++ steps_of lease.thread (row_at lent lease progress));
   }
 
-  -- what isn't built was given back
-  unbuilt_by : (row : Row) → row_at lent lease progress ≡ row → done.NotBuilt ≡ answer_of (next_seq lent) (pushed lease progress row) row → IsLeftBy lent new lease progress row → (row_at lent lease progress ≡ unbuilt) × (new ≡ given_back lent lease)
-  unbuilt_by (alone l) at answer left = absurd (cc)
-  unbuilt_by (starts u) at answer left = absurd (cc)
-  unbuilt_by (meets u l) at answer left = absurd (cc)
-  unbuilt_by (waits o) at answer left = absurd (cc)
-  unbuilt_by stays at answer left = absurd (cc)
-  unbuilt_by unbuilt at answer left = (at, left)
+  taken_later : lease.worker ≡ worker → TookBack → IsLater lent new
+  taken_later is took = record {
+    job = took.taken.job;
+    added = events_by lease.worker (local_of lease.thread progress.steps) ++ undo_by lease.worker lease.thread took.section ∷ [];
+    events = took.taken.events ∙ append_assoc lent.history.events (events_by lease.worker (local_of lease.thread progress.steps)) (undo_by lease.worker lease.thread took.section ∷ []);
+    by_one = both_by (events_by lease.worker (local_of lease.thread progress.steps)) (undo_by lease.worker lease.thread took.section ∷ []) (all_by lease.worker is (local_of lease.thread progress.steps)) (is, tt);
+  }
 
-  pub unbuilt_of : IsMade lent new lease progress (row_at lent lease progress) done.NotBuilt → (row_at lent lease progress ≡ unbuilt) × (new ≡ given_back lent lease)
-  unbuilt_of is = unbuilt_by (row_at lent lease progress) refl is.answer is.left
+  pub left_later : lease.worker ≡ worker → Moved ⊎ TookBack → IsLater lent new
+  left_later is (inl moved) = moved_later is moved
+  left_later is (inr took) = taken_later is took

@@ -31,7 +31,7 @@ use Rattle.commit_book.specs.Commits.{IsMoved, line_after, row_at}
 use Rattle.commit_book.specs.Counts.{in_state}
 use Rattle.commit_book.specs.Doing.{offer_at, waits_with}
 use Rattle.commit_book.specs.Leases.{LeaseView}
-use Rattle.commit_book.specs.Rows.{Row, alone, starts, meets, waits, stays, unbuilt, movers}
+use Rattle.commit_book.specs.Rows.{Row, alone, starts, meets, waits, stays, undoes, movers}
 use Rattle.commit_book.proofs.Choosing.{found_in}
 use Rattle.commit_book.proofs.EffectsHeld.{known_at}
 use Rattle.commit_book.proofs.EffectsLocal.{act_there}
@@ -53,7 +53,7 @@ comes_last queue kept tail u comes keeps =
     or_true false = refl
 
 -- who is in another state has no lease
-in_other : (threads : FinMap nat_cmp (Slot ControlView)) (u : ℕ) (st : State) → ((s : State) → same_state st s ≡ true → same_state Leased s ≡ false) → is_in st threads u ≡ true → is_in Leased threads u ≡ false
+pub in_other : (threads : FinMap nat_cmp (Slot ControlView)) (u : ℕ) (st : State) → ((s : State) → same_state st s ≡ true → same_state Leased s ≡ false) → is_in st threads u ≡ true → is_in Leased threads u ≡ false
 in_other threads u st other is =
     let f = found_in threads u st is in
     ap (λ o. option_map_or (λ (slot : Slot ControlView). same_state Leased slot.state) o false) f.found ∙ other f.slot.state f.is
@@ -80,7 +80,7 @@ joined_here t xs = list_any-append (nat_eq t) xs (t ∷ []) ∙ ap (λ b. list_a
     or_true false = refl
 
 module _ (lent new : BookView) (lease : LeaseView) (control : ControlView) (progress : ProgressView) (shown : IsShown lent) (shown_new : IsShown new) (is : IsLentAlone lent lease control) (advanced : IsAdvanced lent.job control progress)
-    (row : Row) (at : row ≡ row_at lent lease progress) (built : row ≡ unbuilt → ⊥) (moved : IsMoved lent (record new { answered = lent.answered }) lease.worker lease.thread progress.steps row) where
+    (row : Row) (at : row ≡ row_at lent lease progress) (undoes_nothing : (m : ℕ) → row ≡ undoes m → ⊥) (moved : IsMoved lent (record new { answered = lent.answered }) lease.worker lease.thread progress.steps row) where
   abbrev t : ℕ
   t = lease.thread
 
@@ -202,7 +202,7 @@ module _ (lent new : BookView) (lease : LeaseView) (control : ControlView) (prog
           or_true false = refl
   itself_free (waits o) is_row = waits_free o is_row (there_by o (look_in p e) refl (says.waits o (sym at ∙ is_row)))
   itself_free stays is_row = absurd (not_waiting (says.stays (sym at ∙ is_row)))
-  itself_free unbuilt is_row = absurd (built is_row)
+  itself_free (undoes m) is_row = absurd (undoes_nothing m is_row)
 
   pub each_free : (u : ℕ) → is_in Leased new.threads u ≡ false
   each_free u = by (is_listed u (t ∷ movers t row)) refl

@@ -1,5 +1,5 @@
 -- What a turn leaves of a book in which nobody has a lease.
-use Rattle.std.proofs.Common.{◌≡◌, ℕ, Bool, true, false, cond, not, ◌||◌, nat_eq, List, ◌++◌, filter, Option, Some, None, refl, sym, ap, subst, ◌∙◌}
+use Rattle.std.proofs.Common.{◌≡◌, ◌⊎◌, inl, inr, ℕ, Bool, true, false, cond, not, ◌&&◌, ◌||◌, nat_eq, List, [], ◌∷◌, ◌++◌, filter, append_assoc, Option, Some, None, refl, sym, ap, subst, ◌∙◌}
 use Rattle.std.specs.Prelude.{IfSome, option_and_then, option_map, slice_get}
 use Rattle.std.specs.List.{IsDistinct}
 use Rattle.std.specs.Option.{option_map_or}
@@ -8,27 +8,35 @@ use Rattle.std.proofs.lemmas.Bool.{false≢true}
 use Rattle.linked_lists.specs.Lists.{is_listed, without}
 use Rattle.stab_code.specs.Program.{ProgramParts}
 use Rattle.stab_journal.specs.declared.event.Event.{Event}
+use Rattle.stab_journal.specs.declared.event.Numbered.{Numbered}
+use Rattle.stab_journal.specs.Names.{has}
+use Rattle.stab_journal.specs.Reached.{reached}
 use Rattle.thread_slots.specs.declared.state.State.TheVariants.{Ready, Leased, Parked, Ended}
 use Rattle.thread_slots.specs.Slot.{Slot, same_state, is_in}
+use Rattle.thread_slots.specs.Ready.{numbers}
 use Rattle.rendezvous.specs.declared.offer.Offer.{Offer}
 use Rattle.rendezvous.specs.Line.{Line, LineBacked, offered as passes}
 use Rattle.rendezvous.specs.Offer.{receives_on, sends_on}
+use Rattle.restore.specs.Left.{others, without_all}
 use Rattle.plain_language.specs.Expression.{Expr}
 use Rattle.plain_language.specs.Plain.{language_of}
 use Rattle.plain_language.specs.Table.{pure_steps}
+use Rattle.journal_laws.specs.Lost.{is_unmade}
 use Rattle.step_eval.specs.ControlView.{ControlView, expr_of}
 use Rattle.step_eval.specs.Progress.{ProgressView}
 use Rattle.commit_book.specs.Book.{BookView, offered}
-use Rattle.commit_book.specs.Commits.{IsMoved, events_by, line_after, row_at}
+use Rattle.commit_book.specs.Commits.{IsMoved, line_after, row_at}
 use Rattle.commit_book.specs.Doing.{waits_with}
-use Rattle.commit_book.specs.Rows.{Row, local_of, movers, steps_of}
+use Rattle.commit_book.specs.Rows.{Row, events_by, local_of, movers, steps_of}
 use Rattle.commit_book.specs.Turns.{IsLent, leased}
+use Rattle.commit_book.specs.Undoing.{begun, is_reached_by, undo_by}
 use Rattle.commit_book.proofs.Choosing.{chosen_front, found_in}
 use Rattle.commit_book.proofs.Lending.{get-changed}
 use Rattle.commit_book.proofs.Partners.{IsThere, parked_not_ended, parked_not_ready, there_of}
 use Rattle.lone_worker.specs.Desk.{IsUnlent, seat_of}
+use Rattle.lone_worker.specs.Solo.{BeginsWith}
 use Rattle.lone_worker.specs.Turn.{IsTurnOf, IsWorked, worker}
-use Rattle.lone_worker.proofs.Ending.{made_of, moved_of}
+use Rattle.lone_worker.proofs.Ending.{Moved, TookBack, left_of}
 use Rattle.lone_worker.proofs.Freed.{comes_last}
 use Rattle.lone_worker.proofs.OneAtMost.{HasOnly}
 use Rattle.lone_worker.proofs.PureSteps.{MakesAll}
@@ -67,10 +75,9 @@ module _ (a x : BookView) (unlent : IsUnlent a) (after : IsUnlent x) (turn : IsT
   abbrev pub row : Row
   row = row_at (leased a t) turn.lease progress
 
-  moved : IsMoved (leased a t) (record x { answered = a.answered }) turn.lease.worker t progress.steps row
-  moved =
-      let m = moved_of (leased a t) x turn.lease progress works.done works.made (made_of (leased a t) x turn.lease progress works.done works.made works.commits) in
-      m.moved
+  -- what it leaves, by its row
+  pub leaves : Moved (leased a t) x turn.lease progress ⊎ TookBack (leased a t) x turn.lease progress
+  leaves = left_of (leased a t) x turn.lease progress works.done works.made works.commits
 
   -- it is the thread that is ready longest, which makes as many pure steps as it may
   pub front : slice_get a.queue 0 ≡ Some t
@@ -86,81 +93,116 @@ module _ (a x : BookView) (unlent : IsUnlent a) (after : IsUnlent x) (turn : IsT
     stops = works.advances.stops;
   }
 
-  -- what is left
-  pub job_left : x.job ≡ a.job
-  job_left = moved.job
+  -- ---- where it took a section back
 
-  abbrev pub added : List Event
-  added = events_by worker (local_of t progress.steps ++ steps_of t row)
+  module _ (took : TookBack (leased a t) x turn.lease progress) where
+    abbrev pub section : ℕ
+    section = took.section
 
-  pub events_left : x.history.events ≡ a.history.events ++ added
-  events_left = ap (λ j. j.events) moved.history ∙ ap (λ w. a.history.events ++ events_by w (local_of t progress.steps ++ steps_of t row)) here.is.worker
+    -- the run once the pure steps were made
+    abbrev pub run : List Numbered
+    run = begun (leased a t) t progress.steps
 
-  pub queue_left : x.queue ≡ without t (without t a.queue) ++ filter (λ u. not (is_in Ended x.threads u)) (movers t row)
-  queue_left = moved.queue
+    pub job_after : x.job ≡ a.job
+    job_after = took.taken.job
 
-  pub line_left : (c : ℕ) (line : Line) → map.get a.offers.lines c ≡ Some line → map.get x.offers.lines c ≡ Some (line_after t row c line)
-  line_left c line found = subst (λ (o : Option Line). IfSome o (λ line. map.get x.offers.lines c ≡ Some (line_after t row c line))) found (moved.lines c)
+    pub events_after : x.history.events ≡ a.history.events ++ events_by worker (local_of t progress.steps) ++ undo_by worker t section ∷ []
+    events_after = took.taken.events ∙ ap (λ w. a.history.events ++ events_by w (local_of t progress.steps) ++ undo_by w t section ∷ []) here.is.worker
 
-  -- ---- who waits on a channel that wasn't there
+    pub queue_after : x.queue ≡ others (is_reached_by run section) (without t a.queue) ++ numbers (λ u. is_reached_by run section u && map.contains_key x.threads u) x.next.thread
+    queue_after = took.taken.queue
 
-  -- who moves doesn't wait
-  not_parked : (u : ℕ) → is_listed u (movers t row) ≡ true → is_in Parked x.threads u ≡ true → ⊥
-  not_parked u mover parked =
-      let f = found_in x.threads u Parked parked in
-      let alive : is_in Ended x.threads u ≡ false = ap (λ o. option_map_or (λ (slot : Slot ControlView). same_state Ended slot.state) o false) f.found ∙ parked_not_ended f.slot.state f.is in
-      let ready : is_in Ready x.threads u ≡ true =
-      sym (after.shown.shows.threads.queue.ready u) ∙ ap (is_listed u) queue_left
-      ∙ comes_last (without t (without t a.queue)) (λ k. not (is_in Ended x.threads k)) (movers t row) u mover (ap not alive)
-      in
-      let unready : is_in Ready x.threads u ≡ false = ap (λ o. option_map_or (λ (slot : Slot ControlView). same_state Ready slot.state) o false) f.found ∙ parked_not_ready f.slot.state f.is in
-      false≢true (sym unready ∙ ready)
+    pub lines_after : (c : ℕ) → map.get x.offers.lines c ≡ cond (is_unmade (has (reached run section)) c run) None (option_map (without_all (is_reached_by run section)) (map.get a.offers.lines c))
+    lines_after = took.taken.lines
 
-  no_offer : (u : ℕ) → is_listed u (movers t row) ≡ true → map.get x.offers.offers u ≡ None
-  no_offer u mover = after.shown.shows.threads.offers.each u ∙ unparked (offered x.job.program) (map.get x.threads u) (not_parked u mover)
+  -- ---- where its row moved threads
 
-  -- who doesn't move offers what it did
-  same_offer : (u : ℕ) → nat_eq u t ≡ false → is_listed u (movers t row) ≡ false → map.get x.offers.offers u ≡ map.get a.offers.offers u
-  same_offer u apart unlisted =
-      let waiting = λ (q : ProgramParts) (o : Option (Slot ControlView)). option_and_then (waits_with (offered q)) o in
-      after.shown.shows.threads.offers.each u
-      ∙ ap (waiting x.job.program)
-      (moved.others u (ap (λ b. b || is_listed u (movers t row)) apart ∙ unlisted)
-      ∙ get-changed a.threads t u (λ (slot : Slot ControlView). record slot { state = Leased })
-      ∙ ap (λ b. cond b (option_map (λ (slot : Slot ControlView). record slot { state = Leased }) (map.get a.threads t)) (map.get a.threads u)) apart)
-      ∙ ap (λ j. waiting j.program (map.get a.threads u)) job_left
-      ∙ sym (unlent.shown.shows.threads.offers.each u)
+  module _ (moved : IsMoved (leased a t) (record x { answered = a.answered }) turn.lease.worker t progress.steps row) where
+    pub job_left : x.job ≡ a.job
+    job_left = moved.job
 
-  -- so another thread than t offers nothing on such a channel
-  pub record OffersNothing (c u : ℕ) : Type 0 where
-    pub sends : passes (sends_on c) (map.get x.offers.offers u) ≡ false
-    pub receives : passes (receives_on c) (map.get x.offers.offers u) ≡ false
+    abbrev pub added : List Event
+    added = events_by worker (local_of t progress.steps ++ steps_of t row)
 
-  unoffered : (c u : ℕ) → map.get a.offers.lines c ≡ None → nat_eq u t ≡ false → OffersNothing c u
-  unoffered c u none apart = by (is_listed u (movers t row)) refl
+    pub events_left : x.history.events ≡ a.history.events ++ added
+    events_left = ap (λ j. j.events) moved.history ∙ ap (λ w. a.history.events ++ events_by w (local_of t progress.steps ++ steps_of t row)) here.is.worker
+
+    pub queue_left : x.queue ≡ without t (without t a.queue) ++ filter (λ u. not (is_in Ended x.threads u)) (movers t row)
+    queue_left = moved.queue
+
+    pub line_left : (c : ℕ) (line : Line) → map.get a.offers.lines c ≡ Some line → map.get x.offers.lines c ≡ Some (line_after t row c line)
+    line_left c line found = subst (λ (o : Option Line). IfSome o (λ line. map.get x.offers.lines c ≡ Some (line_after t row c line))) found (moved.lines c)
+
+    -- ---- who waits on a channel that wasn't there
+
+    -- who moves doesn't wait
+    not_parked : (u : ℕ) → is_listed u (movers t row) ≡ true → is_in Parked x.threads u ≡ true → ⊥
+    not_parked u mover parked =
+        let f = found_in x.threads u Parked parked in
+        let alive : is_in Ended x.threads u ≡ false = ap (λ o. option_map_or (λ (slot : Slot ControlView). same_state Ended slot.state) o false) f.found ∙ parked_not_ended f.slot.state f.is in
+        let ready : is_in Ready x.threads u ≡ true =
+        sym (after.shown.shows.threads.queue.ready u) ∙ ap (is_listed u) queue_left
+        ∙ comes_last (without t (without t a.queue)) (λ k. not (is_in Ended x.threads k)) (movers t row) u mover (ap not alive)
+        in
+        let unready : is_in Ready x.threads u ≡ false = ap (λ o. option_map_or (λ (slot : Slot ControlView). same_state Ready slot.state) o false) f.found ∙ parked_not_ready f.slot.state f.is in
+        false≢true (sym unready ∙ ready)
+
+    no_offer : (u : ℕ) → is_listed u (movers t row) ≡ true → map.get x.offers.offers u ≡ None
+    no_offer u mover = after.shown.shows.threads.offers.each u ∙ unparked (offered x.job.program) (map.get x.threads u) (not_parked u mover)
+
+    -- who doesn't move offers what it did
+    same_offer : (u : ℕ) → nat_eq u t ≡ false → is_listed u (movers t row) ≡ false → map.get x.offers.offers u ≡ map.get a.offers.offers u
+    same_offer u apart unlisted =
+        let waiting = λ (q : ProgramParts) (o : Option (Slot ControlView)). option_and_then (waits_with (offered q)) o in
+        after.shown.shows.threads.offers.each u
+        ∙ ap (waiting x.job.program)
+        (moved.others u (ap (λ b. b || is_listed u (movers t row)) apart ∙ unlisted)
+        ∙ get-changed a.threads t u (λ (slot : Slot ControlView). record slot { state = Leased })
+        ∙ ap (λ b. cond b (option_map (λ (slot : Slot ControlView). record slot { state = Leased }) (map.get a.threads t)) (map.get a.threads u)) apart)
+        ∙ ap (λ j. waiting j.program (map.get a.threads u)) job_left
+        ∙ sym (unlent.shown.shows.threads.offers.each u)
+
+    -- so another thread than t offers nothing on such a channel
+    pub record OffersNothing (c u : ℕ) : Type 0 where
+      pub sends : passes (sends_on c) (map.get x.offers.offers u) ≡ false
+      pub receives : passes (receives_on c) (map.get x.offers.offers u) ≡ false
+
+    unoffered : (c u : ℕ) → map.get a.offers.lines c ≡ None → nat_eq u t ≡ false → OffersNothing c u
+    unoffered c u none apart = by (is_listed u (movers t row)) refl
+      where
+        by : (b : Bool) → is_listed u (movers t row) ≡ b → OffersNothing c u
+        by true mover = record { sends = ap (passes (sends_on c)) (no_offer u mover); receives = ap (passes (receives_on c)) (no_offer u mover) }
+        by false unlisted =
+            let backed : LineBacked c u (map.get a.offers.offers u) None = subst (LineBacked c u (map.get a.offers.offers u)) none (unlent.shown.shows.threads.offers.lines.backed c u) in
+            record { sends = ap (passes (sends_on c)) (same_offer u apart unlisted) ∙ backed.0; receives = ap (passes (receives_on c)) (same_offer u apart unlisted) ∙ backed.1 }
+
+    -- the line of such a channel has t alone, if anybody
+    pub record IsNewLine (c : ℕ) (l : Line) : Type 0 where
+      pub sends : HasOnly t l.sends
+      pub receives : HasOnly t l.receives
+      pub sender : is_listed t l.sends ≡ passes (sends_on c) (map.get x.offers.offers t)
+      pub receiver : is_listed t l.receives ≡ passes (receives_on c) (map.get x.offers.offers t)
+
+    pub new_line : (c : ℕ) (l : Line) → map.get a.offers.lines c ≡ None → map.get x.offers.lines c ≡ Some l → IsNewLine c l
+    new_line c l none found =
+        let once : IsDistinct nat_eq l.sends × IsDistinct nat_eq l.receives = subst (λ (o : Option Line). IfSome o (λ (k : Line). IsDistinct nat_eq k.sends × IsDistinct nat_eq k.receives)) found (after.shown.shows.threads.offers.lines.once c) in
+        record {
+          sends = record { once = once.0; others = λ u apart. (backed u).0 ∙ (unoffered c u none apart).sends };
+          receives = record { once = once.1; others = λ u apart. (backed u).1 ∙ (unoffered c u none apart).receives };
+          sender = (backed t).0;
+          receiver = (backed t).1;
+        }
+      where
+        backed : (u : ℕ) → LineBacked c u (map.get x.offers.offers u) (Some l)
+        backed u = subst (LineBacked c u (map.get x.offers.offers u)) found (after.shown.shows.threads.offers.lines.backed c u)
+
+  -- in each case what happened before stays as it was
+  pub begins : BeginsWith x.history.events a.history.events
+  begins = by leaves
     where
-      by : (b : Bool) → is_listed u (movers t row) ≡ b → OffersNothing c u
-      by true mover = record { sends = ap (passes (sends_on c)) (no_offer u mover); receives = ap (passes (receives_on c)) (no_offer u mover) }
-      by false unlisted =
-          let backed : LineBacked c u (map.get a.offers.offers u) None = subst (LineBacked c u (map.get a.offers.offers u)) none (unlent.shown.shows.threads.offers.lines.backed c u) in
-          record { sends = ap (passes (sends_on c)) (same_offer u apart unlisted) ∙ backed.0; receives = ap (passes (receives_on c)) (same_offer u apart unlisted) ∙ backed.1 }
-
-  -- the line of such a channel has t alone, if anybody
-  pub record IsNewLine (c : ℕ) (l : Line) : Type 0 where
-    pub sends : HasOnly t l.sends
-    pub receives : HasOnly t l.receives
-    pub sender : is_listed t l.sends ≡ passes (sends_on c) (map.get x.offers.offers t)
-    pub receiver : is_listed t l.receives ≡ passes (receives_on c) (map.get x.offers.offers t)
-
-  pub new_line : (c : ℕ) (l : Line) → map.get a.offers.lines c ≡ None → map.get x.offers.lines c ≡ Some l → IsNewLine c l
-  new_line c l none found =
-      let once : IsDistinct nat_eq l.sends × IsDistinct nat_eq l.receives = subst (λ (o : Option Line). IfSome o (λ (k : Line). IsDistinct nat_eq k.sends × IsDistinct nat_eq k.receives)) found (after.shown.shows.threads.offers.lines.once c) in
-      record {
-        sends = record { once = once.0; others = λ u apart. (backed u).0 ∙ (unoffered c u none apart).sends };
-        receives = record { once = once.1; others = λ u apart. (backed u).1 ∙ (unoffered c u none apart).receives };
-        sender = (backed t).0;
-        receiver = (backed t).1;
+      by : Moved (leased a t) x turn.lease progress ⊎ TookBack (leased a t) x turn.lease progress → BeginsWith x.history.events a.history.events
+      by (inl m) = record { rest = added m.moved; is = events_left m.moved }
+      by (inr took) = record {
+        rest = events_by worker (local_of t progress.steps) ++ undo_by worker t (section took) ∷ [];
+        is = events_after took ∙ append_assoc a.history.events (events_by worker (local_of t progress.steps)) (undo_by worker t (section took) ∷ []);
       }
-    where
-      backed : (u : ℕ) → LineBacked c u (map.get x.offers.offers u) (Some l)
-      backed u = subst (LineBacked c u (map.get x.offers.offers u)) found (after.shown.shows.threads.offers.lines.backed c u)

@@ -1,7 +1,10 @@
 pub mod Lent
 pub mod Moving
+pub mod OwnSection
 pub mod Freed
+pub mod FreedUndone
 pub mod Nearing
+pub mod NearingUndone
 pub mod Ending
 pub mod Turning
 pub mod PureSteps
@@ -10,4 +13,5 @@ pub mod OneDesk
 pub mod LeftByTurn
 pub mod OneTurn
 pub mod OneStart
+pub mod Released
 pub mod OneRun

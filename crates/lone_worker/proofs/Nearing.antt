@@ -23,7 +23,7 @@ use Rattle.commit_book.specs.Book.{BookView}
 use Rattle.commit_book.specs.Commits.{IsMoved, row_at}
 use Rattle.commit_book.specs.Doing.{is_over}
 use Rattle.commit_book.specs.Leases.{LeaseView}
-use Rattle.commit_book.specs.Rows.{Row, alone, starts, meets, waits, stays, unbuilt, local_of, movers, steps_of, thread, events_by}
+use Rattle.commit_book.specs.Rows.{Row, alone, starts, meets, waits, stays, undoes, local_of, movers, steps_of, thread, events_by}
 use Rattle.book_text.proofs.Showing.{goes_on}
 use Rattle.book_text.proofs.Going.{whole}
 use Rattle.lone_worker.specs.Turn.{IsAdvanced, IsLentAlone, left_to_do}
@@ -39,13 +39,13 @@ shorter {X} p (x ∷ xs) = by (p x) (shorter p xs)
     by false few = omega (arith, few)
 
 -- what these steps weigh
-abbrev weight_by : ℕ → List Label → ℕ
+abbrev pub weight_by : ℕ → List Label → ℕ
 weight_by w labels = weight_of (events_by w labels)
 
 weighs_both : (w : ℕ) (xs ys : List Label) → weight_by w (xs ++ ys) ≡ weight_by w xs + weight_by w ys
 weighs_both w xs ys = ap weight_of (map-append _ xs ys) ∙ sum_by-append (λ (e : Event). weigh e.what) (events_by w xs) (events_by w ys)
 
-local_weighs : (w t n : ℕ) → weight_by w (local_of t n) ≡ n
+pub local_weighs : (w t n : ℕ) → weight_by w (local_of t n) ≡ n
 local_weighs w t n = by (nat_eq n 0) refl
   where
     by : (b : Bool) → nat_eq n 0 ≡ b → weight_by w (local_of t n) ≡ n
@@ -98,7 +98,7 @@ module _ (lent : BookView) (lease : LeaseView) (control : ControlView) (progress
     by_row (meets u l) one none weight queue = let w : weight_by lease.worker (l ∷ []) ≡ 1 = (let k : 0 + weigh (Step l) ≡ 1 = omega (arith, one) in k) in let job = ap (λ j. j.fuel) moved.job in let light = is.light in omega (arith, weight, queue, w, job, light)
     by_row (waits o) one none weight queue = let job = ap (λ j. j.fuel) moved.job in let light = is.light in omega (arith, weight, queue, job, light)
     by_row stays one none weight queue = let job = ap (λ j. j.fuel) moved.job in let light = is.light in omega (arith, weight, queue, job, light)
-    by_row unbuilt one none weight queue = let job = ap (λ j. j.fuel) moved.job in let light = is.light in omega (arith, weight, queue, job, light)
+    by_row (undoes m) one none weight queue = let job = ap (λ j. j.fuel) moved.job in let light = is.light in omega (arith, weight, queue, job, light)
 
     pub nearer : left_to_do new ≤ left_to_do lent
     nearer =

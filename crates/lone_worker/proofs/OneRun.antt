@@ -1,23 +1,30 @@
 -- From one desk a run has one journal.
-use Rattle.std.proofs.Common.{◌≡◌, ◌⊎◌, inl, inr, ℕ, List, [], ◌++◌, refl, sym, ap, subst, subst₂, ◌∙◌, append-nil, append_assoc}
+use Rattle.std.proofs.Common.{◌≡◌, ◌⊎◌, inl, inr, ℕ, List, [], ◌∷◌, ◌++◌, refl, sym, ap, subst, subst₂, ◌∙◌, append-nil, append_assoc}
 use Rattle.std.specs.Prelude.{nat_eq, nat_le, nat_lt, ◌&&◌, if◌then◌else◌}
 use Rattle.stab_code.specs.JobParts.{JobParts}
 use Rattle.stab_journal.specs.declared.event.Event.{Event}
+use Rattle.stab_journal.specs.declared.event.What.TheVariants.{Release}
 use Rattle.stab_journal.specs.Due.{due}
 use Rattle.stab_journal.specs.Event.{weight_of}
 use Rattle.thread_slots.specs.declared.state.State.TheVariants.{Leased}
+use Rattle.plain_language.specs.Standing.{event}
+use Rattle.commit_book.specs.declared.turn.Turn.TheVariants as turn
 use Rattle.commit_book.specs.Book.{BookView}
 use Rattle.commit_book.specs.Counts.{in_state}
-use Rattle.commit_book.specs.Turns.{choice_of, first_ready, is_empty}
+use Rattle.commit_book.specs.Releases.{IsReleased, finals}
+use Rattle.commit_book.specs.Turns.{IsTurn, choice_of, first_ready, is_empty}
 use Rattle.lone_worker.specs.declared.worker.RunEnd.{RunEnd}
-use Rattle.lone_worker.specs.declared.worker.RunEnd.TheVariants.{Quiet, Spent, NoMemory, NotBuilt}
+use Rattle.lone_worker.specs.declared.worker.RunEnd.TheVariants.{Quiet, Spent, Due, NoMemory}
 use Rattle.lone_worker.specs.Desk.{Desk, IsUnlent, desk_of}
 use Rattle.lone_worker.specs.Running.{AreTurns, none, one_more, IsEndOf, IsRun}
+use Rattle.lone_worker.specs.Rounds.{AreRounds, IsPlayed}
+use Rattle.lone_worker.specs.Rounds as rounds
 use Rattle.lone_worker.specs.Solo.{AreOfOne, BeginsWith, IsSolo, IsWhole, IsWholeSolo}
-use Rattle.lone_worker.specs.Turn.{IsTurnOf}
-use Rattle.lone_worker.proofs.LeftByTurn.{added, events_left}
+use Rattle.lone_worker.specs.Turn.{IsTurnOf, worker}
+use Rattle.lone_worker.proofs.LeftByTurn.{begins}
 use Rattle.lone_worker.proofs.OneStart.{one_start, start_unlent}
 use Rattle.lone_worker.proofs.OneTurn.{one_turn}
+use Rattle.lone_worker.proofs.Released.{one_release, released_events}
 
 -- ---- which turn comes next
 
@@ -37,115 +44,163 @@ one_choice a b unlent_a unlent_b same =
     one_chosen _ _ _ first_ready a.history.events b.history.events a.queue b.queue (in_state Leased a) (in_state Leased b) a.job.fuel b.job.fuel
     (ap (λ (d : Desk). d.events) same) (ap (λ (d : Desk). d.queue) same) (unlent_a.free ∙ sym unlent_b.free) (ap (λ (d : Desk). d.job.fuel) same)
 
--- no turn comes where a run came to its end
-no_turn : (e : RunEnd) (last new at x : BookView) → IsWhole e → IsEndOf e last new → choice_of last ≡ choice_of at → IsTurnOf at x → ⊥
-no_turn Quiet last new at x whole ends same turn = let is = ends.0 in let works = turn.leases.0 in absurd (cc)
-no_turn Spent last new at x whole ends same turn = let is = ends.0 in let works = turn.leases.0 in absurd (cc)
-no_turn NoMemory last new at x whole ends same turn = absurd whole
-no_turn NotBuilt last new at x whole ends same turn = absurd whole
+-- ---- moves
+
+-- a release, where it comes next
+record IsRelease (a x : BookView) : Type 0 where
+  due : IsTurn a a worker turn.Release
+  released : IsReleased a x worker
+
+-- a turn or a release
+abbrev IsMove : BookView → BookView → Type 0
+IsMove a x = IsTurnOf a x ⊎ IsRelease a x
+
+-- from one desk they leave one desk
+one_move : (a b x y : BookView) → IsUnlent a → IsUnlent b → IsUnlent x → IsUnlent y → IsMove a x → IsMove b y → desk_of a ≡ desk_of b → desk_of x ≡ desk_of y
+one_move a b x y unlent_a unlent_b unlent_x unlent_y (inl here) (inl there) same = one_turn a b x y unlent_a unlent_b unlent_x unlent_y here there same
+one_move a b x y unlent_a unlent_b unlent_x unlent_y (inl here) (inr there) same =
+    let choice = one_choice a b unlent_a unlent_b same in let works = here.leases.0 in let due = there.due.0 in absurd (cc)
+one_move a b x y unlent_a unlent_b unlent_x unlent_y (inr here) (inl there) same =
+    let choice = one_choice a b unlent_a unlent_b same in let due = here.due.0 in let works = there.leases.0 in absurd (cc)
+one_move a b x y unlent_a unlent_b unlent_x unlent_y (inr here) (inr there) same = one_release a b x y same here.released there.released
+
+move_begins : (a x : BookView) → IsUnlent a → IsUnlent x → IsMove a x → BeginsWith x.history.events a.history.events
+move_begins a x unlent after (inl here) = begins a x unlent after here
+move_begins a x unlent after (inr here) = record { rest = event worker (Release (finals a)) ∷ []; is = released_events a x here.released }
+
+-- none comes where a run came to its end
+no_move : (e : RunEnd) (last new at x : BookView) → IsWhole e → IsEndOf e last new → choice_of last ≡ choice_of at → IsMove at x → ⊥
+no_move Quiet last new at x whole ends same (inl here) = let is = ends.0 in let works = here.leases.0 in absurd (cc)
+no_move Quiet last new at x whole ends same (inr here) = let is = ends.0 in let due = here.due.0 in absurd (cc)
+no_move Spent last new at x whole ends same (inl here) = let is = ends.0 in let works = here.leases.0 in absurd (cc)
+no_move Spent last new at x whole ends same (inr here) = let is = ends.0 in let due = here.due.0 in absurd (cc)
+no_move Due last new at x whole ends same move = absurd whole
+no_move NoMemory last new at x whole ends same move = absurd whole
 
 one_end : (e f : RunEnd) (last new other left : BookView) → choice_of last ≡ choice_of other → IsWhole e → IsWhole f → IsEndOf e last new → IsEndOf f other left → e ≡ f
 one_end Quiet Quiet last new other left same whole whole' ends ends' = refl
 one_end Spent Spent last new other left same whole whole' ends ends' = refl
 one_end Quiet Spent last new other left same whole whole' ends ends' = let is = ends.0 in let is' = ends'.0 in absurd (cc)
 one_end Spent Quiet last new other left same whole whole' ends ends' = let is = ends.0 in let is' = ends'.0 in absurd (cc)
+one_end Due f last new other left same whole whole' ends ends' = absurd whole
 one_end NoMemory f last new other left same whole whole' ends ends' = absurd whole
-one_end NotBuilt f last new other left same whole whole' ends ends' = absurd whole
+one_end e Due last new other left same whole whole' ends ends' = absurd whole'
 one_end e NoMemory last new other left same whole whole' ends ends' = absurd whole'
-one_end e NotBuilt last new other left same whole whole' ends ends' = absurd whole'
 
 -- an end adds no event, and a whole run's end changes nothing
 end_events : (e : RunEnd) (last new : BookView) → IsEndOf e last new → new.history.events ≡ last.history.events
 end_events Quiet last new is = ap (λ (b : BookView). b.history.events) is.1
 end_events Spent last new is = ap (λ (b : BookView). b.history.events) is.1
+end_events Due last new is = ap (λ (b : BookView). b.history.events) is.1
 end_events NoMemory last new is = ap (λ j. j.events) is
-end_events NotBuilt last new is = ap (λ j. j.events) is
 
 end_whole : (e : RunEnd) (last new : BookView) → IsWhole e → IsEndOf e last new → new ≡ last
 end_whole Quiet last new whole is = is.1
 end_whole Spent last new whole is = is.1
+end_whole Due last new whole is = absurd whole
 end_whole NoMemory last new whole is = absurd whole
-end_whole NotBuilt last new whole is = absurd whole
 
--- ---- turns
+-- one after another
+data AreMoves : BookView → BookView → Type 0 where
+  still : {book : BookView} → AreMoves book book
+  moves : {old between new : BookView} → AreMoves old between → IsMove between new → IsUnlent new → AreMoves old new
 
-turned_unlent : (a x : BookView) → AreTurns a x → IsUnlent a → IsUnlent x
-turned_unlent a _ none unlent = unlent
-turned_unlent a _ (one_more turns turn after) unlent = after
+with_turns : (a b x : BookView) → AreMoves a b → AreTurns b x → AreMoves a x
+with_turns a b _ first none = first
+with_turns a b _ first (one_more {between = w} turns here after) = moves (with_turns a b w first turns) (inl here) after
 
--- the first of some turns, and the others
+of_rounds : (a x : BookView) → AreRounds a x → AreMoves a x
+of_rounds a _ rounds.none = still
+of_rounds a _ (rounds.one_more {between = b} {last = c} {new = x} before run unlent released after) =
+    let first : AreMoves a c = subst (AreMoves a) (sym run.ends.1) (with_turns a b run.last (of_rounds a b before) run.turns) in
+    let due : IsTurn c c worker turn.Release = (ap choice_of run.ends.1 ∙ run.ends.0, refl) in
+    moves first (inr (record { due = due; released = released })) after
+
+of_play : (e : RunEnd) (a x : BookView) (play : IsPlayed e a x) → AreMoves a play.run.last
+of_play e a x play = with_turns a play.last play.run.last (of_rounds a play.last play.rounds) play.run.turns
+
+moved_unlent : (a x : BookView) → AreMoves a x → IsUnlent a → IsUnlent x
+moved_unlent a _ still unlent = unlent
+moved_unlent a _ (moves first here after) unlent = after
+
+-- the first of some moves, and the others
 record HasFirst (a x : BookView) : Type 0 where
   next : BookView
-  turn : IsTurnOf a next
+  move : IsMove a next
   after : IsUnlent next
-  rest : AreTurns next x
+  rest : AreMoves next x
 
-first_of_turns : (a x : BookView) → AreTurns a x → (a ≡ x) ⊎ HasFirst a x
-first_of_turns a _ none = inl refl
-first_of_turns a _ (one_more {between = w} {new = x} turns turn after) = by (first_of_turns a w turns)
+first_of : (a x : BookView) → AreMoves a x → (a ≡ x) ⊎ HasFirst a x
+first_of a _ still = inl refl
+first_of a _ (moves {between = w} {new = x} before here after) = by (first_of a w before)
   where
     by : (a ≡ w) ⊎ HasFirst a w → (a ≡ x) ⊎ HasFirst a x
-    by (inl same) = inr (record { next = x; turn = subst (λ (b : BookView). IsTurnOf b x) (sym same) turn; after = after; rest = none })
-    by (inr first) = inr (record { next = first.next; turn = first.turn; after = first.after; rest = one_more first.rest turn after })
+    by (inl same) = inr (record { next = x; move = subst (λ (b : BookView). IsMove b x) (sym same) here; after = after; rest = still })
+    by (inr first) = inr (record { next = first.next; move = first.move; after = first.after; rest = moves first.rest here after })
 
-turns_begin : (a x : BookView) → AreTurns a x → IsUnlent a → BeginsWith x.history.events a.history.events
-turns_begin a _ none unlent = record { rest = []; is = sym (append-nil a.history.events) }
-turns_begin a _ (one_more {between = w} {new = x} turns turn after) unlent =
-    let before = turns_begin a w turns unlent in
-    let unlent_w = turned_unlent a w turns unlent in
-    let more = added w x unlent_w after turn in
-    record { rest = before.rest ++ more; is = events_left w x unlent_w after turn ∙ ap (λ es. es ++ more) before.is ∙ append_assoc a.history.events before.rest more }
+moves_begin : (a x : BookView) → AreMoves a x → IsUnlent a → BeginsWith x.history.events a.history.events
+moves_begin a _ still unlent = record { rest = []; is = sym (append-nil a.history.events) }
+moves_begin a _ (moves {between = w} {new = x} first here after) unlent =
+    let before = moves_begin a w first unlent in
+    let more = move_begins w x (moved_unlent a w first unlent) after here in
+    record { rest = before.rest ++ more.rest; is = more.is ∙ ap (λ es. es ++ more.rest) before.is ∙ append_assoc a.history.events before.rest more.rest }
 
--- turns that begin at the desk of x lead to y
+-- moves that begin at the desk of x lead to y
 record Onward (x y : BookView) : Type 0 where
   at : BookView
   same : desk_of x ≡ desk_of at
   unlent : IsUnlent at
-  turns : AreTurns at y
+  on : AreMoves at y
 
--- of the turns from two books with one desk, one list leads on from where the other ends
-along : (a x : BookView) → AreTurns a x → (b y : BookView) → IsUnlent a → IsUnlent b → desk_of a ≡ desk_of b → AreTurns b y → (Onward x y) ⊎ (Onward y x)
-along a _ none b y unlent_a unlent_b same others = inl (record { at = b; same = same; unlent = unlent_b; turns = others })
-along a _ (one_more {between = w} {new = x} turns turn after) b y unlent_a unlent_b same others = by (along a w turns b y unlent_a unlent_b same others)
+-- of the moves from two books with one desk, one list leads on from where the other ends
+along : (a x : BookView) → AreMoves a x → (b y : BookView) → IsUnlent a → IsUnlent b → desk_of a ≡ desk_of b → AreMoves b y → (Onward x y) ⊎ (Onward y x)
+along a _ still b y unlent_a unlent_b same others = inl (record { at = b; same = same; unlent = unlent_b; on = others })
+along a _ (moves {between = w} {new = x} first here after) b y unlent_a unlent_b same others = by (along a w first b y unlent_a unlent_b same others)
   where
     unlent_w : IsUnlent w
-    unlent_w = turned_unlent a w turns unlent_a
+    unlent_w = moved_unlent a w first unlent_a
 
     on : (o : Onward w y) → (o.at ≡ y) ⊎ HasFirst o.at y → (Onward x y) ⊎ (Onward y x)
-    on o (inl end) = inr (record { at = w; same = sym (o.same ∙ ap desk_of end); unlent = unlent_w; turns = one_more none turn after })
-    on o (inr first) = inl (record { at = first.next; same = one_turn w o.at x first.next unlent_w o.unlent after first.after turn first.turn o.same; unlent = first.after; turns = first.rest })
+    on o (inl end) = inr (record { at = w; same = sym (o.same ∙ ap desk_of end); unlent = unlent_w; on = moves still here after })
+    on o (inr next) = inl (record { at = next.next; same = one_move w o.at x next.next unlent_w o.unlent after next.after here next.move o.same; unlent = next.after; on = next.rest })
 
     by : (Onward w y) ⊎ (Onward y w) → (Onward x y) ⊎ (Onward y x)
-    by (inl o) = on o (first_of_turns o.at y o.turns)
-    by (inr o) = inr (record { at = o.at; same = o.same; unlent = o.unlent; turns = one_more o.turns turn after })
+    by (inl o) = on o (first_of o.at y o.on)
+    by (inr o) = inr (record { at = o.at; same = o.same; unlent = o.unlent; on = moves o.on here after })
 
 onward_begins : (x y : BookView) → Onward x y → BeginsWith y.history.events x.history.events
 onward_begins x y o =
-    let more = turns_begin o.at y o.turns o.unlent in
+    let more = moves_begin o.at y o.on o.unlent in
     record { rest = more.rest; is = more.is ∙ ap (λ (d : Desk). d.events ++ more.rest) (sym o.same) }
 
 -- nothing is left to do where a run came to its end
 onward_whole : (e : RunEnd) (x y new : BookView) → IsUnlent x → IsWhole e → IsEndOf e x new → Onward x y → desk_of x ≡ desk_of y
-onward_whole e x y new unlent whole ends o = by (first_of_turns o.at y o.turns)
+onward_whole e x y new unlent whole ends o = by (first_of o.at y o.on)
   where
     by : (o.at ≡ y) ⊎ HasFirst o.at y → desk_of x ≡ desk_of y
     by (inl end) = o.same ∙ ap desk_of end
-    by (inr first) = absurd (no_turn e x new o.at first.next whole ends (one_choice x o.at unlent o.unlent o.same) first.turn)
+    by (inr first) = absurd (no_move e x new o.at first.next whole ends (one_choice x o.at unlent o.unlent o.same) first.move)
 
 -- ---- runs
 
 begins_itself : (xs ys : List Event) → xs ≡ ys → BeginsWith xs ys
 begins_itself xs ys same = record { rest = []; is = same ∙ sym (append-nil ys) }
 
-module _ (a b x y : BookView) (e f : RunEnd) (unlent_a : IsUnlent a) (unlent_b : IsUnlent b) (same : desk_of a ≡ desk_of b) (run : IsRun e a x) (other : IsRun f b y) where
+module _ (a b x y : BookView) (e f : RunEnd) (unlent_a : IsUnlent a) (unlent_b : IsUnlent b) (same : desk_of a ≡ desk_of b) (played : IsPlayed e a x) (other_played : IsPlayed f b y) where
+  abbrev run : IsRun e played.last x
+  run = played.run
+
+  abbrev other : IsRun f other_played.last y
+  other = other_played.run
+
   unlent_last : IsUnlent run.last
-  unlent_last = turned_unlent a run.last run.turns unlent_a
+  unlent_last = moved_unlent a run.last (of_play e a x played) unlent_a
 
   unlent_other : IsUnlent other.last
-  unlent_other = turned_unlent b other.last other.turns unlent_b
+  unlent_other = moved_unlent b other.last (of_play f b y other_played) unlent_b
 
   meets : (Onward run.last other.last) ⊎ (Onward other.last run.last)
-  meets = along a run.last run.turns b other.last unlent_a unlent_b same other.turns
+  meets = along a run.last (of_play e a x played) b other.last unlent_a unlent_b same (of_play f b y other_played)
 
   events_x : x.history.events ≡ run.last.history.events
   events_x = end_events e run.last x run.ends
@@ -153,8 +208,8 @@ module _ (a b x y : BookView) (e f : RunEnd) (unlent_a : IsUnlent a) (unlent_b :
   events_y : y.history.events ≡ other.last.history.events
   events_y = end_events f other.last y other.ends
 
-  begins : BeginsWith other.last.history.events run.last.history.events → BeginsWith y.history.events x.history.events
-  begins more = record { rest = more.rest; is = events_y ∙ more.is ∙ ap (λ es. es ++ more.rest) (sym events_x) }
+  begins_on : BeginsWith other.last.history.events run.last.history.events → BeginsWith y.history.events x.history.events
+  begins_on more = record { rest = more.rest; is = events_y ∙ more.is ∙ ap (λ es. es ++ more.rest) (sym events_x) }
 
   begins_back : BeginsWith run.last.history.events other.last.history.events → BeginsWith x.history.events y.history.events
   begins_back more = record { rest = more.rest; is = events_x ∙ more.is ∙ ap (λ es. es ++ more.rest) (sym events_y) }
@@ -170,7 +225,7 @@ module _ (a b x y : BookView) (e f : RunEnd) (unlent_a : IsUnlent a) (unlent_b :
   has_all whole (inr o) = begins_back (onward_begins other.last run.last o)
 
   one_of : (Onward run.last other.last) ⊎ (Onward other.last run.last) → BeginsWith x.history.events y.history.events ⊎ BeginsWith y.history.events x.history.events
-  one_of (inl o) = inr (begins (onward_begins run.last other.last o))
+  one_of (inl o) = inr (begins_on (onward_begins run.last other.last o))
   one_of (inr o) = inl (begins_back (onward_begins other.last run.last o))
 
   pub one_desk_left : IsWhole e → IsWhole f → desk_of x ≡ desk_of y

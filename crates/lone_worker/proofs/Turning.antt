@@ -1,5 +1,5 @@
 -- A turn that was made, and one that ended, put together.
-use Rattle.std.proofs.Common.{◌≡◌, ℕ, ◌≤◌, true, Option, Some, None, refl, ◌∙◌}
+use Rattle.std.proofs.Common.{◌≡◌, ◌⊎◌, inl, inr, ℕ, ◌+◌, ◌<◌, ◌≤◌, ◌^◌, true, false, Option, Some, None, refl, ◌∙◌}
 use Rattle.std.specs.Prelude.{IfNone, IfSome}
 use Rattle.stab_code.specs.Valid.{IsValid}
 use Rattle.thread_slots.specs.declared.state.State.TheVariants.{Leased}
@@ -13,12 +13,14 @@ use Rattle.commit_book.specs.Counts.{in_state}
 use Rattle.commit_book.specs.Leases.{LeaseView}
 use Rattle.commit_book.specs.Turns.{given_back}
 use Rattle.lone_worker.specs.declared.worker.RunEnd.{RunEnd}
-use Rattle.lone_worker.specs.declared.worker.RunEnd.TheVariants.{Quiet, Spent, NoMemory, NotBuilt}
-use Rattle.lone_worker.specs.Running.{IsEndOf, IsLater, IsStopped, IsUnbuilt}
+use Rattle.lone_worker.specs.declared.worker.RunEnd.TheVariants.{Quiet, Spent, Due, NoMemory}
+use Rattle.lone_worker.specs.Running.{IsEndOf, IsLater, IsStopped}
 use Rattle.lone_worker.specs.Turn.{IsAdvanced, IsLentAlone, IsWorked, is_made, left_to_do}
-use Rattle.lone_worker.proofs.Ending.{current, given_free, given_history, given_job, given_unbuilt, made_of, moved_later, moved_of, not_over, same_later, unbuilt_of}
+use Rattle.lone_worker.proofs.Ending.{Moved, TookBack, current, given_free, given_history, given_job, is_undone, left_later, left_of, moved_of, not_over, same_later}
 use Rattle.lone_worker.proofs.Freed.{free}
+use Rattle.lone_worker.proofs.FreedUndone.{undone_free}
 use Rattle.lone_worker.proofs.Nearing.{nearer}
+use Rattle.lone_worker.proofs.NearingUndone.{undone_nearer}
 
 module _ (lent new : BookView) (lease : LeaseView) (progress : ProgressView) (is : IsLentAlone lent lease progress.origin) where
   -- a commit that was made
@@ -28,33 +30,36 @@ module _ (lent new : BookView) (lease : LeaseView) (progress : ProgressView) (is
     pub worked : IsWorked lent new lease progress.origin
     pub nearer : left_to_do new ≤ left_to_do lent
 
-  pub committed : (valid : IsValid lent.job.program) → 1 ≤ lent.job.quantum → IsShown lent → IsShown new → IsAdvanced lent.job progress.origin progress → (d : Done) → is_made d ≡ true → IsCommitted lent new lease progress d → IsGoodCommit
-  committed valid some shown shown_new advanced d made commits =
-      let m = moved_of lent new lease progress d made (made_of lent new lease progress d made commits) in
-      record {
-        later = moved_later lent new lease progress is.by_one m;
-        free = free lent new lease progress.origin progress shown shown_new is advanced _ refl m.built m.moved;
-        worked = record { progress = progress; done = d; advances = advanced; commits = commits; made = made };
-        nearer = nearer lent lease progress.origin progress valid some is advanced new m.moved;
-      }
+  module _ (shown : IsShown lent) (shown_new : IsShown new) (advanced : IsAdvanced lent.job progress.origin progress) (d : Done) (made : is_made d ≡ true) (commits : IsCommitted lent new lease progress d) where
+    worked : IsWorked lent new lease progress.origin
+    worked = record { progress = progress; done = d; advances = advanced; commits = commits; made = made }
 
-  -- a commit for which something isn't built
-  pub record IsUnbuiltCommit : Type 0 where
-    pub later : IsLater lent new
-    pub free : in_state Leased new ≡ 0
-    pub history : new.history ≡ lent.history
-    pub unbuilt : IsUnbuilt new
+    moved_commit : IsValid lent.job.program → 1 ≤ lent.job.quantum → Moved lent new lease progress → IsGoodCommit
+    moved_commit valid some m = record {
+      later = left_later lent new lease progress is.by_one (inl m);
+      free = free lent new lease progress.origin progress shown shown_new is advanced _ refl m.undoes_nothing m.moved;
+      worked = worked;
+      nearer = nearer lent lease progress.origin progress valid some is advanced new m.moved;
+    }
 
-  pub uncommitted : IsAdvanced lent.job progress.origin progress → IsCommitted lent new lease progress done.NotBuilt → IsUnbuiltCommit
-  uncommitted advanced commits =
-      let u = unbuilt_of lent new lease progress commits.2 in
-      let history = given_history lent lease progress.origin is new u.1 in
-      record {
-        later = same_later lent new (given_job lent lease progress.origin is new u.1) history;
-        free = given_free lent lease progress.origin is new u.1;
-        history = history;
-        unbuilt = given_unbuilt lent lease progress.origin is new progress advanced u.1 u.0;
-      }
+    undone_commit : (last : ℕ) → last + 1 ≡ new.next.thread → last < 2 ^ 32 → TookBack lent new lease progress → IsGoodCommit
+    undone_commit last next few back = record {
+      later = left_later lent new lease progress is.by_one (inr back);
+      free = undone_free lent new lease progress.origin progress.steps back.section shown shown_new is back.taken;
+      worked = worked;
+      nearer = undone_nearer lent new lease progress.origin progress.steps back.section shown_new is last next few back.taken;
+    }
+
+    -- a commit that took no section back, and one that did
+    pub committed : IsValid lent.job.program → 1 ≤ lent.job.quantum → is_undone d ≡ false → IsGoodCommit
+    committed valid some plain = moved_commit valid some (moved_of lent new lease progress d made plain commits)
+
+    pub committed_undo : IsValid lent.job.program → 1 ≤ lent.job.quantum → (last : ℕ) → last + 1 ≡ new.next.thread → last < 2 ^ 32 → IsGoodCommit
+    committed_undo valid some last next few = by (left_of lent new lease progress d made commits)
+      where
+        by : Moved lent new lease progress ⊎ TookBack lent new lease progress → IsGoodCommit
+        by (inl m) = moved_commit valid some m
+        by (inr back) = undone_commit last next few back
 
   -- no commit comes too late, and the book takes it
   pub never_stale : (g : _) (now : _) → IsCommitted lent new lease progress (done.Stale g now) → ⊥
@@ -86,6 +91,6 @@ by_some (Some x) P Q f h = f x h
 
 pub stopped : (end : RunEnd) (old lent new : BookView) → lent.history ≡ old.history → IsStopped end lent new → IsEndOf end old new
 stopped NoMemory old lent new same is = is ∙ same
-stopped NotBuilt old lent new same is = is ∙ same
 stopped Quiet old lent new same is = absurd is
 stopped Spent old lent new same is = absurd is
+stopped Due old lent new same is = absurd is

@@ -1,4 +1,4 @@
-use Rattle.std.proofs.Common.{◌≡◌, inl, ◌<◌, ◌≤◌, sym, subst, arith}
+use Rattle.std.proofs.Common.{◌≡◌, ◌<◌, ◌≤◌, sym, subst, arith}
 use Rattle.thread_slots.specs.declared.state.State.TheVariants.{Ready}
 use Rattle.commit_book.specs.declared.turn.Turn.TheVariants.{Work}
 use Rattle.commit_book.specs.Book.{BookView}
@@ -6,7 +6,7 @@ use Rattle.commit_book.specs.Counts.{in_state}
 use Rattle.commit_book.specs.Turns.{CanRest, IsTurn, RestsIfQuiet}
 use Rattle.commit_book.proofs.Chosen.{quiet_unready, release_due, spent_says}
 use Rattle.lone_worker.specs.declared.worker.RunEnd.TheVariants as ends
-use Rattle.lone_worker.specs.Running.{EndSays, IsEndOf, IsStopped, IsUnbuilt}
+use Rattle.lone_worker.specs.Running.{EndSays, IsEndOf, IsStopped}
 use Rattle.lone_worker.specs.Turn.{IsTurnOf, IsWorked, left_to_do, worker}
 use Rattle.lone_worker.proofs.Ending.{later_both, same_later}
 use Rattle.lone_worker.proofs.Lent.{lent_alone, lent_history, lent_job, lent_nearer}
@@ -62,4 +62,4 @@ returns-in-Ok-Spent-clause-says c =
 pub returns-in-Ok-Release-clause-says : goal.returns-in-Ok-Release-clause-says
 returns-in-Ok-Release-clause-says c =
     let turn = subst (IsTurn c.args.book.now c.lease.new.self worker) c.in-Ok-Release.field-0-is c.in-Ok-Release.ensures.turn in
-    subst IsUnbuilt (sym turn.1) (inl (release_due c.args.book.now turn.0))
+    subst (EndSays ends.Due) (sym turn.1) (release_due c.args.book.now turn.0)

@@ -1,0 +1,77 @@
+-- After an undo of what was lent nobody has a lease.
+use Rattle.std.proofs.Common.{◌≡◌, ℕ, zero, suc, ◌<◌, Bool, true, false, ◌&&◌, ◌||◌, nat_eq, [], ◌∷◌, Option, Some, None, refl, sym, ap, ◌∙◌, arith}
+use Rattle.std.specs.Prelude.{is_some, if◌then◌else◌}
+use Rattle.std.specs.Option.{option_map_or}
+use Rattle.std.specs.FinMap as map
+use Rattle.std.proofs.lemmas.Bool.{false≢true, eqb-true}
+use Rattle.std.proofs.lemmas.Bool.Decides.{nat_tests}
+use Rattle.std.proofs.lemmas.List.Folds.{list_any-append}
+use Rattle.linked_lists.specs.Lists.{is_listed}
+use Rattle.thread_slots.specs.declared.state.State.TheVariants.{Ready, Leased}
+use Rattle.thread_slots.specs.Ready.{numbers}
+use Rattle.thread_slots.specs.Slot.{Slot, same_state, is_in}
+use Rattle.restore.specs.Left.{others}
+use Rattle.step_eval.specs.ControlView.{ControlView}
+use Rattle.commit_book.specs.Book.{BookView, IsShown}
+use Rattle.commit_book.specs.Counts.{in_state}
+use Rattle.commit_book.specs.Leases.{LeaseView}
+use Rattle.commit_book.specs.Undoing.{IsTakenBack, begun, is_reached_by}
+use Rattle.commit_book.proofs.Holding.{low, none_counted, not_true, ready_not_leased}
+use Rattle.lone_worker.specs.Turn.{IsLentAlone}
+use Rattle.lone_worker.proofs.Freed.{in_other}
+use Rattle.lone_worker.proofs.OwnSection.{own_touched}
+
+or_true : (b : Bool) → (b || true) ≡ true
+or_true true = refl
+or_true false = refl
+
+below : (u n : ℕ) → u < suc n → nat_eq u n ≡ false → u < n
+below u n under other = grind (arith, nat_tests)
+
+-- who is below n and passes
+in_numbers : (p : ℕ → Bool) (n u : ℕ) → u < n → p u ≡ true → is_listed u (numbers p n) ≡ true
+in_numbers p zero u under passes = absurd (omega (arith, under))
+in_numbers p (suc n) u under passes = list_any-append (nat_eq u) (numbers p n) (if p n then n ∷ [] else []) ∙ by (nat_eq u n) refl (λ under. in_numbers p n u under passes)
+  where
+    by : (b : Bool) → nat_eq u n ≡ b → (u < n → is_listed u (numbers p n) ≡ true) → (is_listed u (numbers p n) || is_listed u (if p n then n ∷ [] else [])) ≡ true
+    by true same deeper =
+        let here : p n ≡ true = ap p (sym (eqb-true u n same)) ∙ passes in
+        ap (λ b. is_listed u (numbers p n) || is_listed u (if b then n ∷ [] else [])) here
+        ∙ ap (λ b. is_listed u (numbers p n) || (b || false)) same
+        ∙ or_true (is_listed u (numbers p n))
+    by false other deeper = ap (λ b. b || is_listed u (if p n then n ∷ [] else [])) (deeper (below u n under other))
+
+module _ (lent new : BookView) (lease : LeaseView) (control : ControlView) (n m : ℕ) (shown : IsShown lent) (shown_new : IsShown new) (is : IsLentAlone lent lease control)
+    (taken : IsTakenBack lent (record new { answered = lent.answered }) lease.worker lease.thread n m (begun lent lease.thread n)) where
+  abbrev touched : ℕ → Bool
+  touched = is_reached_by (begun lent lease.thread n) m
+
+  abbrev back : ℕ → Bool
+  back u = touched u && map.contains_key new.threads u
+
+  -- who is touched and still there is ready
+  back_free : (u : ℕ) → touched u ≡ true → (o : Option (Slot ControlView)) → map.get new.threads u ≡ o → is_in Leased new.threads u ≡ false
+  back_free u hit None at = ap (λ o. option_map_or (λ (slot : Slot ControlView). same_state Leased slot.state) o false) at
+  back_free u hit (Some slot) at =
+      let there : back u ≡ true = ap (λ b. b && map.contains_key new.threads u) hit ∙ ap is_some at in
+      let last : is_listed u (numbers back new.next.thread) ≡ true = in_numbers back new.next.thread u (low new shown_new u slot at) there in
+      let queued : is_listed u new.queue ≡ true =
+      ap (is_listed u) taken.queue ∙ list_any-append (nat_eq u) (others touched lent.queue) (numbers back new.next.thread)
+      ∙ ap (λ b. is_listed u (others touched lent.queue) || b) last ∙ or_true (is_listed u (others touched lent.queue))
+      in
+      in_other new.threads u Ready ready_not_leased (sym (shown_new.shows.threads.queue.ready u) ∙ queued)
+
+  -- and nobody else was lent
+  each_free : (u : ℕ) → is_in Leased new.threads u ≡ false
+  each_free u = by (touched u) refl
+    where
+      by : (b : Bool) → touched u ≡ b → is_in Leased new.threads u ≡ false
+      by true hit = back_free u hit (map.get new.threads u) refl
+      by false miss =
+          ap (λ o. option_map_or (λ (slot : Slot ControlView). same_state Leased slot.state) o false) (taken.untouched u miss)
+          ∙ is.alone u
+          ∙ not_true (nat_eq u lease.thread)
+          (λ same. false≢true (sym miss ∙ ap touched (eqb-true u lease.thread same) ∙ own_touched lent new lease.worker lease.thread n m shown shown_new taken))
+
+  pub undone_free : in_state Leased new ≡ 0
+  undone_free = none_counted (is_in Leased new.threads) new.next.thread each_free
