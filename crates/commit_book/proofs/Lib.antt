@@ -119,3 +119,4 @@ pub mod Committed
 pub mod Holding
 pub mod Chosen
 pub mod Crossing
+pub mod Firm

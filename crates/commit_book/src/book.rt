@@ -1,6 +1,6 @@
 //! The book itself.
-ghost use Rattle.std.specs.Prelude.{◌≡◌, ◌+◌, IfOk, OnErr};
-ghost use Rattle.stab_journal.specs.Due.{due};
+ghost use Rattle.std.specs.Prelude.{◌≡◌, ◌+◌, ◌≤◌, length, IfOk, OnErr};
+ghost use Rattle.stab_journal.specs.Due.{due, released};
 ghost use Rattle.stab_journal.specs.Event.{IsWorker};
 ghost use Rattle.commit_book.specs.Book.{IsShown, IsAtStart, fault_at};
 ghost use Rattle.commit_book.specs.Counts.{AreCounts};
@@ -111,6 +111,15 @@ impl Book {
             .tallies
             .finals
             .saturating_sub(self.parts.tallies.released)
+    }
+
+    /// How many printed values were released: so many of the first ones.
+    pub fn released(&self) -> u64
+        ensures released { result ≡ released self.now.history.events }
+        ensures printed { result ≤ length self.now.printed }
+        ensures shown { IsShown self.now }
+    {
+        self.parts.tallies.released
     }
 
     /// How many threads do what, and how many commits were answered how.
