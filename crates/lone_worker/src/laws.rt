@@ -32,8 +32,8 @@ pub fn one_run()
         → IsPlayed e a x → IsPlayed f b y → IsWhole e → IsWhole f → desk_of x ≡ desk_of y }
 {}
 
-/// A job has one journal by one worker, of which a run that wants memory makes the first events, and one that isn't gone on with
-/// where values are due: the books before the first events of two equal jobs have one desk.
+/// A job has one journal by one worker. A run that wants memory makes its first events, and so does one that isn't gone on with
+/// where values are due. The books before the first events of two equal jobs have one desk.
 pub fn one_journal()
     ensures start { (b : BookView) → IsAtStart b → IsUnlent b }
     ensures desk { (a b : BookView) → IsAtStart a → IsAtStart b → a.job ≡ b.job → desk_of a ≡ desk_of b }
