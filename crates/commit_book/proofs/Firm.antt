@@ -1,5 +1,5 @@
 -- What is final stays printed, and what was released is final.
-use Rattle.std.proofs.Common.{◌≡◌, ◌⊎◌, inl, inr, ℕ, zero, suc, ◌+◌, ◌<◌, ◌≤◌, Bool, true, false, cond, ◌&&◌, List, [], ◌∷◌, ◌++◌, length, take, Option, Some, None, refl, sym, ap, subst, ◌∙◌, length-append, append-nil, append_assoc, arith, ltb-true}
+use Rattle.std.proofs.Common.{◌≡◌, ℕ, suc, ◌+◌, ◌<◌, ◌≤◌, Bool, true, false, cond, ◌&&◌, List, [], ◌∷◌, ◌++◌, length, take, Some, None, refl, sym, ap, subst, ◌∙◌, length-append, append-nil, append_assoc, arith, ltb-true}
 use Rattle.std.specs.Prelude.{count_by, nat_lt}
 use Rattle.std.proofs.lemmas.List.{take-append-le}
 use Rattle.std.proofs.lemmas.List.Sums.{sum_by-append}
@@ -10,13 +10,12 @@ use Rattle.stab_journal.specs.declared.event.Event.{Event}
 use Rattle.stab_journal.specs.declared.event.Label.{Label}
 use Rattle.stab_journal.specs.declared.event.Numbered.{Numbered}
 use Rattle.stab_journal.specs.declared.event.What.TheVariants.{Step, Undo, Release}
-use Rattle.stab_journal.specs.Due.{final_prints, is_print, released, released_from}
+use Rattle.stab_journal.specs.Due.{final_prints, is_print, released}
 use Rattle.stab_journal.specs.Floor.{floor, floor_from, is_cut, is_revocable}
 use Rattle.stab_journal.specs.Journal.{RiseFrom, step_at}
 use Rattle.stab_journal.specs.Names.{has}
 use Rattle.stab_journal.specs.Reached.{reached, rest, without_reached}
 use Rattle.stab_journal.specs.Surviving.{run_of}
-use Rattle.plain_language.specs.Expression.{Expr}
 use Rattle.plain_language.specs.Plain.{PlainState, effect_of, end_of, plain_step, start}
 use Rattle.plain_language.specs.Standing.{StandsFor, nothing, step, undo, release, event}
 use Rattle.plain_language.specs.Steps.{after_steps, plain}
@@ -163,13 +162,13 @@ module _ (p : ProgramParts) where
             let y = grows (rest gone ns) s b left in
             take_same n s.output b.output y.more low y.is ∙ sym (take_same n s.output a.output x.more low x.is)
         | false ↦ λ stays left. elim (plain (effect_of p) s k.seq.0 k.label) as (λ o. plain (effect_of p) s k.seq.0 k.label ≡ o → after_steps (effect_of p) o ns ≡ Some a → take n b.output ≡ take n a.output) [
-            | None ↦ λ none run. absurd (some_none (sym run ∙ no_steps (effect_of p) ns))
-            | (Some m) ↦ λ made run.
-                let longer : length m.output ≡ length s.output + prints (k ∷ []) = run_printed p (k ∷ []) s m made in
-                let only : below f (k ∷ []) ≤ prints (k ∷ []) = below_few f (k ∷ []) in
-                let both : below f (k ∷ ns) ≡ below f (k ∷ []) + below f ns = sum_by-append (λ (j : Numbered). one (is_below f j)) (k ∷ []) ns in
-                firm_rest f gone above ns (suc k.seq.0) rise.1 m a b run (ap (λ o. after_steps (effect_of p) o (rest gone ns)) (sym made) ∙ left) n (omega (arith, few, longer, only, both))
-          ] refl all
+          | None ↦ λ none run. absurd (some_none (sym run ∙ no_steps (effect_of p) ns))
+          | (Some m) ↦ λ made run.
+              let longer : length m.output ≡ length s.output + prints (k ∷ []) = run_printed p (k ∷ []) s m made in
+              let only : below f (k ∷ []) ≤ prints (k ∷ []) = below_few f (k ∷ []) in
+              let both : below f (k ∷ ns) ≡ below f (k ∷ []) + below f ns = sum_by-append (λ (j : Numbered). one (is_below f j)) (k ∷ []) ns in
+              firm_rest f gone above ns (suc k.seq.0) rise.1 m a b run (ap (λ o. after_steps (effect_of p) o (rest gone ns)) (sym made) ∙ left) n (omega (arith, few, longer, only, both))
+        ] refl all
       ] refl left
 
   -- ---- a history that goes on

@@ -1,5 +1,5 @@
 -- Whether a stabilize is granted, and what its calls need.
-use Rattle.std.proofs.Common.{◌≡◌, ℕ, zero, suc, ◌+◌, ◌-◌, ◌<◌, ◌≤◌, true, false, not, ◌&&◌, List, [], ◌∷◌, ◌++◌, length, Option, Some, None, IsSome, refl, sym, ap, subst, ◌∙◌, arith}
+use Rattle.std.proofs.Common.{◌≡◌, ℕ, zero, suc, ◌+◌, ◌<◌, ◌≤◌, true, false, not, ◌&&◌, List, [], ◌∷◌, ◌++◌, length, Option, Some, None, IsSome, refl, sym, ap, subst, ◌∙◌, arith}
 use Rattle.std.specs.Prelude.{is_some, nat_lt, option_and_then, option_map, Err, IfOk, Ok, OnErr, Result}
 use Rattle.std.proofs.Math.Bool.{and-false}
 use Rattle.stab_base.specs.declared.numbers.Seq.{Seq}
@@ -131,7 +131,7 @@ module _ (job : JobParts) (old : Parts) (lease : LeaseView) (progress : Progress
       → (q : ℕ) → IsMarkedAs planned.graph.nodes qs is_pinned q → is_mark_revocable (survivors planned.history) (mark (expr_of job.program progress.end)) ≡ false
   pinned_held planned before m marked above qs reach q is =
       let pin = pin_reached run old.graph.nodes stood.rises may.kept.shown.shows.journal.nodes m (uncut_before m marked above) qs
-          (subst (λ (ns : List Node). marks.AreReached ns m qs) before.nodes reach) q (subst (λ (ns : List Node). IsMarkedAs ns qs is_pinned q) before.nodes is) in
+      (subst (λ (ns : List Node). marks.AreReached ns m qs) before.nodes reach) q (subst (λ (ns : List Node). IsMarkedAs ns qs is_pinned q) before.nodes is) in
       ap (λ (j : Journal). is_mark_revocable (survivors j) (mark (expr_of p progress.end))) before.history
       ∙ ap (λ (r : List Numbered). is_mark_revocable r (mark (expr_of p progress.end))) old_run
       ∙ held_pin run (mark (expr_of p progress.end)) m marked pin

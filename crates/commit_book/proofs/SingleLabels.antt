@@ -1,5 +1,5 @@
 -- The step of each act that moves no thread but its own, from what its calls leave.
-use Rattle.std.proofs.Common.{◌≡◌, ℕ, ℤ, ◌+◌, ◌<◌, ◌^◌, true, false, not, List, [], ◌∷◌, ◌++◌, length, Some, None, refl, sym, ap, subst, ◌∙◌, append-nil, arith}
+use Rattle.std.proofs.Common.{◌≡◌, ℕ, ℤ, ◌+◌, ◌<◌, ◌^◌, true, false, not, List, [], ◌∷◌, ◌++◌, length, Some, refl, sym, ap, subst, ◌∙◌, append-nil, arith}
 use Rattle.std.specs.Prelude.{pos, option_and_then, if◌then◌else◌}
 use Rattle.std.specs.FinMap as map
 use Rattle.stab_base.specs.Datum.{Datum, unit, int, reference}

@@ -1,19 +1,15 @@
 -- What a commit answers and leaves.
-use Rattle.std.specs.Prelude.{◌≡◌, ℕ, ◌+◌, ◌≤◌, false, not, min, List, ◌∷◌, ◌++◌, filter, length, map as each, Option, Some, IfSome, IsSomeAnd, option_map}
+use Rattle.std.specs.Prelude.{◌≡◌, ℕ, ◌+◌, ◌≤◌, false, not, min, ◌++◌, filter, length, Option, Some, IfSome, IsSomeAnd, option_map}
 use Rattle.std.specs.Ordering.{nat_cmp}
 use Rattle.std.specs.FinMap as map
 use Rattle.std.specs.FinMap.{FinMap}
 use Rattle.linked_lists.specs.Lists.{is_listed, without}
 use Rattle.stab_base.specs.declared.numbers.Generation.{Generation}
-use Rattle.stab_journal.specs.declared.event.Event.{Event}
-use Rattle.stab_journal.specs.declared.event.Label.{Label}
-use Rattle.stab_journal.specs.declared.event.What.TheVariants.{Step}
 use Rattle.stab_journal.specs.Event.{weight_of}
 use Rattle.thread_slots.specs.declared.state.State.TheVariants.{Ended}
 use Rattle.thread_slots.specs.Slot.{Slot, is_in}
 use Rattle.rendezvous.specs.Line.{Line, joined, left}
 use Rattle.plain_language.specs.Plain.{look_in}
-use Rattle.plain_language.specs.Standing.{event}
 use Rattle.step_eval.specs.ControlView.{ControlView, expr_of}
 use Rattle.step_eval.specs.Progress.{ProgressView}
 use Rattle.commit_book.specs.declared.done.Done.{Done}

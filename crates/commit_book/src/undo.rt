@@ -74,12 +74,7 @@ impl Parts {
     }
 
     /// A stabilize that isn't granted fails its thread.
-    fn refuse(
-        &mut self,
-        job: &Job,
-        lease: &Lease,
-        progress: Progress,
-    ) -> Result<Outcome, Progress>
+    fn refuse(&mut self, job: &Job, lease: &Lease, progress: Progress) -> Result<Outcome, Progress>
         requires may { MayAct job.now self.old lease.now progress }
         requires at { StandsAt job.now.program progress.end own.Stabilize }
         requires held { is_mark_revocable (survivors self.old.history) (section_of (expr_of job.now.program progress.end)) ≡ false }

@@ -1,5 +1,4 @@
-use Rattle.std.proofs.Common.{◌≡◌, ◌≤◌, length, ap, subst, ◌∙◌, arith}
-use Rattle.stab_base.specs.Datum.{Datum}
+use Rattle.std.proofs.Common.{◌≤◌, length, ap, subst, ◌∙◌}
 use Rattle.stab_journal.specs.Due.{released}
 use Rattle.commit_book.specs.Book.{BookView}
 use Rattle.commit_book.proofs.Firm.{released_printed}
