@@ -38,7 +38,7 @@ use Rattle.commit_book.proofs.EffectsLocal.{act_there}
 use Rattle.commit_book.proofs.Partners.{IsThere, there_of}
 use Rattle.commit_book.proofs.RoomHere.{pick_there, receive_there, send_there}
 use Rattle.lone_worker.specs.Turn.{IsAdvanced, IsHeldAs, IsLentAlone}
-use Rattle.commit_book.proofs.Holding.{ended_not_leased, none_counted, parked_not_leased, ready_not_leased}
+use Rattle.commit_book.proofs.Holding.{ended_not_leased, isnt_changed, none_counted, parked_not_leased, ready_not_leased}
 use Rattle.lone_worker.proofs.Moving.{Says, row_says}
 
 -- who comes to the tail of a queue stands there
@@ -214,7 +214,7 @@ module _ (lent new : BookView) (lease : LeaseView) (control : ControlView) (prog
       by : (b : Bool) → is_listed u (t ∷ movers t row) ≡ b → is_in Leased new.threads u ≡ false
       by true listed = other (nat_eq u t) refl listed
       by false unlisted =
-          ap (λ o. option_map_or (λ (slot : Slot ControlView). same_state Leased slot.state) o false) (moved.others u unlisted)
+          ap (λ o. option_map_or (λ (slot : Slot ControlView). same_state Leased slot.state) o false) (moved.others u (isnt_changed t u row unlisted))
           ∙ is.alone u ∙ (neither (nat_eq u t) (is_listed u (movers t row)) unlisted).0
 
   pub free : in_state Leased new ≡ 0

@@ -33,6 +33,7 @@ use Rattle.commit_book.specs.Undoing.{begun, is_reached_by, undo_by}
 use Rattle.commit_book.proofs.Choosing.{chosen_front, found_in}
 use Rattle.commit_book.proofs.Lending.{get-changed}
 use Rattle.commit_book.proofs.Partners.{IsThere, parked_not_ended, parked_not_ready, there_of}
+use Rattle.commit_book.proofs.Holding.{isnt_changed}
 use Rattle.lone_worker.specs.Desk.{IsUnlent, seat_of}
 use Rattle.lone_worker.specs.Solo.{BeginsWith}
 use Rattle.lone_worker.specs.Turn.{IsTurnOf, IsWorked, worker}
@@ -156,7 +157,7 @@ module _ (a x : BookView) (unlent : IsUnlent a) (after : IsUnlent x) (turn : IsT
         let waiting = λ (q : ProgramParts) (o : Option (Slot ControlView)). option_and_then (waits_with (offered q)) o in
         after.shown.shows.threads.offers.each u
         ∙ ap (waiting x.job.program)
-        (moved.others u (ap (λ b. b || is_listed u (movers t row)) apart ∙ unlisted)
+        (moved.others u (isnt_changed t u row (ap (λ b. b || is_listed u (movers t row)) apart ∙ unlisted))
         ∙ get-changed a.threads t u (λ (slot : Slot ControlView). record slot { state = Leased })
         ∙ ap (λ b. cond b (option_map (λ (slot : Slot ControlView). record slot { state = Leased }) (map.get a.threads t)) (map.get a.threads u)) apart)
         ∙ ap (λ j. waiting j.program (map.get a.threads u)) job_left
