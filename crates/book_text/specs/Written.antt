@@ -1,10 +1,11 @@
 -- The text that a book shows.
-use Rattle.std.specs.Prelude.{◌≡◌, ℕ, zero, suc, ◌+◌, ◌-◌, List, [], ◌++◌, Some}
+use Rattle.std.specs.Prelude.{◌≡◌, ℕ, zero, suc, ◌+◌, ◌-◌, List, [], ◌++◌, take, Some}
 use Rattle.std.specs.Option.{option_map_or}
+use Rattle.stab_journal.specs.Due.{released}
 use Rattle.stab_journal.specs.Journal.{survivors}
 use Rattle.thread_slots.specs.declared.state.State.TheVariants.{Ready, Leased, Parked, Ended}
 use Rattle.plain_language.specs.Plain.{PlainState, end_of}
-use Rattle.plain_language.specs.Shown.{counts, fault_line, shown}
+use Rattle.plain_language.specs.Shown.{counts, fault_line, shown, value_lines}
 use Rattle.plain_language.specs.Table.{fault}
 use Rattle.commit_book.specs.Book.{BookView, fault_at}
 use Rattle.commit_book.specs.Counts.{faulted_in, in_state}
@@ -12,6 +13,14 @@ use Rattle.commit_book.specs.Counts.{faulted_in, in_state}
 -- the text is the one that the state shows to which the book's history leads
 abbrev pub IsShownText : BookView → List ℕ → Type 0
 IsShownText b text = (s : PlainState) → end_of b.job.program (survivors b.history) ≡ Some s → text ≡ shown b.job.program s
+
+-- the lines of the values that were released
+abbrev pub released_lines : BookView → List ℕ
+released_lines b = value_lines b.job.program (take (released b.history.events) b.printed)
+
+-- the text is what that state shows behind the lines of the values that were released
+abbrev pub IsRestText : BookView → List ℕ → Type 0
+IsRestText b text = (s : PlainState) → end_of b.job.program (survivors b.history) ≡ Some s → shown b.job.program s ≡ released_lines b ++ text
 
 -- the line of a thread that failed, and none of another
 abbrev pub fault_line_of : BookView → ℕ → List ℕ

@@ -3,4 +3,4 @@
 
 mod shown;
 
-pub use shown::shown_text;
+pub use shown::{rest_text, shown_text};

@@ -4,7 +4,7 @@ ghost use Rattle.std.specs.List.{flat_map};
 ghost use Rattle.stab_base.specs.Printed.{printed};
 ghost use Rattle.plain_language.specs.Shown.{counts, fault_line, line};
 ghost use Rattle.plain_language.specs.Table.{fault as failed};
-ghost use Rattle.book_text.specs.Written.{IsShownText, count_text, fault_line_of, fault_lines};
+ghost use Rattle.book_text.specs.Written.{IsRestText, IsShownText, count_text, fault_line_of, fault_lines};
 
 use commit_book::{Book, Counts};
 use stab_base::{Fault, NoMemory, Texts, ThreadId, Value};
@@ -17,6 +17,18 @@ pub fn shown_text(alloc: Global, book: &Book) -> Result<Vec<u8>, NoMemory>
 {
     let mut text = Vec::new(alloc);
     put_values(book.job().program().texts(), book.printed(), &mut text)?;
+    put_faults(alloc, book, &mut text)?;
+    put_counts(alloc, book, &mut text)?;
+    Ok(text)
+}
+
+/// The same without the lines of the values that were released.
+pub fn rest_text(alloc: Global, book: &Book) -> Result<Vec<u8>, NoMemory>
+    ensures { IfOk result (λ text. IsRestText book.now text.items) }
+{
+    let mut text = Vec::new(alloc);
+    let (_released, values) = book.printed().split_at(book.released() as usize);
+    put_values(book.job().program().texts(), values, &mut text)?;
     put_faults(alloc, book, &mut text)?;
     put_counts(alloc, book, &mut text)?;
     Ok(text)

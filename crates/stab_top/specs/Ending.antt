@@ -45,25 +45,19 @@ Refuses o cause = Blames o.report cause × Rests o.sink o.sink_after
 
 -- ---- a run
 
--- The job is that of the program and the script with the fuel and the quantum of the words; no act of the program is one that
--- isn't built. The book shows its history, which stands for this run of the program from the start state, and the state in which
--- the run ends; the history's probes got the numbers of the script. Worker 1 made it all, and it is the whole run of the job by one
--- worker.
-pub record IsRunOf (args : RunArgs) (program : ProgramParts) (script : List ℤ) (book : BookView) (state : PlainState) : Type 0 where
-  pub job : book.job ≡ job_of program script args.fuel args.quantum
-  pub flat : IsFlat program
+-- Worker 1 made the first events of the job's run by one worker.
+abbrev pub IsSoloPart : JobParts → List Event → Type 0
+IsSoloPart job events = (end : RunEnd) × IsSolo job end events
+
+-- The book is of this job. It shows its history, which stands for this run of the program from the start state, and the state in
+-- which the run ends; the history's probes got the numbers of the script. Worker 1 made it all, by the run of the job by one worker.
+pub record IsRunOf (job : JobParts) (book : BookView) (state : PlainState) : Type 0 where
+  pub of_job : book.job ≡ job
   pub run : List Numbered
   pub shown : ShowsRun book run state
-  pub follows : FollowsScript script book.history.events
+  pub follows : FollowsScript job.script book.history.events
   pub by_one : AllByRecursion (λ (e : Event). e.worker ≡ 1) book.history.events
-  pub solo : IsWholeSolo book.job book.history.events
-
--- what a command writes of a run: what the run shows that ends in the state, or the trace of what happened
-abbrev pub shown_by : BookView → PlainState → List ℕ
-shown_by book state = shown book.job.program state
-
-abbrev pub trace_by : BookView → PlainState → List ℕ
-trace_by book state = trace book.history
+  pub solo : IsSoloPart job book.history.events
 
 -- no thread is ready or leased, and none can step
 pub record Rested (book : BookView) (state : PlainState) : Type 0 where
@@ -84,52 +78,78 @@ pub record IsSpent (book : BookView) : Type 0 where
   pub used : book.job.fuel ≤ weight_of book.history.events
   pub ready : 0 < in_state Ready book
 
--- how a run ended whose text was written whole
+-- how a run is at its end
 abbrev pub RestSays : Status → BookView → PlainState → Type 0
 RestSays Done book state = Rested book state × AllDone book.job.program state
 RestSays Held book state = Rested book state × SomeHeld book.job.program state
 RestSays Spent book state = IsSpent book
 RestSays _ book state = ⊥
 
--- a run is over
-abbrev pub IsOver : BookView → PlainState → Type 0
-IsOver book state = Rested book state ⊎ IsSpent book
+-- a run is over: worker 1 made all events of the job's run by one worker
+pub record IsOver (book : BookView) (state : PlainState) : Type 0 where
+  pub whole : IsWholeSolo book.job book.history.events
+  pub rest : Rested book state ⊎ IsSpent book
 
--- what the status says of the end of a run, of which this text is written, and of the sink
-abbrev pub EndSays : Status → BookView → PlainState → List ℕ → Outcome → Type 0
-EndSays SinkFault book state text o = IsOver book state × GainsPrefix o.sink o.sink_after text
-EndSays status book state text o = RestSays status book state × Gains o.sink o.sink_after text
+-- ---- what is written of a run
 
--- the program wasn't run: an act of it isn't built, or there was no memory
-abbrev pub IsUnrun : Status → ProgramParts → Type 0
-IsUnrun status program = ((status ≡ NotBuilt) × ¬ (IsFlat program)) ⊎ (status ≡ NoMemory)
+-- what the run shows that ends in the state
+abbrev pub shown_by : BookView → PlainState → List ℕ
+shown_by book state = shown book.job.program state
 
--- the book of such a run, and the state that it leads to
-pub record HasRun (status : Status) (args : RunArgs) (program : ProgramParts) (script : List ℤ) (book : BookView) : Type 0 where
-  pub state : PlainState
-  pub run : IsRunOf args program script book state
+-- the same, and a line that tells the size of the mill and how many undos there were
+abbrev pub mill_line : ℕ → List Event → List ℕ
+mill_line size events = line (codes "mill " ++ decimal size ++ codes " undos " ++ decimal (count_by is_undo events))
+
+abbrev pub milled_by : ℕ → BookView → PlainState → List ℕ
+milled_by size book state = shown_by book state ++ mill_line size book.history.events
+
+-- the lines of the values that the first events released, of what the run printed that ends in the state
+abbrev pub released_lines : ProgramParts → PlainState → List Event → List ℕ
+released_lines p state first = value_lines p (take (released first) state.output)
+
+-- the piece begins with the lines of every release behind which there is an event of worker 1
+abbrev pub HasReleases : BookView → PlainState → List ℕ → Type 0
+HasReleases book state piece =
+    (first after : List Event) (e : Event) → book.history.events ≡ first ++ e ∷ after → e.worker ≡ 1
+    → (more : List ℕ) × (piece ≡ released_lines book.job.program state first ++ more)
+
+-- a prefix of the text was written, which begins with these lines
+abbrev pub WritesReleases : BookView → PlainState → List ℕ → Outcome → Type 0
+WritesReleases book state text o = SomePrefix (λ front. Appends o.sink.told o.sink_after.told front × HasReleases book state front) text
+
+-- the run is over as the status says, and the text was written whole
+pub record IsWritten (status : Status) (book : BookView) (state : PlainState) (text : List ℕ) (o : Outcome) : Type 0 where
+  pub whole : IsWholeSolo book.job book.history.events
   pub rest : RestSays status book state
-
--- the text was written whole, with this status, or a prefix of it up to a fault
-abbrev pub WritesOf : Status → Status → List ℕ → Outcome → Type 0
-WritesOf rest status text o =
-    ((status ≡ rest) × Gains o.sink o.sink_after text) ⊎ ((status ≡ SinkFault) × GainsPrefix o.sink o.sink_after text)
+  pub gains : Gains o.sink o.sink_after text
 
 module _ (text_by : BookView → PlainState → List ℕ) where
-  -- the report has the book of such a run, and nothing to blame, and the status says how it ended
-  pub record Ends (status : Status) (args : RunArgs) (program : ProgramParts) (script : List ℤ) (o : Outcome) : Type 0 where
+  -- `run` and `mill` write the lines of values as soon as a release made them known, and the rest of their text at the end
+  abbrev pub AsReleased : Status → BookView → PlainState → Outcome → Type 0
+  AsReleased SinkFault book state o = WritesReleases book state (text_by book state) o × Rose o.sink.faults o.sink_after.faults
+  AsReleased NoMemory book state o = WritesReleases book state (text_by book state) o × (o.sink_after.faults ≡ o.sink.faults)
+  AsReleased status book state o = IsWritten status book state (text_by book state) o
+
+-- `trace` writes the trace of what happened, at the end
+abbrev pub AtTheEnd : Status → BookView → PlainState → Outcome → Type 0
+AtTheEnd SinkFault book state o = IsOver book state × GainsPrefix o.sink o.sink_after (trace book.history)
+AtTheEnd NoMemory book state o = ⊥
+AtTheEnd status book state o = IsWritten status book state (trace book.history) o
+
+module _ (WritesBy : Status → BookView → PlainState → Outcome → Type 0) where
+  -- the report has the book of the job's run, and nothing to blame, and the status says how far it came and what was written of it
+  pub record Ends (status : Status) (job : JobParts) (o : Outcome) : Type 0 where
     pub book : BookView
     pub state : PlainState
     pub reported : o.report.book ≡ Some book
     pub blame : blame_of o.report ≡ no_blame
-    pub run : IsRunOf args program script book state
-    pub end : EndSays status book state (text_by book state) o
+    pub run : IsRunOf job book state
+    pub writes : WritesBy status book state o
 
-  -- What each status says of a program that was to be run. Want of memory is free.
-  abbrev pub RunEnds : Status → RunArgs → ProgramParts → List ℤ → Outcome → Type 0
-  RunEnds NotBuilt args program script o = ¬ (IsFlat program) × Refuses o no_blame
-  RunEnds NoMemory args program script o = Refuses o no_blame
-  RunEnds status args program script o = Ends status args program script o
+  -- What each status says of a job that was to be run. Want of memory is free: there is no book and nothing was written, or there is one.
+  abbrev pub RunEnds : Status → JobParts → Outcome → Type 0
+  RunEnds NoMemory job o = Refuses o no_blame ⊎ Ends NoMemory job o
+  RunEnds status job o = Ends status job o
 
 -- ---- a check
 

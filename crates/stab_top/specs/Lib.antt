@@ -4,6 +4,9 @@ pub mod Words
 pub mod Loading
 pub mod Reading
 pub mod Ending
+pub mod Rounds
+pub mod Playing
+pub mod Milling
 pub mod Call
 pub mod Command
 pub mod Complete

@@ -5,11 +5,17 @@ mod checking;
 mod judging;
 mod laws;
 mod loading;
+mod milling;
+mod playing;
 mod program;
 mod reading;
 mod reason_line;
 mod report;
+mod rounds;
 mod running;
+#[cfg(test)]
+mod section_tests;
+mod silent;
 #[cfg(test)]
 mod tests;
 #[cfg(test)]

@@ -34,8 +34,8 @@ pub fn read_program_file<F: Files>(
     }
 }
 
-// The program of a text, or the report of a call that can't have it.
-fn program_of(alloc: Global, bytes: &[u8]) -> Result<Program, Report>
+/// The program of a text, or the report of a call that can't have it.
+pub fn program_of(alloc: Global, bytes: &[u8]) -> Result<Program, Report>
     requires { length bytes.now ≤ max_bytes ProgramFile }
     ensures ok { IfOk result (program_form.IsOf bytes.now) }
     ensures err { IfErr result (λ report. BytesRefused program_form report bytes.now) }

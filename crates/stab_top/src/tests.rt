@@ -39,17 +39,18 @@ fn runs_that_fail(rt: HostRuntime) -> Result<(), Fail> {
     runs(&rt, rt.alloc(), HELD)
 }
 
-const UNBUILT: &str = "\
-fn f(): unit { () } fn main(): unit { stable f() } -> 14 stab: NotBuilt/\n\
-fn unused(): unit { stabilize() } fn main(): unit { print(1) } -> 14 stab: NotBuilt/\n\
-fn unused(): unit { cut() } fn main(): unit { print(1) } -> 14 stab: NotBuilt/\n\
-fn unused(): unit { pin() } fn main(): unit { print(1) } -> 14 stab: NotBuilt/\n\
-fn unused(): int { attempt() } fn main(): unit { print(1) } -> 14 stab: NotBuilt/\n\
+// Sections, cuts and pins, each alone.
+const ACTS: &str = "\
+fn f(): unit { () } fn main(): unit { stable f() } -> 0 ended 1 faulted 0 waiting 0/\n\
+fn main(): unit { stabilize() } -> 1 thread 1 fault NoSection/ended 0 faulted 1 waiting 0/stab: Held/\n\
+fn main(): unit { cut(); print(1) } -> 0 1/ended 1 faulted 0 waiting 0/\n\
+fn main(): unit { pin(); print(1) } -> 0 1/ended 1 faulted 0 waiting 0/\n\
+fn main(): unit { print(attempt()) } -> 0 0/ended 1 faulted 0 waiting 0/\n\
 ";
 
 #[test]
-fn programs_that_are_not_built(rt: HostRuntime) -> Result<(), Fail> {
-    runs(&rt, rt.alloc(), UNBUILT)
+fn each_act_alone(rt: HostRuntime) -> Result<(), Fail> {
+    runs(&rt, rt.alloc(), ACTS)
 }
 
 #[test]

@@ -3,11 +3,12 @@ ghost use Rattle.std.specs.Prelude.{◌≡◌, ◌≤◌, map as each, length, s
 ghost use Rattle.stab_code.specs.Limits.{max_script};
 ghost use Rattle.stab_words.specs.Within.{IsRunWithin, IsWithin};
 ghost use Rattle.stab_top.specs.Call.{CheckSays, RequestSays, RunSays, Says, ScriptSays, TraceSays, VerifySays, call_of};
-ghost use Rattle.stab_top.specs.Ending.{outcome_of, shown_by, trace_by};
+ghost use Rattle.stab_top.specs.Ending.{AsReleased, AtTheEnd, outcome_of, shown_by};
 ghost use Rattle.stab_top.specs.Words.{is_built};
 
 use crate::checking::check_program;
 use crate::judging::judge;
+use crate::milling::run_mill;
 use crate::reading::{read_probes_file, read_program_file, read_run, read_trace_file};
 use crate::report::{Gate, Report, Status};
 use crate::running::{run_program, trace_program};
@@ -20,8 +21,9 @@ use std::sync::Wait;
 use std::thread::Threads;
 
 /// Does what the words ask for, and reports how it ended. `run FILE` runs the program of the file and writes what it shows;
-/// `trace FILE` runs it and writes the trace; `verify FILE TRACE` writes the verdict on a trace; `check FILE` writes how many
-/// functions and texts the program has. One worker runs on the calling thread, and calls no gate.
+/// `trace FILE` runs it and writes the trace; `mill SIZE` runs a program of this size; `verify FILE TRACE` writes the verdict on a
+/// trace; `check FILE` writes how many functions and texts the program has. One worker runs on the calling thread, and calls no
+/// gate.
 pub fn stab<R: Threads + Wait + Sync, F: Files, K: Sink, G: Gate + Sync>(
     rt: &R,
     alloc: Global,
@@ -68,6 +70,7 @@ fn answer_request<F: Files, K: Sink>(
     match request {
         Request::Run(args) => run_file(alloc, args, files, sink),
         Request::Trace(args) => trace_file(alloc, args, files, sink),
+        Request::Mill(args) => run_mill(alloc, args, sink),
         Request::Verify(args) => verify_file(alloc, args, files, sink),
         Request::Check(file) => check_file(alloc, file, files, sink),
         _ => unreachable!(),
@@ -77,12 +80,12 @@ fn answer_request<F: Files, K: Sink>(
 // Runs the program of a file with a script, and writes what it shows.
 fn run_file<F: Files, K: Sink>(alloc: Global, args: &RunArgs, files: &mut F, sink: &mut K) -> Report
     requires { IsRunWithin args.now.workers args.now.fuel args.now.quantum }
-    ensures says { RunSays shown_by (call_of F.held F.faults files.old files.new
+    ensures says { RunSays (AsReleased shown_by) (call_of F.held F.faults files.old files.new
         (outcome_of K.told K.faults sink.old sink.new result)) args.now }
     ensures kept { F.held files.new ≡ F.held files.old }
 {
     match read_run(alloc, args, files) {
-        Ok(given) => run_program(alloc, args, given, sink),
+        Ok(given) => run_program(alloc, given, args.fuel, args.quantum, None, sink),
         Err(report) => report,
     }
 }
@@ -95,12 +98,12 @@ fn trace_file<F: Files, K: Sink>(
     sink: &mut K,
 ) -> Report
     requires { IsRunWithin args.now.workers args.now.fuel args.now.quantum }
-    ensures says { RunSays trace_by (call_of F.held F.faults files.old files.new
+    ensures says { RunSays AtTheEnd (call_of F.held F.faults files.old files.new
         (outcome_of K.told K.faults sink.old sink.new result)) args.now }
     ensures kept { F.held files.new ≡ F.held files.old }
 {
     match read_run(alloc, args, files) {
-        Ok(given) => trace_program(alloc, args, given, sink),
+        Ok(given) => trace_program(alloc, given, args.fuel, args.quantum, sink),
         Err(report) => report,
     }
 }

@@ -67,6 +67,17 @@ fn verdicts_on_the_cascade(rt: HostRuntime) -> Result<(), Fail> {
     verdicts(&rt, alloc, &files)
 }
 
+#[test]
+fn cascade(rt: HostRuntime) -> Result<(), Fail> {
+    let alloc = rt.alloc();
+    let files = [("p", CASCADE), ("s", b"-1\n".as_slice())];
+    let row = "run p --probes s -> 0 4/5/ended 4 faulted 0 waiting 0/";
+    answers(&rt, alloc, &files, [&[], &[]], row)?;
+    let trial = Trial::over(&rt, alloc, "trace p --probes s", &files, [&[], &[]])?;
+    assert_eq!(rt; trial.written.as_slice(), CASCADE_TRACE.as_bytes());
+    Ok(())
+}
+
 // The verdicts on these traces, and on the cascade's where a file or the sink fails.
 fn verdicts<R: Threads + Wait + Sync>(
     rt: &R,
@@ -81,7 +92,6 @@ verify p t -> 13 no 30 WrongProbe/stab: No 30 WrongProbe/\n\
 verify p cut --probes s -> 11 stab: BadTrace NoEnd/\n\
 verify p t --probes x -> 10 stab: BadProbes Line 2/\n\
 verify s t --probes x -> 3 stab: BadText Unexpected 0/\n\
-trace p -> 14 stab: NotBuilt/\n\
 ";
     answers(rt, alloc, files, [&[], &[]], rows)?;
     for (load, expected) in [(1, "program"), (2, "probes"), (3, "trace")] {
