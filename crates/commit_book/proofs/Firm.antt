@@ -211,12 +211,13 @@ module _ (p : ProgramParts) where
           final = omega (arith, few, finals);
         }
 
-record IsSnoc {X : Type 0} (xs : List X) : Type 0 where
-  front : List X
-  last : X
-  is : xs ≡ front ++ last ∷ []
+-- a list that isn't empty, by its last element
+pub record IsSnoc {X : Type 0} (xs : List X) : Type 0 where
+  pub front : List X
+  pub last : X
+  pub is : xs ≡ front ++ last ∷ []
 
-snoc_of : {X : Type 0} (x : X) (xs : List X) → IsSnoc (x ∷ xs)
+pub snoc_of : {X : Type 0} (x : X) (xs : List X) → IsSnoc (x ∷ xs)
 snoc_of x [] = record { front = []; last = x; is = refl }
 snoc_of x (y ∷ ys) = let k = snoc_of y ys in record { front = x ∷ k.front; last = k.last; is = ap (λ l. x ∷ l) k.is }
 
@@ -230,7 +231,7 @@ snoc_front (a ∷ xs) (b ∷ ys) x y is =
     ap (λ h. h ∷ xs) head ∙ ap (λ l. b ∷ l) (snoc_front xs ys x y tail)
 
 -- what stands before the last event
-front_of : (fs es : List Event) (e x : Event) (xs : List Event) → fs ++ e ∷ [] ≡ es ++ x ∷ xs → fs ≡ es ++ (snoc_of x xs).front
+pub front_of : (fs es : List Event) (e x : Event) (xs : List Event) → fs ++ e ∷ [] ≡ es ++ x ∷ xs → fs ≡ es ++ (snoc_of x xs).front
 front_of fs es e x xs is =
     let k = snoc_of x xs in
     snoc_front fs (es ++ k.front) e k.last (is ∙ ap (λ l. es ++ l) k.is ∙ sym (append_assoc es k.front (k.last ∷ [])))
