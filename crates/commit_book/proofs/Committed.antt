@@ -1,32 +1,34 @@
 -- What a commit answers and leaves, once it was performed and is counted.
 use Rattle.std.proofs.Common.{◌≡◌, ℕ, ◌+◌, ◌-◌, ◌≤◌, ◌<◌, Bool, true, false, cond, nat_eq, List, [], ◌∷◌, ◌++◌, length, Some, None, sym, ap, subst, ◌∙◌, append-nil, length-append, arith}
-use Rattle.std.specs.Prelude.{◌↔◌, IsTrue}
+use Rattle.std.specs.Prelude.{◌↔◌, IsTrue, nat_lt}
 use Rattle.std.specs.Ordering.{nat_cmp}
 use Rattle.std.specs.FinMap.{FinMap}
 use Rattle.std.proofs.lemmas.Bool.{false≢true}
 use Rattle.std.proofs.lemmas.List.{length-map}
 use Rattle.stab_base.specs.declared.numbers.Seq.{Seq}
 use Rattle.stab_code.specs.JobParts.{JobParts, IsWithinLimits}
+use Rattle.stab_journal.specs.declared.event.Event.{Event}
 use Rattle.stab_journal.specs.declared.event.Label.{Label}
 use Rattle.stab_journal.specs.declared.event.Label.TheVariants.{Local}
 use Rattle.stab_journal.specs.declared.event.What.TheVariants.{Step}
 use Rattle.stab_journal.specs.Event.{weight_of}
-use Rattle.stab_journal.specs.Journal.{IsValid}
+use Rattle.stab_journal.specs.Journal.{IsValid, Journal}
 use Rattle.plain_language.specs.Standing.{event}
 use Rattle.step_eval.specs.ControlView.{ControlView}
 use Rattle.step_eval.specs.Progress.{Advances, ProgressView}
 use Rattle.thread_slots.specs.Slot.{Slot}
+use Rattle.commit_book.specs.declared.counts.Tallies.{Tallies}
 use Rattle.commit_book.specs.declared.done.Done.{Done}
 use Rattle.commit_book.specs.declared.done.Done.TheVariants.{Taken, Parked, Undone, Stale, Over}
 use Rattle.commit_book.specs.declared.done.Outcome.{Outcome}
 use Rattle.commit_book.specs.declared.done.Outcome.TheVariants as outcome
 use Rattle.commit_book.specs.declared.parts.Parts.{Parts}
-use Rattle.commit_book.specs.Acting.{IsDoneBy, IsLateAnswer, IsOutcomeOf, IsPerformed, MayAct, answer_to, ended_by}
+use Rattle.commit_book.specs.Acting.{AreAsBefore, IsDoneBy, IsLateAnswer, IsOutcomeOf, IsPerformed, MayAct, answer_to, ended_by}
 use Rattle.commit_book.specs.Book.{Answered, BookView}
 use Rattle.commit_book.specs.Commits.{IsAnsweredBy, IsCommitted, IsCurrent, IsLeftBy, IsMade, IsMoved, IsOver, commit_counted, counted, pushed, row_at}
-use Rattle.commit_book.specs.Layout.{IsKept, view_of}
+use Rattle.commit_book.specs.Layout.{IsBook, IsKept, owed, view_of}
 use Rattle.commit_book.specs.Leases.{LeaseView}
-use Rattle.commit_book.specs.Limits.{commit_reserve}
+use Rattle.commit_book.specs.Limits.{commit_reserve, most_events}
 use Rattle.commit_book.specs.Rows.{Row, alone, starts, meets, waits, stays, undoes, local_of, steps_of, thread, events_by}
 use Rattle.commit_book.specs.Step.{next_seq}
 use Rattle.commit_book.specs.Undoing.{IsTakenBack, begun, undo_by}
@@ -163,10 +165,30 @@ module _ (old mid : BookView) (lease : LeaseView) (progress : ProgressView) wher
 
 -- ---- of a book
 
+owed_few : (p : Parts) → owed p ≤ 1
+owed_few p = by (nat_lt p.tallies.released p.tallies.finals)
+  where
+    by : (b : Bool) → cond {A = ℕ} b 1 0 ≤ 1
+    by true = omega arith
+    by false = omega arith
+
+-- a book that is as before has as much room
+pub book_as_before : (job : JobParts) (old new : Parts) → AreAsBefore old new → IsKept job new → IsBook job old → IsBook job new
+book_as_before job old new same kept book = record {
+  kept = kept;
+  short =
+      subst (λ (es : List Event). length es + owed new ≤ most_events) (sym (ap (λ (j : Journal). j.events) same.history))
+      (subst (λ (t : Tallies). length old.history.events + cond (nat_lt t.released t.finals) 1 0 ≤ most_events) (sym same.tallies) book.short);
+}
+
 module _ (job : JobParts) (old mid : Parts) (lease : LeaseView) (progress : ProgressView) (o : Outcome) (performed : IsPerformed job old mid lease progress o) where
   -- the history is no shorter, and not too long
   pub grown : (length old.history.events ≤ length mid.history.events) × (length mid.history.events ≤ length old.history.events + 2)
   grown = grown_by (view_of job old) (view_of job mid) lease progress (row_at (view_of job old) lease progress) performed.done
+
+  -- and a release that is due has room then
+  pub book_after : length old.history.events < 17000000 → IsKept job mid → IsBook job mid
+  book_after few kept = let more = grown.1 in let one = owed_few mid in record { kept = kept; short = omega (arith, more, one, few) }
 
   pub committed_on_time : (new : BookView) (first : Seq) (count : ℕ) (done : Done) → IsCurrent old.slots.threads lease progress.origin → (¬ IsOver (view_of job old)) → first.0 ≡ length old.history.events + 1
       → count ≡ length mid.history.events + 1 - first.0 → done ≡ answer_to o first count → new ≡ ended_by (view_of job mid) → IsCommitted (view_of job old) new lease progress done

@@ -1,15 +1,21 @@
 -- What a release needs of a book, and what its calls leave.
-use Rattle.std.proofs.Common.{◌≡◌, ℕ, suc, ◌+◌, ◌-◌, ◌<◌, ◌≤◌, Bool, true, false, cond, ◌&&◌, List, [], ◌∷◌, ◌++◌, length, take, drop, refl, sym, ap, subst, ◌∙◌, arith}
+use Rattle.std.proofs.Common.{◌≡◌, ℕ, suc, ◌+◌, ◌-◌, ◌*◌, ◌^◌, ◌<◌, ◌≤◌, Bool, true, false, cond, ◌&&◌, List, [], ◌∷◌, ◌++◌, length, take, drop, refl, sym, ap, subst, ◌∙◌, arith}
 use Rattle.std.specs.Prelude.{count_by, nat_lt}
 use Rattle.std.specs.List.{AllByRecursion, flat_map}
+use Rattle.std.proofs.lemmas.Bool.Decides.{nat_tests}
+use Rattle.std.proofs.lemmas.List.{length_push}
+use Rattle.std.proofs.lemmas.List.Sums.{sum_by-append}
 use Rattle.stab_base.specs.Datum.{Datum}
 use Rattle.stab_base.specs.Printed.{printed}
 use Rattle.stab_code.specs.JobParts.{JobParts}
 use Rattle.stab_journal.specs.declared.event.Numbered.{Numbered}
-use Rattle.stab_journal.specs.declared.event.What.TheVariants.{Release}
+use Rattle.stab_journal.specs.declared.event.Event.{Event}
+use Rattle.stab_journal.specs.declared.event.What.{What}
+use Rattle.stab_journal.specs.declared.event.What.TheVariants.{Release, Step, Undo}
+use Rattle.stab_journal.specs.Event.{AreEvents, IsWhat, weigh, weight_of}
 use Rattle.stab_journal.specs.Due.{due, final_prints, is_print, released}
 use Rattle.stab_journal.specs.Floor.{floor}
-use Rattle.stab_journal.specs.Journal.{Journal, RiseFrom, survivors}
+use Rattle.stab_journal.specs.Journal.{IsValid, Journal, RiseFrom, survivors}
 use Rattle.stab_journal.specs.Surviving.{run_of}
 use Rattle.stab_journal.proofs.Surviving.{are_survivors}
 use Rattle.plain_language.specs.Plain.{start}
@@ -20,13 +26,15 @@ use Rattle.commit_book.specs.declared.counts.Tallies.{Tallies}
 use Rattle.commit_book.specs.declared.parts.Parts.{Parts}
 use Rattle.commit_book.specs.Acting.{AreAsBefore}
 use Rattle.commit_book.specs.Book.{BookView}
-use Rattle.commit_book.specs.Layout.{IsKept, view_of, without_spare}
+use Rattle.commit_book.specs.Layout.{IsBook, IsKept, owed, view_of, without_spare}
+use Rattle.commit_book.specs.Limits.{most_events}
 use Rattle.commit_book.specs.Releases.{IsReleased, IsReleasedBy, due_lines}
 use Rattle.commit_book.proofs.Acted.{reserved}
 use Rattle.commit_book.proofs.Choosing.{due_is}
 use Rattle.commit_book.proofs.LostSteps.{survivors_up_to}
 use Rattle.commit_book.proofs.PrintCounts.{counted, run_printed}
 use Rattle.commit_book.proofs.ReleaseActs.{kept_released}
+use Rattle.commit_book.proofs.Room.{step_weighs}
 use Rattle.commit_book.proofs.SeenAfter.{kept_same, view_same}
 
 -- no more pass two tests than one
@@ -68,6 +76,34 @@ rise_few q e (n ∷ ns) rise low =
 pub run_few : (j : Journal) → length (survivors j) ≤ length j.events
 run_few j = let few : length (survivors j) ≤ length j.events + 1 - 1 = rise_few 1 (length j.events) (survivors j) (are_survivors j).rising (survivors_up_to j) in omega (arith, few)
 
+-- whether a release is owed
+below_is : (a b : ℕ) → a < b → nat_lt a b ≡ true
+below_is a b h = grind (arith, nat_tests)
+
+not_below : (a b : ℕ) → a ≡ b → nat_lt a b ≡ false
+not_below a b h = grind (arith, nat_tests)
+
+pub owed_one : (p : Parts) → p.tallies.released < p.tallies.finals → owed p ≡ 1
+owed_one p low = ap (λ b. cond {A = ℕ} b 1 0) (below_is p.tallies.released p.tallies.finals low)
+
+pub owed_none : (p : Parts) → p.tallies.released ≡ p.tallies.finals → owed p ≡ 0
+owed_none p same = ap (λ b. cond {A = ℕ} b 1 0) (not_below p.tallies.released p.tallies.finals same)
+
+-- each event has its range, and so has what they weigh
+weighs_at_most : (q : ℕ) (w : What) → IsWhat q w → weigh w ≤ 4294967295
+weighs_at_most q (Step l) is = step_weighs l is
+weighs_at_most q (Undo t m) is = omega arith
+weighs_at_most q (Release k) is = omega arith
+
+pub weight_within : (q : ℕ) (es : List Event) → AreEvents q es → weight_of es ≤ length es * 4294967295
+weight_within q [] are = omega arith
+weight_within q (e ∷ es) are =
+    let both : weight_of (e ∷ es) ≡ weight_of (e ∷ []) + weight_of es = sum_by-append (λ (k : Event). weigh k.what) (e ∷ []) es in
+    let one : weight_of (e ∷ []) ≡ weigh e.what = omega arith in
+    let here : weigh e.what ≤ 4294967295 = weighs_at_most q e.what are.0.what in
+    let more : weight_of es ≤ length es * 4294967295 = weight_within (suc q) es are.1 in
+    omega (arith, both, one, here, more)
+
 module _ (job : JobParts) (old : Parts) (kept : IsKept job old) where
   run_same : survivors old.history ≡ run_of old.history.events
   run_same =
@@ -100,6 +136,19 @@ module _ (job : JobParts) (old : Parts) (kept : IsKept job old) where
   pub due_so : 0 < due old.history.events → old.tallies.released < old.tallies.finals
   due_so some = let is = due_is job old kept in omega (arith, some, is)
 
+  -- so there is room for a release
+  pub room_for_one : 0 < due old.history.events → IsBook job old → length old.history.events + 1 ≤ most_events
+  room_for_one some book =
+      let one : owed old ≡ 1 = owed_one old (due_so some) in
+      let short = book.short in
+      omega (arith, one, short)
+
+  pub light_for_one : 0 < due old.history.events → IsBook job old → IsValid old.history → weight_of old.history.events + 1 < 2 ^ 64
+  light_for_one some book valid =
+      let few : length old.history.events + 1 ≤ most_events = room_for_one some book in
+      let weight : weight_of old.history.events ≤ length old.history.events * 4294967295 = weight_within 1 old.history.events valid.in_range in
+      omega (arith, few, weight)
+
   -- the values that are due
   pub lines_so : (values : List Datum) → values ≡ drop old.tallies.released (take old.tallies.finals old.printed.items) → flat_map (λ (v : Datum). line (printed job.program.texts v)) values ≡ due_lines (view_of job old)
   lines_so values is =
@@ -109,9 +158,12 @@ module _ (job : JobParts) (old : Parts) (kept : IsKept job old) where
       ∙ ap (λ n. drop (released old.history.events) (take n old.printed.items)) finals_are)
 
   -- with more room
-  module _ (mid : Parts) (room : mid ≡ record old { history = record old.history { spare = mid.history.spare } }) where
+  module _ (h : Journal) (room : h ≡ record old.history { spare = h.spare }) where
+    abbrev mid : Parts
+    mid = record old { history = h }
+
     as_before : AreAsBefore old mid
-    as_before = subst (AreAsBefore old) (sym room) (reserved old (record old.history { spare = mid.history.spare }) refl)
+    as_before = reserved old h room
 
     pub kept_reserved : IsKept job mid
     kept_reserved = kept_same job old mid as_before kept
@@ -122,9 +174,7 @@ module _ (job : JobParts) (old : Parts) (kept : IsKept job old) where
     -- the release was pushed
     module _ (new : Parts) (worker : ℕ) (some : 0 < due old.history.events) (is : IsReleasedBy mid new worker) where
       pub kept_after_release : IsKept job new
-      kept_after_release =
-          kept_released job mid new worker kept_reserved
-          (let low = due_so some in let tallies = ap (λ (x : Parts). x.tallies) room in subst (λ (t : Tallies). t.released < t.finals) (sym tallies) low) is
+      kept_after_release = kept_released job mid new worker kept_reserved (due_so some) is
 
       pub released_so : IsReleased (view_of job old) (view_of job new) worker
       released_so =
@@ -132,4 +182,16 @@ module _ (job : JobParts) (old : Parts) (kept : IsKept job old) where
           (ap (view_of job) is.others
           ∙ ap (λ (t : Tallies). view_of job (record mid { history = new.history; tallies = t })) is.tallies
           ∙ (λ i. record (view_of job mid) { history = record (without_spare mid.history) { events = is.events i; struck = is.struck i } })
-          ∙ ap (λ (n : ℕ). record (view_of job mid) { history = record (without_spare mid.history) { events = mid.history.events ++ event worker (Release n) ∷ [] } }) (ap (λ (x : Parts). x.tallies.finals) room ∙ finals_are))
+          ∙ ap (λ (n : ℕ). record (view_of job mid) { history = record (without_spare mid.history) { events = mid.history.events ++ event worker (Release n) ∷ [] } }) finals_are)
+
+      -- nothing is due then
+      pub book_after_release : IsBook job old → IsBook job new
+      book_after_release book = record {
+        kept = kept_after_release;
+        short =
+            let long : length new.history.events ≡ length mid.history.events + 1 = ap length is.events ∙ length_push mid.history.events (event worker (Release mid.tallies.finals)) in
+            let same : length mid.history.events ≡ length old.history.events = ap (λ (j : Journal). length j.events) room in
+            let paid : owed new ≡ 0 = owed_none new (ap (λ (t : Tallies). t.released) is.tallies ∙ ap (λ (t : Tallies). t.finals) (sym is.tallies)) in
+            let before = room_for_one some book in
+            omega (arith, long, same, paid, before);
+      }

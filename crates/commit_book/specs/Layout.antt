@@ -1,5 +1,5 @@
 -- What callers see of a book, from what it keeps.
-use Rattle.std.specs.Prelude.{◌≡◌, count_by, length}
+use Rattle.std.specs.Prelude.{◌≡◌, ℕ, ◌+◌, ◌≤◌, cond, nat_lt, count_by, length}
 use Rattle.stab_code.specs.JobParts.{JobParts}
 use Rattle.stab_code.specs.Program.{ProgramParts}
 use Rattle.stab_code.specs.Valid.{IsValid}
@@ -9,6 +9,7 @@ use Rattle.stab_journal.specs.Script.{probed}
 use Rattle.commit_book.specs.declared.parts.Parts.{Parts}
 use Rattle.commit_book.specs.Book.{BookView, IsShown}
 use Rattle.commit_book.specs.Counts.{is_undo, faulted_in}
+use Rattle.commit_book.specs.Limits.{most_events}
 use Rattle.commit_book.specs.OwnSteps.{IsRead}
 
 -- a journal without the room that it has
@@ -45,3 +46,12 @@ pub record IsKept (job : JobParts) (parts : Parts) : Type 0 where
   pub shown : IsShown (view_of job parts)
   pub tallied : AreTallied job.program parts
   pub read : IsRead parts.history parts.rollback
+
+-- one event more where a release is due
+abbrev pub owed : Parts → ℕ
+owed p = cond (nat_lt p.tallies.released p.tallies.finals) 1 0
+
+-- what holds of every book: of what is kept, and that there is room for the release that is due
+pub record IsBook (job : JobParts) (parts : Parts) : Type 0 where
+  pub kept : IsKept job parts
+  pub short : length parts.history.events + owed parts ≤ most_events

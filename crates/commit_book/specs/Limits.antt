@@ -8,3 +8,7 @@ commit_reserve = 1_000_000
 -- the greatest number of 64 bits, at which counts of answers stop
 abbrev pub most_counted : ℕ
 most_counted = 18446744073709551615
+
+-- the most events of a book: those with which it still takes a commit, two of a commit, and a release
+abbrev pub most_events : ℕ
+most_events = 17_000_002

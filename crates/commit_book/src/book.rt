@@ -40,11 +40,11 @@ impl Model for Book {
 
     ghost coded = { book_code jobs.the_row.coded histories.the_row.coded controls.the_row.coded states.the_row.coded kinds.the_row.coded };
 
-    ghost use Rattle.commit_book.specs.Layout.{view_of, IsKept};
+    ghost use Rattle.commit_book.specs.Layout.{view_of, IsBook};
 
     ghost view = { λ b. view_of b.job b.parts };
 
-    ghost invariant = { λ b. IsKept b.job b.parts };
+    ghost invariant = { λ b. IsBook b.job b.parts };
 }
 
 impl Book {

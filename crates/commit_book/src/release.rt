@@ -13,9 +13,6 @@ use crate::parts::Parts;
 use stab_base::{NoMemory, Seq, Texts, Value};
 use stab_journal::{Event, What};
 
-/// A journal holds no more events.
-const MOST_EVENTS: u64 = 4_294_967_294;
-
 impl Book {
     /// Adds the lines of the values that are due, and counts them as released. Without memory nothing is added.
     pub fn release(&mut self, worker: u32, out: &mut Vec<u8>) -> Result<Seq, NoMemory>
@@ -27,7 +24,8 @@ impl Book {
         ensures err { OnErr result ((self.new ≡ self.old) × (out.new.items ≡ out.old.items)) }
         ensures shown { IsShown self.new }
     {
-        self.parts.reserve_event()?;
+        let next = Seq(self.parts.history.len() + 1);
+        self.parts.history.reserve(1)?;
         let before = out.len();
         let (finals, _later) = self
             .parts
@@ -38,38 +36,25 @@ impl Book {
             out.truncate(before);
             return Err(NoMemory);
         }
-        Ok(self.parts.release(worker))
+        self.parts.release(worker);
+        Ok(next)
     }
 }
 
 impl Parts {
-    /// Room for one event more. A journal that holds as many as it can, or weighs as much, has none.
-    fn reserve_event(&mut self) -> Result<(), NoMemory>
-        ensures spare { OnOk result (1 ≤ self.new.history.spare) }
-        ensures weight { OnOk result (weight_of self.new.history.events + 1 < 2 ^ 64) }
-        ensures few { OnOk result (length self.new.history.events < 4294967294) }
-        ensures rest { self.new ≡ record self.old { history = record self.old.history { spare = self.new.history.spare } } }
-    {
-        if self.history.len() >= MOST_EVENTS || self.history.weight() == u64::MAX {
-            return Err(NoMemory);
-        }
-        self.history.reserve(1)
-    }
-
     /// All values that are final count as released.
-    fn release(&mut self, worker: u32) -> Seq
+    fn release(&mut self, worker: u32)
         requires worker { IsWorker worker }
         requires spare { 1 ≤ self.old.history.spare }
         requires weight { weight_of self.old.history.events + 1 < 2 ^ 64 }
         requires count { (1 ≤ self.old.tallies.finals) × (self.old.tallies.finals ≤ 4294967295) }
-        ensures number { result.0 ≡ length self.old.history.events + 1 }
         ensures released { IsReleasedBy self.old self.new worker }
     {
         self.tallies.released = self.tallies.finals;
         self.history.push(Event {
             worker,
             what: What::Release(self.tallies.finals),
-        })
+        });
     }
 }
 

@@ -6,7 +6,7 @@ use Rattle.step_eval.specs.Progress.{Advances}
 use Rattle.commit_book.specs.declared.done.Done.{Done}
 use Rattle.commit_book.specs.Book.{BookView}
 use Rattle.commit_book.specs.Commits.{IsCommitted, IsCurrent}
-use Rattle.commit_book.proofs.Committed.{committed_late, committed_on_time, current_by, grown, late_by, may_commit, on_time, short}
+use Rattle.commit_book.proofs.Committed.{book_after, book_as_before, committed_late, committed_on_time, current_by, grown, late_by, may_commit, on_time, short}
 use Rattle.commit_book.proofs.SeenAfter.{view_same}
 use Rattle.commit_book.proofs.book.Book.commit.Goals as goal
 
@@ -38,10 +38,12 @@ perform-requires c =
     let made = subst (λ (p : ProgramParts). Advances p c.args.progress.origin c.args.progress.steps c.args.progress.end) same c.end-end.ensures.made in
     let below = c.steps-steps.type_inv in
     let steps = c.steps-steps.ensures in
-    record { may = may_commit c.self.inside.job c.self.inside.parts c.args.lease c.args.progress c.self.invariant time.limits made (omega (arith, below, steps)) time.current time.light c.len.ensures.valid }
+    record { may = may_commit c.self.inside.job c.self.inside.parts c.args.lease c.args.progress c.self.invariant.kept time.limits made (omega (arith, below, steps)) time.current time.light c.len.ensures.valid }
 
 pub invariant_of-self : goal.invariant_of-self
-invariant_of-self c = c.perform.ensures.kept
+invariant_of-self c =
+    let time = on_time c.self.inside.job c.self.inside.parts c.args.lease c.args.progress c.args.self.now c.is_current.result c.is_over.result c.origin.result.now c.self.view_is c.is_current.ensures c.origin.ensures c.if-not-is_current.false c.is_over.ensures.over c.if-is_over.false c.is_over.ensures.limits in
+    book_after c.self.inside.job c.self.inside.parts c.perform.new.self c.args.lease c.args.progress c.in-Ok.outcome c.in-Ok.ensures.done (short c.self.inside.job c.self.inside.parts c.args.lease c.args.progress time c.len.ensures.valid) c.perform.ensures.kept
 
 pub taken-requires-clause-first : goal.taken-requires-clause-first
 taken-requires-clause-first c =
@@ -57,7 +59,7 @@ taken-requires-clause-few c =
     omega (arith, few, more)
 
 pub invariant_of-self-in-Err : goal.invariant_of-self-in-Err
-invariant_of-self-in-Err c = c.perform.ensures.kept
+invariant_of-self-in-Err c = book_as_before c.self.inside.job c.self.inside.parts c.perform.new.self c.in-Err.ensures.err c.perform.ensures.kept c.self.invariant
 
 pub returns-in-Ok-clause-done : goal.returns-in-Ok-clause-done
 returns-in-Ok-clause-done c =

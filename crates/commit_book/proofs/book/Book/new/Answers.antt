@@ -1,11 +1,18 @@
-use Rattle.std.proofs.Common.{ap, subst, ◌∙◌}
+use Rattle.std.proofs.Common.{◌≡◌, length, ap, sym, subst, ◌∙◌, arith}
+use Rattle.commit_book.specs.declared.counts.Tallies.{Tallies}
+use Rattle.commit_book.specs.Layout.{owed}
+use Rattle.commit_book.proofs.Releasing.{owed_none}
 use Rattle.stab_code.specs.Program.{ProgramParts}
 use Rattle.commit_book.specs.Started.{IsStarted}
 use Rattle.commit_book.proofs.Starting.{start_kept, start_main, start_shown}
 use Rattle.commit_book.proofs.book.Book.new.Goals as goal
 
 pub invariant_of-result : goal.invariant_of-result
-invariant_of-result c = start_kept c.args.job c.in_ok-parts.parts (subst (λ (p : ProgramParts). IsStarted p c.in_ok-parts.parts) (c.deref.ensures ∙ c.program.ensures.value) c.in_ok-parts.ensures)
+invariant_of-result c =
+    let started = subst (λ (p : ProgramParts). IsStarted p c.in_ok-parts.parts) (c.deref.ensures ∙ c.program.ensures.value) c.in_ok-parts.ensures in
+    let none : length c.in_ok-parts.parts.history.events ≡ 0 = ap length started.events in
+    let paid : owed c.in_ok-parts.parts ≡ 0 = owed_none c.in_ok-parts.parts (ap (λ (t : Tallies). t.released) started.tallies ∙ ap (λ (t : Tallies). t.finals) (sym started.tallies)) in
+    record { kept = start_kept c.args.job c.in_ok-parts.parts started; short = omega (arith, none, paid) }
 
 pub returns-clause-shown : goal.returns-clause-shown
 returns-clause-shown c = (start_kept c.args.job c.in_ok-parts.parts (subst (λ (p : ProgramParts). IsStarted p c.in_ok-parts.parts) (c.deref.ensures ∙ c.program.ensures.value) c.in_ok-parts.ensures)).shown

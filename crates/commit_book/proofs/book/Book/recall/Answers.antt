@@ -6,10 +6,13 @@ use Rattle.commit_book.proofs.Lending.{kept_recalled, seen_recalled}
 use Rattle.commit_book.proofs.book.Book.recall.Goals as goal
 
 pub invariant_of-self : goal.invariant_of-self
-invariant_of-self c = kept_recalled c.self.inside.job c.self.inside.parts c.recall.new.self c.self.invariant c.recall.ensures.next c.recall.ensures.threads c.recall.ensures.sound
+invariant_of-self c = record {
+  kept = kept_recalled c.self.inside.job c.self.inside.parts c.recall.new.self c.self.invariant.kept c.recall.ensures.next c.recall.ensures.threads c.recall.ensures.sound;
+  short = c.self.invariant.short;
+}
 
 pub returns-clause-shown : goal.returns-clause-shown
-returns-clause-shown c = (kept_recalled c.self.inside.job c.self.inside.parts c.recall.new.self c.self.invariant c.recall.ensures.next c.recall.ensures.threads c.recall.ensures.sound).shown
+returns-clause-shown c = (kept_recalled c.self.inside.job c.self.inside.parts c.recall.new.self c.self.invariant.kept c.recall.ensures.next c.recall.ensures.threads c.recall.ensures.sound).shown
 
 pub returns-clause-recalled : goal.returns-clause-recalled
 returns-clause-recalled c =
