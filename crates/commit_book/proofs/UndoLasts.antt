@@ -43,7 +43,7 @@ use Rattle.commit_book.specs.OwnSteps.{IsRead}
 use Rattle.commit_book.specs.Rows.{Row, alone, events_by, local_of, numbered_from, section_row, thread, undoes}
 use Rattle.commit_book.specs.Saved.{saved_of}
 use Rattle.commit_book.specs.TakenOut.{IsTakenOut}
-use Rattle.commit_book.specs.Undoing.{IsTakenBack, IsToldOf, begun, is_reached_by, undo_by}
+use Rattle.commit_book.specs.Undoing.{IsTakenBack, IsToldOf, begun, loses_a_step, undo_by}
 use Rattle.commit_book.proofs.Lending.{get-changed}
 use Rattle.commit_book.proofs.MarkEntered.{IsEntry, entered_in, mark_entered}
 use Rattle.commit_book.proofs.RoomHere.{thread_below}
@@ -168,7 +168,7 @@ module _ (job : JobParts) (old : Parts) (lease : LeaseView) (progress : Progress
       touched = is_touched is.lines
 
       -- the touched threads are those that a reached step touches
-      touched_is : (u : ℕ) → is_touched is.lines u ≡ is_reached_by kept.shown.run m u
+      touched_is : (u : ℕ) → is_touched is.lines u ≡ loses_a_step kept.shown.run m u
       touched_is u =
           let rise = stood.rises in
           let nodes = kept.shown.shows.journal.nodes in
@@ -205,7 +205,7 @@ module _ (job : JobParts) (old : Parts) (lease : LeaseView) (progress : Progress
       threads_new u = ap (λ (x : Parts). map.get x.slots.threads u) more ∙ is.threads u
 
       -- who goes back is touched, and is there then
-      back_is : (u : ℕ) → (is_touched is.lines u && goes_back is.lines u) ≡ (is_reached_by kept.shown.run m u && map.contains_key new.slots.threads u)
+      back_is : (u : ℕ) → (is_touched is.lines u && goes_back is.lines u) ≡ (loses_a_step kept.shown.run m u && map.contains_key new.slots.threads u)
       back_is u =
           ap (λ b. b && goes_back is.lines u) (touched_is u)
           ∙ by_line (map.get is.lines u) refl
@@ -213,15 +213,15 @@ module _ (job : JobParts) (old : Parts) (lease : LeaseView) (progress : Progress
           b_mid : BookView
           b_mid = view_of job mid
 
-          by_line : (o : Option plan.Line) → map.get is.lines u ≡ o → (is_reached_by kept.shown.run m u && is_back (map.get is.lines u)) ≡ (is_reached_by kept.shown.run m u && map.contains_key new.slots.threads u)
+          by_line : (o : Option plan.Line) → map.get is.lines u ≡ o → (loses_a_step kept.shown.run m u && is_back (map.get is.lines u)) ≡ (loses_a_step kept.shown.run m u && map.contains_key new.slots.threads u)
           by_line None at = ap (λ b. b && is_back (map.get is.lines u)) off ∙ sym (ap (λ b. b && map.contains_key new.slots.threads u) off)
             where
-              off : is_reached_by kept.shown.run m u ≡ false
+              off : loses_a_step kept.shown.run m u ≡ false
               off = sym (touched_is u) ∙ ap is_some at
           by_line (Some Gone) at =
-              ap (λ b. is_reached_by run m u && b) (ap is_back at ∙ sym (ap is_some (threads_new u ∙ ap (λ l. put_back (λ q. saved_of mid.store.controls q u) l (map.get mid.slots.threads u)) at)))
+              ap (λ b. loses_a_step run m u && b) (ap is_back at ∙ sym (ap is_some (threads_new u ∙ ap (λ l. put_back (λ q. saved_of mid.store.controls q u) l (map.get mid.slots.threads u)) at)))
           by_line (Some (From q)) at =
-              ap (λ b. is_reached_by run m u && b) (ap is_back at ∙ sym (ap is_some (threads_new u ∙ ap (λ l. put_back (λ q. saved_of mid.store.controls q u) l (map.get mid.slots.threads u)) at)
+              ap (λ b. loses_a_step run m u && b) (ap is_back at ∙ sym (ap is_some (threads_new u ∙ ap (λ l. put_back (λ q. saved_of mid.store.controls q u) l (map.get mid.slots.threads u)) at)
               ∙ back_there (map.get mid.slots.threads u) (saved_of mid.store.controls q.0 u) restored
               (line_live (view_of job mid) run kept.shown.state kept.shown.shows stood m revocable ms.nodes reach is.lines is.are u (ap is_some at))
               (line_saved (view_of job mid) run kept.shown.state kept.shown.shows stood m revocable ms.nodes reach is.lines is.are u q.0 at)))
@@ -249,17 +249,17 @@ module _ (job : JobParts) (old : Parts) (lease : LeaseView) (progress : Progress
         survivors = survivors_after job mid kept lease.thread m removed lease.worker ms reach may_undo low out new is pushed struck more;
         queue =
             ap (λ (x : Parts). x.slots.queue) more ∙ is.queue
-            ∙ ap (λ l. l ++ filter (goes_back is.lines) (map.keys is.lines)) (mid_queue ∙ others_same touched (is_reached_by run m) touched_is old.slots.queue)
-            ∙ ap (λ l. others (is_reached_by run m) old.slots.queue ++ l) (tail_is is.lines new.slots.next (λ u. is_reached_by run m u && map.contains_key new.slots.threads u) touched_low back_is);
+            ∙ ap (λ l. l ++ filter (goes_back is.lines) (map.keys is.lines)) (mid_queue ∙ others_same touched (loses_a_step run m) touched_is old.slots.queue)
+            ∙ ap (λ l. others (loses_a_step run m) old.slots.queue ++ l) (tail_is is.lines new.slots.next (λ u. loses_a_step run m u && map.contains_key new.slots.threads u) touched_low back_is);
         untouched = untouched_stay;
         lines = λ c.
             lines_after job mid kept lease.thread m removed lease.worker ms reach may_undo low out new is pushed struck more c
-            ∙ ap (cond (is_unmade (has (reached run m)) c run) None) (is.waiting c ∙ without_same touched (is_reached_by run m) touched_is (map.get mid.offers.lines c) ∙ ap (λ (o : Seen). option_map (without_all (is_reached_by run m)) (map.get o.lines c)) offers_mid);
+            ∙ ap (cond (is_unmade (has (reached run m)) c run) None) (is.waiting c ∙ without_same touched (loses_a_step run m) touched_is (map.get mid.offers.lines c) ∙ ap (λ (o : Seen). option_map (without_all (loses_a_step run m)) (map.get o.lines c)) offers_mid);
         job = refl;
         answered = ap (λ (k : Parts). answers k.tallies) more ∙ ap (λ (k : Tallies). answers k) is.tallies ∙ moved.answered;
       })
         where
-          untouched_stay : (u : ℕ) → is_reached_by kept.shown.run m u ≡ false → map.get new.slots.threads u ≡ map.get old.slots.threads u
+          untouched_stay : (u : ℕ) → loses_a_step kept.shown.run m u ≡ false → map.get new.slots.threads u ≡ map.get old.slots.threads u
           untouched_stay u miss =
               threads_new u
               ∙ ap (λ l. put_back (λ q. saved_of mid.store.controls q u) l (map.get mid.slots.threads u)) (line_untouched run mid.graph.nodes stood.rises kept.shown.shows.journal.nodes m revocable ms.nodes reach u (map.get is.lines u) miss (is.are u))

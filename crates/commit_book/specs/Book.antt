@@ -113,10 +113,11 @@ pub record IsAtStart (b : BookView) : Type 0 where
   pub main : IsSomeAnd (map.get b.threads 1) (λ slot. slot ≡ started slot.control (over b.job.program slot.control))
   pub answered : b.answered ≡ record { commits = 0; stale = 0 }
 
--- with which fault a thread has ended, if it is there and did so with one
+-- the fault that an expression is
 abbrev pub failed_with : Expr → Option Fault
 failed_with (failed k) = Some k
 failed_with e = None
 
+-- with which fault a thread has ended, if it is there and did so with one
 abbrev pub fault_at : BookView → ℕ → Option Fault
 fault_at b t = option_and_then (λ slot. failed_with (expr_of b.job.program slot.control)) (map.get b.threads t)

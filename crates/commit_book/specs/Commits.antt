@@ -36,7 +36,7 @@ line_after t (meets u l) c line = left u line
 line_after t (waits o) c line = joined t o c line
 line_after t _ c line = line
 
--- a commit by the row: with what every book shows, this determines the new book but for what it counts
+-- a commit by the row: with what every book shows, this determines the new book but for the forms of its controls
 pub record IsMoved (old new : BookView) (worker t n : ℕ) (row : Row) : Type 0 where
   -- the steps are pushed, with the lease's worker
   pub history : new.history ≡ record old.history { events = old.history.events ++ events_by worker (local_of t n ++ steps_of t row) }

@@ -17,6 +17,7 @@ use Rattle.commit_book.specs.declared.counts.Counts.{Counts}
 use Rattle.commit_book.specs.Book.{BookView}
 use Rattle.commit_book.specs.Doing.{is_failed}
 
+-- whether an event is an undo
 abbrev pub undoes : What → Bool
 undoes (Undo t m) = true
 undoes _ = false

@@ -20,11 +20,12 @@ refs_in (Get t r) = r.0 ∷ []
 refs_in (Set t r) = r.0 ∷ []
 refs_in _ = []
 
--- what a step names by a function of labels, and a thread by which an undo was made
+-- what a step names by a function of labels
 abbrev pub named_by : (Label → List ℕ) → What → List ℕ
 named_by names (Step l) = names l
 named_by names _ = []
 
+-- the threads that a step touches, and the one by which an undo was made
 abbrev pub threads_by : What → List ℕ
 threads_by (Step l) = touched l
 threads_by (Undo t m) = t.0 ∷ []

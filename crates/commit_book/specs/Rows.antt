@@ -23,7 +23,7 @@ use Rattle.commit_book.specs.Book.{BookView}
 use Rattle.commit_book.specs.Offers.{sends_at, receives_at}
 
 pub data Row : Type 0 where
-  -- the thread goes on or has ended, after a step of its own, if its act is one
+  -- the thread goes on or has ended, by the step of its act, if it stands at one that makes a step
   alone : Option Label → Row
   -- it starts the thread of this number
   starts : ℕ → Row

@@ -49,7 +49,7 @@ abbrev pub requeued : BookView → FinMap nat_cmp (Slot ControlView) → List �
 requeued b threads queue = record b { threads = threads; queue = queue }
 
 -- the lease is the thread's as it is now, and so is the control, which fits the program
-pub record IsLent (b : BookView) (w : ℕ) (l : LeaseView) (c : ControlView) (slot : Slot ControlView) : Type 0 where
+pub record IsLeaseOf (b : BookView) (w : ℕ) (l : LeaseView) (c : ControlView) (slot : Slot ControlView) : Type 0 where
   pub worker : l.worker ≡ w
   pub generation : l.generation ≡ slot.generation
   pub control : c ≡ slot.control
@@ -61,7 +61,7 @@ leased b t = requeued b (changed b.threads t (λ slot. record slot { state = Lea
 
 -- the turn is the one that comes next; with Work the front of the queue is lent, and else nothing changes
 abbrev pub IsTurn : BookView → BookView → ℕ → Turn → Type 0
-IsTurn old new worker (Work lease control) = (choice_of old ≡ choice.Work (record { 0 = lease.thread })) × IsSomeAnd (map.get old.threads lease.thread) (IsLent old worker lease control) × (new ≡ leased old lease.thread)
+IsTurn old new worker (Work lease control) = (choice_of old ≡ choice.Work (record { 0 = lease.thread })) × IsSomeAnd (map.get old.threads lease.thread) (IsLeaseOf old worker lease control) × (new ≡ leased old lease.thread)
 IsTurn old new worker Idle = (choice_of old ≡ choice.Idle) × (new ≡ old)
 IsTurn old new worker Quiet = (choice_of old ≡ choice.Quiet) × (new ≡ old)
 IsTurn old new worker Spent = (choice_of old ≡ choice.Spent) × (new ≡ old)

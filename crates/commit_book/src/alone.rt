@@ -1,11 +1,11 @@
-//! Acts that concern no other thread: print, probe, pin, attempt, and a stabilize outside of sections.
+//! Acts that concern no other thread: print, probe, pin and attempt.
 ghost use Rattle.std.specs.Prelude.{◌≡◌, ◌+◌, ◌<◌, ◌≤◌, length, Some, IfErr, IfOk, OnErr, OnOk, vec_len};
 ghost use Rattle.std.specs.Vec.{vec_capacity};
 ghost use Rattle.stab_journal.specs.Generation.{generation};
 ghost use Rattle.stab_journal.specs.Script.{probed, script_at};
 ghost use Rattle.step_eval.specs.Acts.{first_of};
 ghost use Rattle.step_eval.specs.Asked.{operands_of};
-ghost use Rattle.commit_book.specs.Acting.{AreAsBefore, IsDone, IsPerformed, MayAct, StandsAt};
+ghost use Rattle.commit_book.specs.Acting.{AreAsBefore, IsDone, MayAct, StandsAt};
 ghost use Rattle.commit_book.specs.Layout.{IsKept};
 ghost use Rattle.commit_book.specs.Rows.{alone, thread};
 

@@ -17,8 +17,9 @@ use step_eval::Progress;
 pub const COMMIT_RESERVE: u64 = 1_000_000;
 
 impl Book {
-    /// Ends a lease with what its thread did: the pure steps of the progress, and the act at which it then stands.
-    /// Whoever is met goes on first.
+    /// Ends a lease with what its thread did: the pure steps of the progress, and the act at which it then stands. At
+    /// `stabilize` its section is taken back with all that depends on it, or the thread fails. Whoever is met or started
+    /// comes to the queue before the thread. It is refused for want of memory alone, and nothing has happened then.
     pub fn commit(&mut self, lease: Lease, progress: Progress) -> Result<Done, CommitRefused>
         requires { progress.program ≡ self.old.job.program }
         ensures done { IfOk result (IsCommitted self.old self.new lease progress) }

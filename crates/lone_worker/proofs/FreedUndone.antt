@@ -15,7 +15,7 @@ use Rattle.step_eval.specs.ControlView.{ControlView}
 use Rattle.commit_book.specs.Book.{BookView, IsShown}
 use Rattle.commit_book.specs.Counts.{in_state}
 use Rattle.commit_book.specs.Leases.{LeaseView}
-use Rattle.commit_book.specs.Undoing.{IsTakenBack, begun, is_reached_by}
+use Rattle.commit_book.specs.Undoing.{IsTakenBack, begun, loses_a_step}
 use Rattle.commit_book.proofs.Holding.{low, none_counted, not_true, ready_not_leased}
 use Rattle.lone_worker.specs.Turn.{IsLentAlone}
 use Rattle.lone_worker.proofs.Freed.{in_other}
@@ -44,7 +44,7 @@ in_numbers p (suc n) u under passes = list_any-append (nat_eq u) (numbers p n) (
 module _ (lent new : BookView) (lease : LeaseView) (control : ControlView) (n m : ℕ) (shown : IsShown lent) (shown_new : IsShown new) (is : IsLentAlone lent lease control)
     (taken : IsTakenBack lent (record new { answered = lent.answered }) lease.worker lease.thread n m (begun lent lease.thread n)) where
   abbrev touched : ℕ → Bool
-  touched = is_reached_by (begun lent lease.thread n) m
+  touched = loses_a_step (begun lent lease.thread n) m
 
   abbrev back : ℕ → Bool
   back u = touched u && map.contains_key new.threads u

@@ -28,8 +28,8 @@ use Rattle.commit_book.specs.Book.{BookView, offered}
 use Rattle.commit_book.specs.Commits.{IsMoved, line_after, row_at}
 use Rattle.commit_book.specs.Doing.{waits_with}
 use Rattle.commit_book.specs.Rows.{Row, events_by, local_of, movers, steps_of}
-use Rattle.commit_book.specs.Turns.{IsLent, leased}
-use Rattle.commit_book.specs.Undoing.{begun, is_reached_by, undo_by}
+use Rattle.commit_book.specs.Turns.{IsLeaseOf, leased}
+use Rattle.commit_book.specs.Undoing.{begun, loses_a_step, undo_by}
 use Rattle.commit_book.proofs.Choosing.{chosen_front, found_in}
 use Rattle.commit_book.proofs.Lending.{get-changed}
 use Rattle.commit_book.proofs.Partners.{IsThere, parked_not_ended, parked_not_ready, there_of}
@@ -58,8 +58,8 @@ module _ (a x : BookView) (unlent : IsUnlent a) (after : IsUnlent x) (turn : IsT
   abbrev p : ProgramParts
   p = a.job.program
 
-  pub here : IsThere (map.get a.threads t) (IsLent a worker turn.lease turn.control)
-  here = there_of (map.get a.threads t) (IsLent a worker turn.lease turn.control) turn.leases.1
+  pub here : IsThere (map.get a.threads t) (IsLeaseOf a worker turn.lease turn.control)
+  here = there_of (map.get a.threads t) (IsLeaseOf a worker turn.lease turn.control) turn.leases.1
 
   pub works : IsWorked (leased a t) x turn.lease turn.control
   works = subst (λ (b : BookView). IsWorked b x turn.lease turn.control) turn.leases.2 turn.works
@@ -110,10 +110,10 @@ module _ (a x : BookView) (unlent : IsUnlent a) (after : IsUnlent x) (turn : IsT
     pub events_after : x.history.events ≡ a.history.events ++ events_by worker (local_of t progress.steps) ++ undo_by worker t section ∷ []
     events_after = took.taken.events ∙ ap (λ w. a.history.events ++ events_by w (local_of t progress.steps) ++ undo_by w t section ∷ []) here.is.worker
 
-    pub queue_after : x.queue ≡ others (is_reached_by run section) (without t a.queue) ++ numbers (λ u. is_reached_by run section u && map.contains_key x.threads u) x.next.thread
+    pub queue_after : x.queue ≡ others (loses_a_step run section) (without t a.queue) ++ numbers (λ u. loses_a_step run section u && map.contains_key x.threads u) x.next.thread
     queue_after = took.taken.queue
 
-    pub lines_after : (c : ℕ) → map.get x.offers.lines c ≡ cond (is_unmade (has (reached run section)) c run) None (option_map (without_all (is_reached_by run section)) (map.get a.offers.lines c))
+    pub lines_after : (c : ℕ) → map.get x.offers.lines c ≡ cond (is_unmade (has (reached run section)) c run) None (option_map (without_all (loses_a_step run section)) (map.get a.offers.lines c))
     lines_after = took.taken.lines
 
   -- ---- where its row moved threads

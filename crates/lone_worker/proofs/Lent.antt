@@ -15,7 +15,7 @@ use Rattle.commit_book.specs.Book.{BookView, IsShown, over, offered}
 use Rattle.commit_book.specs.Counts.{in_state}
 use Rattle.commit_book.specs.Doing.{IsDoing}
 use Rattle.commit_book.specs.Leases.{LeaseView}
-use Rattle.commit_book.specs.Turns.{IsLent, IsTurn}
+use Rattle.commit_book.specs.Turns.{IsLeaseOf, IsTurn}
 use Rattle.commit_book.proofs.Choosing.{chosen_front}
 use Rattle.commit_book.proofs.Chosen.{chosen_light}
 use Rattle.commit_book.proofs.Lending.{get-changed}
@@ -48,8 +48,8 @@ module _ (old lent : BookView) (lease : LeaseView) (control : ControlView) (show
   abbrev to_leased : Slot ControlView → Slot ControlView
   to_leased slot = record slot { state = Leased }
 
-  here : IsThere (map.get old.threads t) (IsLent old worker lease control)
-  here = there_of (map.get old.threads t) (IsLent old worker lease control) turn.1
+  here : IsThere (map.get old.threads t) (IsLeaseOf old worker lease control)
+  here = there_of (map.get old.threads t) (IsLeaseOf old worker lease control) turn.1
 
   front : slice_get old.queue 0 ≡ Some t
   front = chosen_front old (record { 0 = t }) turn.0

@@ -30,7 +30,7 @@ use Rattle.commit_book.specs.Book.{BookView, IsShown}
 use Rattle.commit_book.specs.Commits.{IsMoved, line_after}
 use Rattle.commit_book.specs.Rows.{Row, events_by, local_of, movers, numbered_from, row_of, section_row, steps_of, undoes}
 use Rattle.commit_book.specs.Turns.{leased}
-use Rattle.commit_book.specs.Undoing.{is_reached_by, undo_by}
+use Rattle.commit_book.specs.Undoing.{loses_a_step, undo_by}
 use Rattle.lone_worker.specs.Desk.{Desk, Seat, IsUnlent, desk_of, seat_of}
 use Rattle.lone_worker.specs.Turn.{IsTurnOf, worker}
 use Rattle.lone_worker.proofs.LeftByTurn as left
@@ -140,13 +140,13 @@ module _ (a b x y : BookView) (unlent_a : IsUnlent a) (unlent_b : IsUnlent b) (u
     queue_after : x.queue ≡ y.queue
     queue_after =
         left.queue_after a x unlent_a unlent_x turn_a took_a
-        ∙ (λ i. others (is_reached_by (run i) (section i)) (without (thread i) (same i).queue) ++ numbers (λ k. is_reached_by (run i) (section i) k && there k i) (next i).thread)
+        ∙ (λ i. others (loses_a_step (run i) (section i)) (without (thread i) (same i).queue) ++ numbers (λ k. loses_a_step (run i) (section i) k && there k i) (next i).thread)
         ∙ sym (left.queue_after b y unlent_b unlent_y turn_b took_b)
 
     line_after_undo : (c : ℕ) → map.get x.offers.lines c ≡ map.get y.offers.lines c
     line_after_undo c =
         left.lines_after a x unlent_a unlent_x turn_a took_a c
-        ∙ (λ i. cond (is_unmade (has (reached (run i) (section i))) c (run i)) None (option_map (without_all (is_reached_by (run i) (section i))) (map.get (same i).offers.lines c)))
+        ∙ (λ i. cond (is_unmade (has (reached (run i) (section i))) c (run i)) None (option_map (without_all (loses_a_step (run i) (section i))) (map.get (same i).offers.lines c)))
         ∙ sym (left.lines_after b y unlent_b unlent_y turn_b took_b c)
 
     both_undone : desk_of x ≡ desk_of y

@@ -18,7 +18,7 @@ use Rattle.journal_laws.proofs.Undone.{stands_run}
 use Rattle.commit_book.specs.Book.{BookView, IsShown}
 use Rattle.commit_book.specs.Rows.{events_by, local_of, numbered_from, thread}
 use Rattle.commit_book.specs.Step.{next_seq}
-use Rattle.commit_book.specs.Undoing.{IsTakenBack, begun, is_reached_by, undo_by}
+use Rattle.commit_book.specs.Undoing.{IsTakenBack, begun, loses_a_step, undo_by}
 use Rattle.commit_book.proofs.MarkEntered.{IsEntry, mark_entered}
 use Rattle.commit_book.proofs.UndoneLines.{hit_here}
 
@@ -124,7 +124,7 @@ module _ (lent new : BookView) (worker t n m : ℕ) (shown : IsShown lent) (show
       let stood = stands_run new.job.program (lent.history.events ++ locals worker t n) may.run may.state may.stands in
       subst (IsEntry t m) (stood.0 ∙ sym (run_begun lent worker t n left)) (mark_entered new.job.program may.state may.run stood.1 t m may.may.mark)
 
-  pub own_touched : is_reached_by (begun lent t n) m t ≡ true
+  pub own_touched : loses_a_step (begun lent t n) m t ≡ true
   own_touched =
       let goes : has (reached run m) m ≡ true = ap (λ r. has (reached r m) m) entry.is ∙ reached_itself m nothing_lost entry.before entry.n entry.after entry.number in
       ap (is_hit (has (reached run m)) t) entry.is
