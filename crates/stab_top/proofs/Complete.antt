@@ -2,9 +2,9 @@
 use Rattle.std.proofs.Common.{arith, ◌≡◌, ◌⊎◌, inl, inr, ℕ, ℤ, ◌<◌, true, List, [], length, Option, Some, None, Result, Ok, Err, IfSome, IsSomeAnd, refl, ap, sym, subst, ◌∙◌}
 use Rattle.plain_language.specs.Plain.{PlainState}
 use Rattle.commit_book.specs.Book.{BookView}
-use Rattle.flat_program.specs.Flat.{IsFlat}
 use Rattle.probe_text.specs.declared.fault.ProbesFault.{ProbesFault}
 use Rattle.probe_text.specs.Probes as probes
+use Rattle.stab_code.specs.JobParts.{JobParts, job_of}
 use Rattle.stab_code.specs.Program.{ProgramParts}
 use Rattle.stab_files.specs.Entry.{Entry, contents_of}
 use Rattle.stab_journal.specs.Journal.{Journal}
@@ -27,10 +27,10 @@ use Rattle.stab_top.specs.declared.report.Status.{Status}
 use Rattle.stab_top.specs.declared.report.Status.TheVariants.{Done, Held, BadWords, BadText, NoFile, TooBig, FileFault, SinkFault, Spent, NoMemory, BadProbes, BadTrace, BadScript, No, NotBuilt}
 use Rattle.stab_top.specs.Words.{is_built}
 use Rattle.stab_top.specs.Device.{Device}
-use Rattle.stab_top.specs.Ending.{CheckEnds, IsJudged, IsTold, RunEnds, VerdictEnds, shown_by, trace_by}
+use Rattle.stab_top.specs.Ending.{AsReleased, AtTheEnd, CheckEnds, IsJudged, IsTold, RunEnds, VerdictEnds, shown_by}
 use Rattle.stab_top.specs.Loading.{Finds, LoadRefused, Loads, max_bytes}
 use Rattle.stab_top.specs.Reading.{Blames, Form, HaveFault, Holds, ReadRefused, probes_form, program_form, trace_form}
-use Rattle.stab_top.specs.Call.{BuiltSays, Call, CheckSays, CountedFault, LastSays, ReadSays, RequestSays, RunSaysBy, Says, ScriptSays, TraceSays, VerifySays, WordsSay, status_of}
+use Rattle.stab_top.specs.Call.{BuiltSays, Call, CheckSays, CountedFault, LastSays, ReadSays, RequestSays, RunSaysBy, Says, ScriptSays, TraceSays, VerifySays, WordsSay, Writing, status_of}
 use Rattle.stab_top.specs.Complete.{Checked, IsHeld, IsHeldFor, IsRefused, IsScriptFor, Ran, WasJudged}
 
 -- what is found, where the files tell
@@ -143,22 +143,39 @@ failed_checked : (c : Call) → Failed (status_of c) c → Checked (status_of c)
 failed_checked c (inl none) = inl (subst Checked (sym none) tt)
 failed_checked c (inr counted) = inr counted
 
-ran : (text_by : BookView → PlainState → List ℕ) (status : Status) (c : Call) (args : RunArgs) (program : ProgramParts) (script : List ℤ) → IsFlat program → RunEnds text_by status args program script c.outcome → Ran status ⊎ CountedFault c
-ran text_by Done c args program script is says = inl tt
-ran text_by Held c args program script is says = inl tt
-ran text_by BadWords c args program script is says = elim says.end.0 [ ]
-ran text_by BadText c args program script is says = elim says.end.0 [ ]
-ran text_by NoFile c args program script is says = elim says.end.0 [ ]
-ran text_by TooBig c args program script is says = elim says.end.0 [ ]
-ran text_by FileFault c args program script is says = elim says.end.0 [ ]
-ran text_by SinkFault c args program script is says = inr (inr says.end.1.1)
-ran text_by Spent c args program script is says = inl tt
-ran text_by NoMemory c args program script is says = inl tt
-ran text_by BadProbes c args program script is says = elim says.end.0 [ ]
-ran text_by BadTrace c args program script is says = elim says.end.0 [ ]
-ran text_by BadScript c args program script is says = elim says.end.0 [ ]
-ran text_by No c args program script is says = elim says.end.0 [ ]
-ran text_by NotBuilt c args program script is says = absurd (says.0 is)
+ran : (text_by : BookView → PlainState → List ℕ) (status : Status) (c : Call) (job : JobParts) → RunEnds (AsReleased text_by) status job c.outcome → Ran status ⊎ CountedFault c
+ran text_by Done c job says = inl tt
+ran text_by Held c job says = inl tt
+ran text_by BadWords c job says = elim says.writes.rest [ ]
+ran text_by BadText c job says = elim says.writes.rest [ ]
+ran text_by NoFile c job says = elim says.writes.rest [ ]
+ran text_by TooBig c job says = elim says.writes.rest [ ]
+ran text_by FileFault c job says = elim says.writes.rest [ ]
+ran text_by SinkFault c job says = inr (inr says.writes.1)
+ran text_by Spent c job says = inl tt
+ran text_by NoMemory c job says = inl tt
+ran text_by BadProbes c job says = elim says.writes.rest [ ]
+ran text_by BadTrace c job says = elim says.writes.rest [ ]
+ran text_by BadScript c job says = elim says.writes.rest [ ]
+ran text_by No c job says = elim says.writes.rest [ ]
+ran text_by NotBuilt c job says = elim says.writes.rest [ ]
+
+traced : (status : Status) (c : Call) (job : JobParts) → RunEnds AtTheEnd status job c.outcome → Ran status ⊎ CountedFault c
+traced Done c job says = inl tt
+traced Held c job says = inl tt
+traced BadWords c job says = elim says.writes.rest [ ]
+traced BadText c job says = elim says.writes.rest [ ]
+traced NoFile c job says = elim says.writes.rest [ ]
+traced TooBig c job says = elim says.writes.rest [ ]
+traced FileFault c job says = elim says.writes.rest [ ]
+traced SinkFault c job says = inr (inr says.writes.1.1)
+traced Spent c job says = inl tt
+traced NoMemory c job says = inl tt
+traced BadProbes c job says = elim says.writes.rest [ ]
+traced BadTrace c job says = elim says.writes.rest [ ]
+traced BadScript c job says = elim says.writes.rest [ ]
+traced No c job says = elim says.writes.rest [ ]
+traced NotBuilt c job says = elim says.writes.rest [ ]
 
 checked : (status : Status) (c : Call) (program : ProgramParts) → CheckEnds status program c.outcome → Checked status ⊎ CountedFault c
 checked Done c program says = inl tt
@@ -177,10 +194,10 @@ checked BadScript c program says = elim says [ ]
 checked No c program says = elim says [ ]
 checked NotBuilt c program says = elim says [ ]
 
-run_came : (text_by : BookView → PlainState → List ℕ) (c : Call) (args : RunArgs) (program : ProgramParts) (script : List ℤ) → IsFlat program → Failed (status_of c) c ⊎ RunEnds text_by (status_of c) args program script c.outcome
+run_came : (writes : Writing) → ((status : Status) (c : Call) (job : JobParts) → RunEnds writes status job c.outcome → Ran status ⊎ CountedFault c) → (c : Call) (job : JobParts) → Failed (status_of c) c ⊎ RunEnds writes (status_of c) job c.outcome
     → Ran (status_of c) ⊎ CountedFault c
-run_came text_by c args program script is (inl failed) = failed_ran c failed
-run_came text_by c args program script is (inr ends) = ran text_by (status_of c) c args program script is ends
+run_came writes came c job (inl failed) = failed_ran c failed
+run_came writes came c job (inr ends) = came (status_of c) c job ends
 
 check_came : (c : Call) (program : ProgramParts) → Failed (status_of c) c ⊎ CheckEnds (status_of c) program c.outcome → Checked (status_of c) ⊎ CountedFault c
 check_came c program (inl failed) = failed_checked c failed
@@ -192,48 +209,48 @@ request_said words c request says is built =
     let here : RequestSays (is_built request) c request = subst (λ (r : Result Request WordFault). WordsSay r c) is says in
     subst (λ b. RequestSays b c request) built here
 
-module _ (text_by : BookView → PlainState → List ℕ) (c : Call) (args : RunArgs) (bytes : List ℕ) (program : ProgramParts) (held : IsHeld roles.Program c args.file bytes) (text : IsTextOf bytes program) where
+module _ (writes : Writing) (c : Call) (args : RunArgs) (bytes : List ℕ) (program : ProgramParts) (held : IsHeld roles.Program c args.file bytes) (text : IsTextOf bytes program) where
   behind : (name : List ℕ) (script : List ℤ) (probe_bytes : List ℕ) → IsHeld roles.Probes c name probe_bytes → probes.reading probe_bytes ≡ Ok script
-      → Failed (status_of c) c ⊎ LastSays probes_form c name (λ s. RunEnds text_by (status_of c) args program s c.outcome) → Failed (status_of c) c ⊎ RunEnds text_by (status_of c) args program script c.outcome
+      → Failed (status_of c) c ⊎ LastSays probes_form c name (λ s. RunEnds writes (status_of c) (job_of program s args.fuel args.quantum) c.outcome) → Failed (status_of c) c ⊎ RunEnds writes (status_of c) (job_of program script args.fuel args.quantum) c.outcome
   behind name script probe_bytes there reads (inl failed) = inl failed
-  behind name script probe_bytes there reads (inr says) = script_said c name probe_bytes script there reads c.files_after (λ s. RunEnds text_by (status_of c) args program s c.outcome) says
+  behind name script probe_bytes there reads (inr says) = script_said c name probe_bytes script there reads c.files_after (λ s. RunEnds writes (status_of c) (job_of program s args.fuel args.quantum) c.outcome) says
 
   -- what is said of a run of a program and a script that are held
-  run_said : (named : Option (List ℕ)) (script : List ℤ) → IsScriptFor c named script → RunSaysBy text_by c args named → Failed (status_of c) c ⊎ RunEnds text_by (status_of c) args program script c.outcome
+  run_said : (named : Option (List ℕ)) (script : List ℤ) → IsScriptFor c named script → RunSaysBy writes c args named → Failed (status_of c) c ⊎ RunEnds writes (status_of c) (job_of program script args.fuel args.quantum) c.outcome
   run_said None script is says =
-      subst (λ s. Failed (status_of c) c ⊎ RunEnds text_by (status_of c) args program s c.outcome) (sym is)
-      (program_said c args.file bytes program held text c.files_after (λ p. RunEnds text_by (status_of c) args p [] c.outcome) says)
+      subst (λ s. Failed (status_of c) c ⊎ RunEnds writes (status_of c) (job_of program s args.fuel args.quantum) c.outcome) (sym is)
+      (program_said c args.file bytes program held text c.files_after (λ p. RunEnds writes (status_of c) (job_of p [] args.fuel args.quantum) c.outcome) says)
   run_said (Some name) script is says =
-      behind name script is.0 is.1 is.2 (program_said c args.file bytes program held text c.files.faults (λ p. LastSays probes_form c name (λ s. RunEnds text_by (status_of c) args p s c.outcome)) says)
+      behind name script is.0 is.1 is.2 (program_said c args.file bytes program held text c.files.faults (λ p. LastSays probes_form c name (λ s. RunEnds writes (status_of c) (job_of p s args.fuel args.quantum) c.outcome)) says)
 
   probes_of_run : (name probe_bytes : List ℕ) (fault : ProbesFault) → IsHeld roles.Probes c name probe_bytes → probes.reading probe_bytes ≡ Err fault
-      → Failed (status_of c) c ⊎ LastSays probes_form c name (λ s. RunEnds text_by (status_of c) args program s c.outcome) → IsRefused probes_form c fault ⊎ CountedFault c
+      → Failed (status_of c) c ⊎ LastSays probes_form c name (λ s. RunEnds writes (status_of c) (job_of program s args.fuel args.quantum) c.outcome) → IsRefused probes_form c fault ⊎ CountedFault c
   probes_of_run name probe_bytes fault there has (inl failed) = failed_refused probes_form c name probe_bytes there fault failed
   probes_of_run name probe_bytes fault there has (inr says) =
-      fault_refused probes_form c name probe_bytes there fault (λ s is. not_ok s fault (sym is ∙ has)) (λ other is. err_is other fault (sym is ∙ has)) c.files_after (λ s. RunEnds text_by (status_of c) args program s c.outcome) says
+      fault_refused probes_form c name probe_bytes there fault (λ s is. not_ok s fault (sym is ∙ has)) (λ other is. err_is other fault (sym is ∙ has)) c.files_after (λ s. RunEnds writes (status_of c) (job_of program s args.fuel args.quantum) c.outcome) says
 
   bad_probes_said : (named : Option (List ℕ)) (name probe_bytes : List ℕ) (fault : ProbesFault) → named ≡ Some name → IsHeld roles.Probes c name probe_bytes → probes.reading probe_bytes ≡ Err fault
-      → RunSaysBy text_by c args named → IsRefused probes_form c fault ⊎ CountedFault c
+      → RunSaysBy writes c args named → IsRefused probes_form c fault ⊎ CountedFault c
   bad_probes_said named name probe_bytes fault is there has says =
       probes_of_run name probe_bytes fault there has
-      (program_said c args.file bytes program held text c.files.faults (λ p. LastSays probes_form c name (λ s. RunEnds text_by (status_of c) args p s c.outcome)) (subst (RunSaysBy text_by c args) is says))
+      (program_said c args.file bytes program held text c.files.faults (λ p. LastSays probes_form c name (λ s. RunEnds writes (status_of c) (job_of p s args.fuel args.quantum) c.outcome)) (subst (RunSaysBy writes c args) is says))
 
 pub good_program_runs : (words : List (List ℕ)) (c : Call) (args : RunArgs) (bytes : List ℕ) (program : ProgramParts) (script : List ℤ) → Says words c → asked words ≡ Ok (Run args) →
-    IsHeld roles.Program c args.file bytes → IsTextOf bytes program → IsScriptFor c args.probes script → IsFlat program → Ran (status_of c) ⊎ CountedFault c
-good_program_runs words c args bytes program script says is held text for_script flat =
-    run_came shown_by c args program script flat (run_said shown_by c args bytes program held text args.probes script for_script (request_said words c (Run args) says is refl))
+    IsHeld roles.Program c args.file bytes → IsTextOf bytes program → IsScriptFor c args.probes script → Ran (status_of c) ⊎ CountedFault c
+good_program_runs words c args bytes program script says is held text for_script =
+    run_came (AsReleased shown_by) (ran shown_by) c (job_of program script args.fuel args.quantum) (run_said (AsReleased shown_by) c args bytes program held text args.probes script for_script (request_said words c (Run args) says is refl))
 
 pub good_program_is_traced : (words : List (List ℕ)) (c : Call) (args : RunArgs) (bytes : List ℕ) (program : ProgramParts) (script : List ℤ) → Says words c → asked words ≡ Ok (Trace args) →
-    IsHeld roles.Program c args.file bytes → IsTextOf bytes program → IsScriptFor c args.probes script → IsFlat program → Ran (status_of c) ⊎ CountedFault c
-good_program_is_traced words c args bytes program script says is held text for_script flat =
-    run_came trace_by c args program script flat (run_said trace_by c args bytes program held text args.probes script for_script (request_said words c (Trace args) says is refl))
+    IsHeld roles.Program c args.file bytes → IsTextOf bytes program → IsScriptFor c args.probes script → Ran (status_of c) ⊎ CountedFault c
+good_program_is_traced words c args bytes program script says is held text for_script =
+    run_came AtTheEnd traced c (job_of program script args.fuel args.quantum) (run_said AtTheEnd c args bytes program held text args.probes script for_script (request_said words c (Trace args) says is refl))
 
 pub run_with_bad_probes : (words : List (List ℕ)) (c : Call) (args : RunArgs) (text name bytes : List ℕ) (program : ProgramParts) (fault : ProbesFault) → Says words c → (asked words ≡ Ok (Run args)) ⊎ (asked words ≡ Ok (Trace args)) →
     IsHeld roles.Program c args.file text → IsTextOf text program → args.probes ≡ Some name → IsHeld roles.Probes c name bytes → probes_form.HasFault bytes fault → IsRefused probes_form c fault ⊎ CountedFault c
 run_with_bad_probes words c args text name bytes program fault says (inl is) held of named there has =
-    bad_probes_said shown_by c args text program held of args.probes name bytes fault named there has (request_said words c (Run args) says is refl)
+    bad_probes_said (AsReleased shown_by) c args text program held of args.probes name bytes fault named there has (request_said words c (Run args) says is refl)
 run_with_bad_probes words c args text name bytes program fault says (inr is) held of named there has =
-    bad_probes_said trace_by c args text program held of args.probes name bytes fault named there has (request_said words c (Trace args) says is refl)
+    bad_probes_said AtTheEnd c args text program held of args.probes name bytes fault named there has (request_said words c (Trace args) says is refl)
 
 pub good_program_checks : (words : List (List ℕ)) (c : Call) (file bytes : List ℕ) (program : ProgramParts) → Says words c → asked words ≡ Ok (Check file) →
     IsHeld roles.Program c file bytes → IsTextOf bytes program → Checked (status_of c) ⊎ CountedFault c
@@ -317,14 +334,14 @@ text_with_fault : (c : Call) (name bytes : List ℕ) (fault : TextFault) (faults
 text_with_fault c name bytes fault faults Said is has says =
     fault_refused program_form c name bytes is fault (λ p text. not_both bytes p fault text has) (λ other same. one_fault bytes other fault same has) faults Said says
 
-run_with_fault : (text_by : BookView → PlainState → List ℕ) (c : Call) (args : RunArgs) (named : Option (List ℕ)) (bytes : List ℕ) (fault : TextFault) → RunSaysBy text_by c args named → IsHeld roles.Program c args.file bytes → HasFault bytes fault
+run_with_fault : (writes : Writing) (c : Call) (args : RunArgs) (named : Option (List ℕ)) (bytes : List ℕ) (fault : TextFault) → RunSaysBy writes c args named → IsHeld roles.Program c args.file bytes → HasFault bytes fault
     → IsRefused program_form c fault ⊎ CountedFault c
-run_with_fault text_by c args None bytes fault says is has = text_with_fault c args.file bytes fault c.files_after (λ p. RunEnds text_by (status_of c) args p [] c.outcome) is has says
-run_with_fault text_by c args (Some name) bytes fault says is has = text_with_fault c args.file bytes fault c.files.faults (λ p. LastSays probes_form c name (λ s. RunEnds text_by (status_of c) args p s c.outcome)) is has says
+run_with_fault writes c args None bytes fault says is has = text_with_fault c args.file bytes fault c.files_after (λ p. RunEnds writes (status_of c) (job_of p [] args.fuel args.quantum) c.outcome) is has says
+run_with_fault writes c args (Some name) bytes fault says is has = text_with_fault c args.file bytes fault c.files.faults (λ p. LastSays probes_form c name (λ s. RunEnds writes (status_of c) (job_of p s args.fuel args.quantum) c.outcome)) is has says
 
 request_with_fault : (c : Call) (request : Request) (bytes : List ℕ) (fault : TextFault) → BuiltSays c request → IsHeldFor c request bytes → HasFault bytes fault → IsRefused program_form c fault ⊎ CountedFault c
-request_with_fault c (Run args) bytes fault says is has = run_with_fault shown_by c args args.probes bytes fault says is has
-request_with_fault c (Trace args) bytes fault says is has = run_with_fault trace_by c args args.probes bytes fault says is has
+request_with_fault c (Run args) bytes fault says is has = run_with_fault (AsReleased shown_by) c args args.probes bytes fault says is has
+request_with_fault c (Trace args) bytes fault says is has = run_with_fault AtTheEnd c args args.probes bytes fault says is has
 request_with_fault c (Verify args) bytes fault says is has = text_with_fault c args.file bytes fault c.files.faults (λ p. ScriptSays c args.probes (λ s. TraceSays c args.trace p s)) is has says
 request_with_fault c (Check file) bytes fault says is has = text_with_fault c file bytes fault c.files_after (λ p. CheckEnds (status_of c) p c.outcome) is has says
 request_with_fault c (Drill args) bytes fault says is has = elim is [ ]

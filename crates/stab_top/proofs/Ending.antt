@@ -1,84 +1,251 @@
--- What a status says of a run that is over.
-use Rattle.std.proofs.Common.{◌≡◌, ◌∙◌, inl, inr, ℕ, ℤ, List, Some, sym, subst}
-use Rattle.plain_language.specs.Plain.{PlainState, language_of}
-use Rattle.plain_language.specs.Quiet.{IsQuiet}
-use Rattle.commit_book.specs.Book.{BookView}
-use Rattle.stab_code.specs.JobParts.{job_of}
-use Rattle.stab_code.specs.Program.{ProgramParts}
+-- What a status says of a job that was run.
+use Rattle.std.proofs.Common.{◌≡◌, ◌⊎◌, ◌∙◌, inl, inr, ℕ, List, [], ◌++◌, take, drop, Option, Some, None, Result, Ok, Err, IfOk, IfErr, refl, sym, ap, subst, append-nil, append_assoc}
+use Rattle.std.specs.List.{flat_map}
+use Rattle.std.specs.FinMap as map
+use Rattle.std.proofs.lemmas.Grind.{flat_map-append}
+use Rattle.std.proofs.lemmas.List.{take-append-drop}
+use Rattle.stab_base.specs.Datum.{Datum}
+use Rattle.stab_base.specs.Gain.{SomePrefix}
+use Rattle.stab_base.specs.Printed.{printed}
+use Rattle.stab_base.proofs.GainLemmas.{SomePrefix-append}
+use Rattle.stab_code.specs.JobParts.{JobParts}
 use Rattle.stab_files.specs.Count.{Rose}
 use Rattle.stab_files.specs.Told.{Appends, AppendsPrefix}
-use Rattle.stab_words.specs.declared.request.RunArgs.{RunArgs}
+use Rattle.stab_files.proofs.Puts.{appends_trans}
+use Rattle.stab_journal.specs.Due.{released}
+use Rattle.stab_journal.specs.Journal.{survivors}
+use Rattle.plain_language.specs.Plain.{PlainState, end_of}
+use Rattle.plain_language.specs.Shown.{line, shown, value_lines}
+use Rattle.commit_book.specs.Book.{BookView, IsShown}
+use Rattle.book_text.specs.Written.{IsRestText, released_lines}
+use Rattle.trace_text.specs.Text.{trace}
+use Rattle.stab_top.specs.declared.playing.Stop.{Stop}
+use Rattle.stab_top.specs.declared.playing.Stop.TheVariants as stops
 use Rattle.stab_top.specs.declared.report.Status.{Status}
 use Rattle.stab_top.specs.declared.report.Status.TheVariants.{Done, Held, BadWords, BadText, NoFile, TooBig, FileFault, SinkFault, Spent, NoMemory, BadProbes, BadTrace, BadScript, No, NotBuilt}
-use Rattle.stab_top.specs.Device.{Device, Gains, GainsPrefix}
-use Rattle.stab_top.specs.Ending.{EndSays, IsOver, IsRunOf, IsUnrun, Outcome, Refuses, RestSays, RunEnds, WritesOf}
+use Rattle.stab_top.specs.Device.{Device, Gains, GainsPrefix, Rests}
+use Rattle.stab_top.specs.Ending.{AsReleased, AtTheEnd, Ends, HasReleases, IsOver, IsRunOf, IsWritten, Outcome, Refuses, RestSays, RunEnds, WritesReleases, mill_line, milled_by, shown_by, text_with}
+use Rattle.stab_top.specs.Playing.{HasRun, HasStopped, IsTextBehind, StopSays, WritesOf, line_behind}
 use Rattle.stab_top.specs.Reason.{blame_of, no_blame}
+use Rattle.stab_top.proofs.Led.{leads}
+use Rattle.stab_top.proofs.Played.{has_all}
 
--- the end of a run, of which this text is written, is what its status says
-pub ended : (text_by : BookView → PlainState → List ℕ) (status : Status) (args : RunArgs) (program : ProgramParts) (script : List ℤ) (o : Outcome) (book : BookView) (state : PlainState) → o.report.book ≡ Some book → blame_of o.report ≡ no_blame →
-    IsRunOf args program script book state → EndSays status book state (text_by book state) o → RunEnds text_by status args program script o
-ended text_by Done args program script o book state reported blame run end = record { book = book; state = state; reported = reported; blame = blame; run = run; end = end }
-ended text_by Held args program script o book state reported blame run end = record { book = book; state = state; reported = reported; blame = blame; run = run; end = end }
-ended text_by BadWords args program script o book state reported blame run end = elim end.0 [ ]
-ended text_by BadText args program script o book state reported blame run end = elim end.0 [ ]
-ended text_by NoFile args program script o book state reported blame run end = elim end.0 [ ]
-ended text_by TooBig args program script o book state reported blame run end = elim end.0 [ ]
-ended text_by FileFault args program script o book state reported blame run end = elim end.0 [ ]
-ended text_by SinkFault args program script o book state reported blame run end = record { book = book; state = state; reported = reported; blame = blame; run = run; end = end }
-ended text_by Spent args program script o book state reported blame run end = record { book = book; state = state; reported = reported; blame = blame; run = run; end = end }
-ended text_by NoMemory args program script o book state reported blame run end = elim end.0 [ ]
-ended text_by BadProbes args program script o book state reported blame run end = elim end.0 [ ]
-ended text_by BadTrace args program script o book state reported blame run end = elim end.0 [ ]
-ended text_by BadScript args program script o book state reported blame run end = elim end.0 [ ]
-ended text_by No args program script o book state reported blame run end = elim end.0 [ ]
-ended text_by NotBuilt args program script o book state reported blame run end = elim end.0 [ ]
+-- ---- the report
 
--- the program wasn't run, and nothing was written
-pub refused : (text_by : BookView → PlainState → List ℕ) (status said : Status) (args : RunArgs) (program : ProgramParts) (script : List ℤ) (o : Outcome) → status ≡ said → IsUnrun said program → Refuses o no_blame → RunEnds text_by status args program script o
-refused text_by status said args program script o same (inl (is, other)) nothing = subst (λ s. RunEnds text_by s args program script o) (sym (same ∙ is)) (other, nothing)
-refused text_by status said args program script o same (inr is) nothing = subst (λ s. RunEnds text_by s args program script o) (sym (same ∙ is)) nothing
+module _ (writes : Status → BookView → PlainState → Outcome → Type 0) where
+  ended : (status : Status) (job : JobParts) (o : Outcome) → Ends writes status job o → RunEnds writes status job o
+  ended Done job o e = e
+  ended Held job o e = e
+  ended BadWords job o e = e
+  ended BadText job o e = e
+  ended NoFile job o e = e
+  ended TooBig job o e = e
+  ended FileFault job o e = e
+  ended SinkFault job o e = e
+  ended Spent job o e = e
+  ended NoMemory job o e = inr e
+  ended BadProbes job o e = e
+  ended BadTrace job o e = e
+  ended BadScript job o e = e
+  ended No job o e = e
+  ended NotBuilt job o e = e
 
--- the text of a run that is over was written whole
-pub written : (status : Status) (book : BookView) (state : PlainState) (text : List ℕ) (o : Outcome) → RestSays status book state → Gains o.sink o.sink_after text → EndSays status book state text o
-written Done book state text o rest gains = (rest, gains)
-written Held book state text o rest gains = (rest, gains)
-written BadWords book state text o rest gains = (rest, gains)
-written BadText book state text o rest gains = (rest, gains)
-written NoFile book state text o rest gains = (rest, gains)
-written TooBig book state text o rest gains = (rest, gains)
-written FileFault book state text o rest gains = (rest, gains)
-written SinkFault book state text o rest gains = elim rest [ ]
-written Spent book state text o rest gains = (rest, gains)
-written NoMemory book state text o rest gains = (rest, gains)
-written BadProbes book state text o rest gains = (rest, gains)
-written BadTrace book state text o rest gains = (rest, gains)
-written BadScript book state text o rest gains = (rest, gains)
-written No book state text o rest gains = (rest, gains)
-written NotBuilt book state text o rest gains = (rest, gains)
+  -- the report has the book
+  pub with_book : (status said : Status) (job : JobParts) (o : Outcome) (book : BookView) (state : PlainState) → status ≡ said → o.report.book ≡ Some book → blame_of o.report ≡ no_blame → IsRunOf job book state → writes said book state o → RunEnds writes status job o
+  with_book status said job o book state is reported blame run wrote =
+      subst (λ s. RunEnds writes s job o) (sym is) (ended said job o (record { book = book; state = state; reported = reported; blame = blame; run = run; writes = wrote }))
 
--- the text of a run that is over was cut short
-pub cut_short : (status : Status) (book : BookView) (state : PlainState) (text : List ℕ) (o : Outcome) → status ≡ SinkFault → IsOver book state → GainsPrefix o.sink o.sink_after text → EndSays status book state text o
-cut_short status book state text o is over prefix = subst (λ s. EndSays s book state text o) (sym is) (over, prefix)
+  -- there was no memory
+  pub without_book : (status : Status) (job : JobParts) (o : Outcome) → status ≡ NoMemory → Refuses o no_blame → RunEnds writes status job o
+  without_book status job o is nothing = subst (λ s. RunEnds writes s job o) (sym is) (inl nothing)
+
+-- ---- a text that was written whole
+
+gains_on : (a b c : Device (List ℕ)) (first second : List ℕ) → Gains a b first → Gains b c second → Gains a c (first ++ second)
+gains_on a b c first second x y = (appends_trans a.told b.told c.told first second x.0 y.0, y.1 ∙ x.1)
+
+module _ (text_by : BookView → PlainState → List ℕ) (book : BookView) (state : PlainState) (o : Outcome) where
+  whole_by : (status : Status) → IsWritten status book state (text_by book state) o → AsReleased text_by status book state o
+  whole_by Done w = w
+  whole_by Held w = w
+  whole_by BadWords w = w
+  whole_by BadText w = w
+  whole_by NoFile w = w
+  whole_by TooBig w = w
+  whole_by FileFault w = w
+  whole_by SinkFault w = elim w.rest [ ]
+  whole_by Spent w = w
+  whole_by NoMemory w = elim w.rest [ ]
+  whole_by BadProbes w = w
+  whole_by BadTrace w = w
+  whole_by BadScript w = w
+  whole_by No w = w
+  whole_by NotBuilt w = w
+
+module _ (book : BookView) (state : PlainState) (o : Outcome) where
+  pub trace_whole : (status : Status) → IsWritten status book state (trace book.history) o → AtTheEnd status book state o
+  trace_whole Done w = w
+  trace_whole Held w = w
+  trace_whole BadWords w = w
+  trace_whole BadText w = w
+  trace_whole NoFile w = w
+  trace_whole TooBig w = w
+  trace_whole FileFault w = w
+  trace_whole SinkFault w = elim w.rest [ ]
+  trace_whole Spent w = w
+  trace_whole NoMemory w = elim w.rest [ ]
+  trace_whole BadProbes w = w
+  trace_whole BadTrace w = w
+  trace_whole BadScript w = w
+  trace_whole No w = w
+  trace_whole NotBuilt w = w
 
 -- a run whose end the status tells is over
-over_of : (status : Status) (book : BookView) (state : PlainState) → RestSays status book state → IsOver book state
-over_of Done book state rest = inl rest.0
-over_of Held book state rest = inl rest.0
-over_of Spent book state rest = inr rest
-over_of BadWords book state rest = elim rest [ ]
-over_of BadText book state rest = elim rest [ ]
-over_of NoFile book state rest = elim rest [ ]
-over_of TooBig book state rest = elim rest [ ]
-over_of FileFault book state rest = elim rest [ ]
-over_of SinkFault book state rest = elim rest [ ]
-over_of NoMemory book state rest = elim rest [ ]
-over_of BadProbes book state rest = elim rest [ ]
-over_of BadTrace book state rest = elim rest [ ]
-over_of BadScript book state rest = elim rest [ ]
-over_of No book state rest = elim rest [ ]
-over_of NotBuilt book state rest = elim rest [ ]
+pub over_of : (status : Status) (job : JobParts) (book : BookView) (has : HasRun status job book) → IsOver book has.state
+over_of Done job book has = record { whole = has.whole; rest = inl has.rest.0 }
+over_of Held job book has = record { whole = has.whole; rest = inl has.rest.0 }
+over_of Spent job book has = record { whole = has.whole; rest = inr has.rest }
+over_of BadWords job book has = elim has.rest [ ]
+over_of BadText job book has = elim has.rest [ ]
+over_of NoFile job book has = elim has.rest [ ]
+over_of TooBig job book has = elim has.rest [ ]
+over_of FileFault job book has = elim has.rest [ ]
+over_of SinkFault job book has = elim has.rest [ ]
+over_of NoMemory job book has = elim has.rest [ ]
+over_of BadProbes job book has = elim has.rest [ ]
+over_of BadTrace job book has = elim has.rest [ ]
+over_of BadScript job book has = elim has.rest [ ]
+over_of No job book has = elim has.rest [ ]
+over_of NotBuilt job book has = elim has.rest [ ]
 
--- the text of a run that is over was written, or a prefix of it
-pub writes : (rest status : Status) (book : BookView) (state : PlainState) (text : List ℕ) (o : Outcome) → RestSays rest book state → WritesOf rest status text o → EndSays status book state text o
-writes rest status book state text o is (inl (same, gains)) = subst (λ s. EndSays s book state text o) (sym same) (written rest book state text o is gains)
-writes rest status book state text o is (inr (fault, prefix)) = cut_short status book state text o fault (over_of rest book state is) prefix
+-- ---- the text of a run, and what of it is written when it is over
+
+-- what a run shows begins with the lines of what was released
+module _ (book : BookView) (state : PlainState) (job : JobParts) (run : IsRunOf job book state) where
+  abbrev is_shown : IsShown book
+  is_shown = record { run = run.run; state = state; shows = run.shown }
+
+  abbrev others : List Datum
+  others = drop (released book.history.events) book.printed
+
+  values_split : value_lines book.job.program state.output ≡ released_lines book ++ value_lines book.job.program others
+  values_split =
+      ap (value_lines book.job.program) (sym run.shown.journal.printed ∙ sym (take-append-drop (released book.history.events) book.printed))
+      ∙ flat_map-append (λ v. line (printed book.job.program.texts v)) (take (released book.history.events) book.printed) others
+
+  shown_more : (more : List ℕ) × (shown_by book state ≡ released_lines book ++ more)
+  shown_more = by _ _ refl
+    where
+      by : (faults ends : List ℕ) → shown book.job.program state ≡ value_lines book.job.program state.output ++ faults ++ ends → (more : List ℕ) × (shown book.job.program state ≡ released_lines book ++ more)
+      by faults ends is =
+          let rest = value_lines book.job.program others in
+          (
+            rest ++ faults ++ ends,
+            is ∙ ap (λ l. l ++ faults ++ ends) values_split
+            ∙ ap (λ l. l ++ ends) (append_assoc (released_lines book) rest faults)
+            ∙ append_assoc (released_lines book) (rest ++ faults) ends,
+          )
+
+  text_more : (size : Option ℕ) → (more : List ℕ) × (text_with size book state ≡ released_lines book ++ more)
+  text_more None = shown_more
+  text_more (Some n) =
+      let s = shown_more in
+      (s.0 ++ mill_line n book.history.events, ap (λ l. l ++ mill_line n book.history.events) s.1 ∙ append_assoc (released_lines book) s.0 (mill_line n book.history.events))
+
+  -- and goes on with the rest
+  text_rest : (size : Option ℕ) (text : List ℕ) → IsTextBehind size book text → text_with size book state ≡ released_lines book ++ text
+  text_rest None text behind = behind.1 state (leads book.job.program book.history run.run state run.shown.journal.history) ∙ ap (λ l. released_lines book ++ l) (sym (behind.2 ∙ append-nil behind.0))
+  text_rest (Some n) text behind =
+      ap (λ l. l ++ mill_line n book.history.events) (behind.1 state (leads book.job.program book.history run.run state run.shown.journal.history))
+      ∙ append_assoc (released_lines book) behind.0 (mill_line n book.history.events)
+      ∙ ap (λ l. released_lines book ++ l) (sym behind.2)
+
+  module _ (size : Option ℕ) (o : Outcome) where
+    -- only the lines of what was released were written
+    lines_only : Gains o.sink o.sink_after (released_lines book) → AsReleased (text_with size) NoMemory book state o
+    lines_only gains =
+        let more = text_more size in
+        (
+          record {
+            front = released_lines book;
+            back = more.0;
+            split = sym more.1;
+            fact = (gains.0, has_all book is_shown (released_lines book) [] (sym (append-nil (released_lines book))));
+          },
+          gains.1,
+        )
+
+    -- a line couldn't be written
+    fault_written : StopSays stops.SinkFault book state o.sink o.sink_after → AsReleased (text_with size) SinkFault book state o
+    fault_written says =
+        let more = text_more size in
+        (
+          subst (SomePrefix (λ front. Appends o.sink.told o.sink_after.told front × HasReleases book state front)) (sym more.1)
+          (SomePrefix-append (λ front. Appends o.sink.told o.sink_after.told front × HasReleases book state front) (released_lines book) more.0 says.0),
+          says.1,
+        )
+
+    module _ (between : Device (List ℕ)) (so_far : Gains o.sink between (released_lines book)) where
+      -- the rest was written, or a prefix of it
+      rest_prefix : (text : List ℕ) → IsTextBehind size book text → GainsPrefix between o.sink_after text → AsReleased (text_with size) SinkFault book state o
+      rest_prefix text behind prefix =
+          let part = prefix.0 in
+          (
+            record {
+              front = released_lines book ++ part.front;
+              back = part.back;
+              split = append_assoc (released_lines book) part.front part.back ∙ ap (λ l. released_lines book ++ l) part.split ∙ sym (text_rest size text behind);
+              fact = (
+                appends_trans o.sink.told between.told o.sink_after.told (released_lines book) part.front so_far.0 part.fact,
+                has_all book is_shown (released_lines book ++ part.front) part.front refl,
+              );
+            },
+            subst (λ n. Rose n o.sink_after.faults) so_far.1 prefix.1,
+          )
+
+      rest_whole : (text : List ℕ) → IsTextBehind size book text → Gains between o.sink_after text → Gains o.sink o.sink_after (text_with size book state)
+      rest_whole text behind gains = subst (Gains o.sink o.sink_after) (sym (text_rest size text behind)) (gains_on o.sink between o.sink_after (released_lines book) text so_far gains)
+
+      -- there was no memory for the rest
+      rest_none : Rests between o.sink_after → AsReleased (text_with size) NoMemory book state o
+      rest_none rests = lines_only (rests.0 ∙ so_far.0, rests.1 ∙ so_far.1)
+
+-- ---- a run, from what is said of its play
+
+module _ (size : Option ℕ) (job : JobParts) (book : BookView) (o : Outcome) where
+  -- it stopped
+  pub stopped_by_sink : HasStopped stops.SinkFault job book o.sink o.sink_after → o.report.status ≡ SinkFault → o.report.book ≡ Some book → blame_of o.report ≡ no_blame → RunEnds (AsReleased (text_with size)) o.report.status job o
+  stopped_by_sink has is reported blame = with_book (AsReleased (text_with size)) o.report.status SinkFault job o book has.state is reported blame has.run (fault_written book has.state job has.run size o has.says)
+
+  pub stopped_by_memory : HasStopped stops.NoMemory job book o.sink o.sink_after → o.report.status ≡ NoMemory → o.report.book ≡ Some book → blame_of o.report ≡ no_blame → RunEnds (AsReleased (text_with size)) o.report.status job o
+  stopped_by_memory has is reported blame = with_book (AsReleased (text_with size)) o.report.status NoMemory job o book has.state is reported blame has.run (lines_only book has.state job has.run size o has.says)
+
+  -- it is over, and what was still to be written is this text, or there was no memory for it
+  module _ (end said : Status) (has : HasRun end job book) (between : Device (List ℕ)) (so_far : Gains o.sink between (released_lines book)) (is : o.report.status ≡ said) (reported : o.report.book ≡ Some book) (blame : blame_of o.report ≡ no_blame) where
+    by_state : AsReleased (text_with size) said book has.state o → RunEnds (AsReleased (text_with size)) o.report.status job o
+    by_state wrote = with_book (AsReleased (text_with size)) o.report.status said job o book has.state is reported blame has.run wrote
+
+    pub rest_given : (text : List ℕ) → IsTextBehind size book text → WritesOf end said text between o.sink_after → RunEnds (AsReleased (text_with size)) o.report.status job o
+    rest_given text behind (inl (same, gains)) =
+        by_state (subst (λ s. AsReleased (text_with size) s book has.state o) (sym same)
+        (whole_by (text_with size) book has.state o end (record { whole = has.whole; rest = has.rest; gains = rest_whole book has.state job has.run size o between so_far text behind gains })))
+    rest_given text behind (inr (fault, prefix)) =
+        by_state (subst (λ s. AsReleased (text_with size) s book has.state o) (sym fault) (rest_prefix book has.state job has.run size o between so_far text behind prefix))
+
+    pub rest_wanted : said ≡ NoMemory → Rests between o.sink_after → RunEnds (AsReleased (text_with size)) o.report.status job o
+    rest_wanted none rests = by_state (subst (λ s. AsReleased (text_with size) s book has.state o) (sym none) (rest_none book has.state job has.run size o between so_far rests))
+
+  -- the same of a text for which there may have been no memory
+  pub rest_written : {T E : Type 0} (items : T → List ℕ) (rest : Result T E) (end said : Status) → HasRun end job book → (between : Device (List ℕ)) → Gains o.sink between (released_lines book) → o.report.status ≡ said → o.report.book ≡ Some book → blame_of o.report ≡ no_blame
+      → IfOk rest (λ text. IsTextBehind size book (items text)) → IfOk rest (λ text. WritesOf end said (items text) between o.sink_after) → IfErr rest (λ _. (said ≡ NoMemory) × Rests between o.sink_after) → RunEnds (AsReleased (text_with size)) o.report.status job o
+  rest_written items (Ok text) end said has between so_far is reported blame behind wrote none = rest_given end said has between so_far is reported blame (items text) behind wrote
+  rest_written items (Err e) end said has between so_far is reported blame behind wrote none = rest_wanted end said has between so_far is reported blame none.0 none.1
+
+-- ---- a trace
+
+module _ (job : JobParts) (book : BookView) (o : Outcome) (end : Status) (has : HasRun end job book) (reported : o.report.book ≡ Some book) (blame : blame_of o.report ≡ no_blame) where
+  pub trace_written : o.report.status ≡ end → Gains o.sink o.sink_after (trace book.history) → RunEnds AtTheEnd o.report.status job o
+  trace_written is gains = with_book AtTheEnd o.report.status end job o book has.state is reported blame has.run (trace_whole book has.state o end (record { whole = has.whole; rest = has.rest; gains = gains }))
+
+  pub trace_cut : o.report.status ≡ SinkFault → GainsPrefix o.sink o.sink_after (trace book.history) → RunEnds AtTheEnd o.report.status job o
+  trace_cut is prefix = with_book AtTheEnd o.report.status SinkFault job o book has.state is reported blame has.run (over_of end job book has, prefix)

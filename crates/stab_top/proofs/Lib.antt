@@ -1,12 +1,13 @@
 pub mod Pieces
 pub mod ReadFirst
 pub mod Led
+pub mod Resting
+pub mod Rounding
+pub mod Played
 pub mod Ending
 pub mod Complete
 pub mod Wording
 pub mod Executing
 pub mod OwnTraces
-pub mod Unbuilt
-pub mod Resting
-pub mod WholeRun
 pub mod Given
+pub mod Mill

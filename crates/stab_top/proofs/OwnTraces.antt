@@ -15,7 +15,6 @@ use Rattle.stab_code.specs.JobParts.{JobParts}
 use Rattle.stab_text.specs.Text.{IsTextOf}
 use Rattle.stab_words.specs.Asked.{asked}
 use Rattle.stab_words.specs.declared.request.Request.TheVariants.{Verify}
-use Rattle.stab_words.specs.declared.request.RunArgs.{RunArgs}
 use Rattle.stab_words.specs.declared.request.VerifyArgs.{VerifyArgs}
 use Rattle.trace_text.specs.declared.fault.TraceFault.{TraceFault}
 use Rattle.trace_text.specs.declared.line.Entry.{Entry}
@@ -64,11 +63,11 @@ same_ok r xs ys e f = cc
 -- ---- a run
 
 -- the history of a run is one of its program and its script
-is_of_run : (args : RunArgs) (program : ProgramParts) (script : List ℤ) (book : BookView) (state : PlainState) → IsRunOf args program script book state → IsOfRun program script book.history
-is_of_run args program script book state r = record {
+is_of_run : (job : JobParts) (book : BookView) (state : PlainState) → IsRunOf job book state → IsOfRun job.program job.script book.history
+is_of_run job book state r = record {
   run = r.run;
   state = state;
-  shows = subst (λ p. Shows p book.history r.run state) (ap (λ (j : JobParts). j.program) r.job) r.shown.journal.history;
+  shows = subst (λ p. Shows p book.history r.run state) (ap (λ (j : JobParts). j.program) r.of_job) r.shown.journal.history;
   follows = r.follows;
 }
 
@@ -83,9 +82,9 @@ module _ (c : Call) (program : ProgramParts) (script : List ℤ) (history : Jour
   passed (inl (inr none)) = inl (inr none)
   passed (inr counted) = inr counted
 
-pub trace_of_run_passes : (ran : RunArgs) (program : ProgramParts) (script : List ℤ) (book : BookView) (state : PlainState) (words : List (List ℕ)) (c : Call) (args : VerifyArgs) (text : List ℕ) → IsRunOf ran program script book state → IsValid book.history →
-    Says words c → asked words ≡ Ok (Verify args) → IsHeld roles.Program c args.file text → IsTextOf text program → IsScriptFor c args.probes script → IsHeld roles.Trace c args.trace (trace book.history) →
+pub trace_of_run_passes : (job : JobParts) (book : BookView) (state : PlainState) (words : List (List ℕ)) (c : Call) (args : VerifyArgs) (text : List ℕ) → IsRunOf job book state → IsValid book.history →
+    Says words c → asked words ≡ Ok (Verify args) → IsHeld roles.Program c args.file text → IsTextOf text job.program → IsScriptFor c args.probes job.script → IsHeld roles.Trace c args.trace (trace book.history) →
     ((status_of c ≡ Done) ⊎ (status_of c ≡ NoMemory)) ⊎ CountedFault c
-trace_of_run_passes ran program script book state words c args text run valid says is held of for_script there =
-    passed c program script book.history valid (is_of_run ran program script book state run)
-    (trace_is_judged words c args text (trace book.history) program script book.history says is held of for_script there (trace-read book.history valid (few book.history valid)))
+trace_of_run_passes job book state words c args text run valid says is held of for_script there =
+    passed c job.program job.script book.history valid (is_of_run job book state run)
+    (trace_is_judged words c args text (trace book.history) job.program job.script book.history says is held of for_script there (trace-read book.history valid (few book.history valid)))

@@ -1,7 +1,6 @@
 -- What is said of words where memory was refused.
 use Rattle.std.proofs.Common.{◌≡◌, inl, ℕ, List, [], Bool, true, false, Option, Some, None, Result, Ok, Err, sym, subst}
-use Rattle.commit_book.specs.Book.{BookView}
-use Rattle.plain_language.specs.Plain.{PlainState}
+use Rattle.stab_code.specs.JobParts.{job_of}
 use Rattle.stab_words.specs.Asked.{asked}
 use Rattle.stab_words.specs.declared.request.Request.{Request}
 use Rattle.stab_words.specs.declared.request.Request.TheVariants.{Run, Trace, Verify, Drill, Check, Mill, Types, Save, Resume, Watch}
@@ -13,8 +12,8 @@ use Rattle.stab_top.specs.Reason.{blames_file, no_blame}
 use Rattle.stab_top.specs.Words.{is_built}
 use Rattle.stab_top.specs.Loading.{LoadRefused, blamed}
 use Rattle.stab_top.specs.Reading.{Blames, Form, probes_form, program_form}
-use Rattle.stab_top.specs.Ending.{CheckEnds, RunEnds, shown_by, trace_by}
-use Rattle.stab_top.specs.Call.{BuiltSays, Call, FaultSays, LastSays, NotBuiltSays, ReadSays, RequestSays, RunSaysBy, Says, ScriptSays, TraceSays, Untouched, WordsSay, status_of}
+use Rattle.stab_top.specs.Ending.{AsReleased, AtTheEnd, CheckEnds, RunEnds, shown_by}
+use Rattle.stab_top.specs.Call.{BuiltSays, Call, FaultSays, LastSays, NotBuiltSays, ReadSays, RequestSays, RunSaysBy, Says, ScriptSays, TraceSays, Untouched, WordsSay, Writing, status_of}
 
 -- no file was loaded, for want of memory
 unread : {Content Fault : Type 0} (form : Form Content Fault) (c : Call) (file : List ℕ) (faults : ℕ) (Said : Content → Type 0) → status_of c ≡ NoMemory → Untouched c no_blame → ReadSays form c file faults Said
@@ -24,17 +23,17 @@ unread form c file faults Said none is =
 not_built : (c : Call) → status_of c ≡ NoMemory → Untouched c no_blame → NotBuiltSays (status_of c) c
 not_built c none is = subst (λ s. NotBuiltSays s c) (sym none) is
 
-run_says : (text_by : BookView → PlainState → List ℕ) (args : RunArgs) (named : Option (List ℕ)) (c : Call) → status_of c ≡ NoMemory → Untouched c no_blame → RunSaysBy text_by c args named
-run_says text_by args None c none is = unread program_form c args.file c.files_after (λ p. RunEnds text_by (status_of c) args p [] c.outcome) none is
-run_says text_by args (Some name) c none is = unread program_form c args.file c.files.faults (λ p. LastSays probes_form c name (λ s. RunEnds text_by (status_of c) args p s c.outcome)) none is
+run_says : (writes : Writing) (args : RunArgs) (named : Option (List ℕ)) (c : Call) → status_of c ≡ NoMemory → Untouched c no_blame → RunSaysBy writes c args named
+run_says writes args None c none is = unread program_form c args.file c.files_after (λ p. RunEnds writes (status_of c) (job_of p [] args.fuel args.quantum) c.outcome) none is
+run_says writes args (Some name) c none is = unread program_form c args.file c.files.faults (λ p. LastSays probes_form c name (λ s. RunEnds writes (status_of c) (job_of p s args.fuel args.quantum) c.outcome)) none is
 
 request_says : (request : Request) (c : Call) → status_of c ≡ NoMemory → Untouched c no_blame → RequestSays (is_built request) c request
-request_says (Run args) c none is = run_says shown_by args args.probes c none is
-request_says (Trace args) c none is = run_says trace_by args args.probes c none is
+request_says (Run args) c none is = run_says (AsReleased shown_by) args args.probes c none is
+request_says (Trace args) c none is = run_says AtTheEnd args args.probes c none is
 request_says (Verify args) c none is = unread program_form c args.file c.files.faults (λ p. ScriptSays c args.probes (λ s. TraceSays c args.trace p s)) none is
 request_says (Check file) c none is = unread program_form c file c.files_after (λ p. CheckEnds (status_of c) p c.outcome) none is
 request_says (Drill args) c none is = not_built c none is
-request_says (Mill args) c none is = not_built c none is
+request_says (Mill args) c none is = (is.no_fault, inl (inr (none, is.refuses.0), is.refuses.1))
 request_says (Types name) c none is = not_built c none is
 request_says (Save args) c none is = not_built c none is
 request_says (Resume args) c none is = not_built c none is

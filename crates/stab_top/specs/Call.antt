@@ -2,18 +2,21 @@
 use Rattle.std.specs.Prelude.{◌≡◌, ℕ, ℤ, Bool, true, false, List, [], Option, Some, None, Result, Ok, Err, ◌⊎◌}
 use Rattle.plain_language.specs.Plain.{PlainState}
 use Rattle.commit_book.specs.Book.{BookView}
+use Rattle.stab_code.specs.JobParts.{job_of}
 use Rattle.stab_code.specs.Program.{ProgramParts}
 use Rattle.stab_files.specs.Count.{Rose}
 use Rattle.stab_files.specs.Entry.{Entry}
 use Rattle.stab_words.specs.declared.request.Request.{Request}
-use Rattle.stab_words.specs.declared.request.Request.TheVariants.{Check, Run, Trace, Verify}
+use Rattle.stab_words.specs.declared.request.Request.TheVariants.{Check, Mill, Run, Trace, Verify}
+use Rattle.stab_words.specs.declared.request.MillArgs.{MillArgs}
 use Rattle.stab_words.specs.declared.request.RunArgs.{RunArgs}
 use Rattle.stab_words.specs.declared.request.VerifyArgs.{VerifyArgs}
 use Rattle.stab_words.specs.declared.request.WordFault.{WordFault}
 use Rattle.stab_words.specs.Asked.{asked}
 use Rattle.stab_top.specs.declared.report.Status.{Status}
 use Rattle.stab_top.specs.declared.report.Status.TheVariants.{BadWords, NoMemory, NotBuilt}
-use Rattle.stab_top.specs.Ending.{CheckEnds, Outcome, Refuses, RunEnds, VerdictEnds, shown_by, trace_by}
+use Rattle.stab_top.specs.Ending.{AsReleased, AtTheEnd, CheckEnds, Outcome, Refuses, RunEnds, VerdictEnds, shown_by}
+use Rattle.stab_top.specs.Milling.{MillEnds}
 use Rattle.stab_top.specs.Device.{Device, Rests, device}
 use Rattle.stab_top.specs.Reading.{Form, Holds, ReadRefused, probes_form, program_form, trace_form}
 use Rattle.stab_top.specs.Reason.{Blame, blames_words, no_blame}
@@ -64,14 +67,23 @@ module _ {Content Fault : Type 0} (form : Form Content Fault) where
   abbrev pub NextSays : Call → List ℕ → (Content → Type 0) → Type 0
   NextSays c file Said = ReadSays c file c.files.faults Said
 
--- a run of the program of a file with the script of a probe file, or with none, of which the command writes this text
-abbrev pub RunSaysBy : (BookView → PlainState → List ℕ) → Call → RunArgs → Option (List ℕ) → Type 0
-RunSaysBy text_by c args None = LastSays program_form c args.file (λ program. RunEnds text_by (status_of c) args program [] c.outcome)
-RunSaysBy text_by c args (Some probes) =
-    NextSays program_form c args.file (λ program. LastSays probes_form c probes (λ script. RunEnds text_by (status_of c) args program script c.outcome))
+-- how a command writes of a run
+abbrev pub Writing : Type 1
+Writing = Status → BookView → PlainState → Outcome → Type 0
 
-abbrev pub RunSays : (BookView → PlainState → List ℕ) → Call → RunArgs → Type 0
-RunSays text_by c args = RunSaysBy text_by c args args.probes
+-- a run of the program of a file with the script of a probe file, or with none, of which the command writes so
+abbrev pub RunSaysBy : Writing → Call → RunArgs → Option (List ℕ) → Type 0
+RunSaysBy writes c args None = LastSays program_form c args.file (λ program. RunEnds writes (status_of c) (job_of program [] args.fuel args.quantum) c.outcome)
+RunSaysBy writes c args (Some probes) =
+    NextSays program_form c args.file (λ program.
+    LastSays probes_form c probes (λ script. RunEnds writes (status_of c) (job_of program script args.fuel args.quantum) c.outcome))
+
+abbrev pub RunSays : Writing → Call → RunArgs → Type 0
+RunSays writes c args = RunSaysBy writes c args args.probes
+
+-- the mill, for which no file is read
+abbrev pub MillSays : Call → MillArgs → Type 0
+MillSays c args = (c.files_after ≡ c.files.faults) × MillEnds (status_of c) args c.outcome
 
 -- a check of such a program
 abbrev pub CheckSays : Call → List ℕ → Type 0
@@ -93,8 +105,9 @@ VerifySays c args =
 
 -- what is built was done
 abbrev pub BuiltSays : Call → Request → Type 0
-BuiltSays c (Run args) = RunSays shown_by c args
-BuiltSays c (Trace args) = RunSays trace_by c args
+BuiltSays c (Run args) = RunSays (AsReleased shown_by) c args
+BuiltSays c (Trace args) = RunSays AtTheEnd c args
+BuiltSays c (Mill args) = MillSays c args
 BuiltSays c (Verify args) = VerifySays c args
 BuiltSays c (Check file) = CheckSays c file
 BuiltSays c _ = ⊥

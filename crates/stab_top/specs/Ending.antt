@@ -1,31 +1,34 @@
 -- What a call says of the end of what it does with a program.
-use Rattle.std.specs.Prelude.{◌≡◌, ℕ, ℤ, ◌<◌, ◌≤◌, true, false, List, [], ◌∷◌, ◌++◌, Option, Some, IfSome, IsSomeAnd, codes, decimal, length, ◌⊎◌}
+use Rattle.std.specs.Prelude.{◌≡◌, ℕ, ℤ, ◌<◌, ◌≤◌, true, false, List, [], ◌∷◌, ◌++◌, count_by, take, Option, Some, None, IfSome, IsSomeAnd, codes, decimal, length, ◌⊎◌}
 use Rattle.std.specs.List.{AllByRecursion}
-use Rattle.commit_book.specs.Book.{BookView, ShowsRun}
-use Rattle.commit_book.specs.Counts.{in_state}
-use Rattle.lone_worker.specs.Solo.{IsWholeSolo}
-use Rattle.plain_language.specs.Plain.{PlainState, language_of, look_in, standing}
-use Rattle.plain_language.specs.Quiet.{IsQuiet}
-use Rattle.plain_language.specs.Shown.{is_done, shown}
-use Rattle.stab_code.specs.JobParts.{job_of}
+use Rattle.stab_base.specs.Gain.{SomePrefix}
+use Rattle.stab_code.specs.JobParts.{JobParts}
 use Rattle.stab_code.specs.Program.{ProgramParts}
+use Rattle.stab_files.specs.Count.{Rose}
+use Rattle.stab_files.specs.Told.{Appends}
 use Rattle.stab_journal.specs.declared.event.Event.{Event}
 use Rattle.stab_journal.specs.declared.event.Numbered.{Numbered}
+use Rattle.stab_journal.specs.Due.{released}
 use Rattle.stab_journal.specs.Event.{weight_of}
 use Rattle.stab_journal.specs.Journal.{Journal}
 use Rattle.stab_journal.specs.Script.{FollowsScript}
-use Rattle.stab_words.specs.declared.request.RunArgs.{RunArgs}
 use Rattle.thread_slots.specs.declared.state.State.TheVariants.{Ready, Leased}
+use Rattle.plain_language.specs.Plain.{PlainState, language_of, look_in, standing}
+use Rattle.plain_language.specs.Quiet.{IsQuiet}
+use Rattle.plain_language.specs.Shown.{is_done, line, shown, value_lines}
+use Rattle.commit_book.specs.Book.{BookView, ShowsRun}
+use Rattle.commit_book.specs.Counts.{in_state, is_undo}
+use Rattle.lone_worker.specs.declared.worker.RunEnd.{RunEnd}
+use Rattle.lone_worker.specs.Solo.{IsSolo, IsWholeSolo}
 use Rattle.trace_text.specs.Text.{trace}
 use Rattle.trace_verify.specs.declared.verdict.Verdict.{Verdict}
 use Rattle.trace_verify.specs.declared.verdict.Verdict.TheVariants as verdicts
 use Rattle.trace_verify.specs.Verdict.{IsVerdict}
 use Rattle.stab_top.specs.declared.report.Report.{Report}
 use Rattle.stab_top.specs.declared.report.Status.{Status}
-use Rattle.stab_top.specs.declared.report.Status.TheVariants.{Done, Held, SinkFault, Spent, NoMemory, No, NotBuilt}
+use Rattle.stab_top.specs.declared.report.Status.TheVariants.{Done, Held, SinkFault, Spent, NoMemory, No}
 use Rattle.stab_top.specs.Device.{Device, Gains, GainsPrefix, Rests, device}
 use Rattle.stab_top.specs.Reading.{Blames}
-use Rattle.flat_program.specs.Flat.{IsFlat}
 use Rattle.stab_top.specs.Reason.{Blame, blame_of, failing_words, names_verdict, no_blame}
 
 -- what came of a call: the sink before and after it, and what is reported
@@ -102,6 +105,11 @@ mill_line size events = line (codes "mill " ++ decimal size ++ codes " undos " +
 
 abbrev pub milled_by : ℕ → BookView → PlainState → List ℕ
 milled_by size book state = shown_by book state ++ mill_line size book.history.events
+
+-- the text of a run, and of that of a mill of a size
+abbrev pub text_with : Option ℕ → BookView → PlainState → List ℕ
+text_with None = shown_by
+text_with (Some size) = milled_by size
 
 -- the lines of the values that the first events released, of what the run printed that ends in the state
 abbrev pub released_lines : ProgramParts → PlainState → List Event → List ℕ

@@ -2,9 +2,10 @@
 //! calls do nothing.
 ghost use Rattle.std.specs.Prelude.{◌≡◌, ◌⊎◌, ℕ, ℤ, List, Some, Ok, true};
 ghost use Rattle.commit_book.specs.Book.{BookView};
-ghost use Rattle.flat_program.specs.Flat.{IsFlat};
+ghost use Rattle.lone_worker.specs.Solo.{BeginsWith, IsWholeSolo};
 ghost use Rattle.plain_language.specs.Plain.{PlainState};
 ghost use Rattle.probe_text.specs.declared.fault.ProbesFault.{ProbesFault};
+ghost use Rattle.stab_code.specs.JobParts.{JobParts};
 ghost use Rattle.stab_code.specs.Program.{ProgramParts};
 ghost use Rattle.stab_journal.specs.Journal.{IsValid, Journal};
 ghost use Rattle.stab_text.specs.declared.fault.TextFault.{TextFault};
@@ -24,20 +25,19 @@ ghost use Rattle.stab_top.specs.Reading.{probes_form, program_form, trace_form};
 ghost use Rattle.stab_top.specs.declared.report.Role.TheVariants.{Probes as ProbesFile, Program as ProgramFile, Trace as TraceFile};
 ghost use Rattle.stab_top.specs.declared.report.Status.TheVariants.{Done as DoneStatus, NoMemory as NoMemoryStatus};
 
-/// Where the words ask for a run, and the files tell that the text of a program without sections, cuts and pins is held within
-/// the limit under its name, and so is the script that the words name, the run came to its end, or memory was refused, or a
-/// fault was counted.
+/// Where the words ask for a run, and the files tell that the text of a program is held within the limit under its
+/// name, and so is the script that the words name, the run came to its end, or memory was refused, or a fault was counted.
 pub fn good_programs_run()
     ensures { (words : List (List ℕ)) (c : Call) (args : Args) (bytes : List ℕ) (program : ProgramParts)
         (script : List ℤ) → Says words c → asked words ≡ Ok (Run args) → IsHeld ProgramFile c args.file bytes →
-        IsTextOf bytes program → IsScriptFor c args.probes script → IsFlat program → Ran (status_of c) ⊎ CountedFault c }
+        IsTextOf bytes program → IsScriptFor c args.probes script → Ran (status_of c) ⊎ CountedFault c }
 {}
 
 /// The same where the words ask for the trace of a run.
 pub fn good_programs_are_traced()
     ensures { (words : List (List ℕ)) (c : Call) (args : Args) (bytes : List ℕ) (program : ProgramParts)
         (script : List ℤ) → Says words c → asked words ≡ Ok (Trace args) → IsHeld ProgramFile c args.file bytes →
-        IsTextOf bytes program → IsScriptFor c args.probes script → IsFlat program → Ran (status_of c) ⊎ CountedFault c }
+        IsTextOf bytes program → IsScriptFor c args.probes script → Ran (status_of c) ⊎ CountedFault c }
 {}
 
 /// Where the words ask for a check, and the files tell that the text of a program is held within the limit under its name,
@@ -61,19 +61,20 @@ pub fn traces_are_judged()
 /// Where the words ask for a verdict, and the files tell that the program, the script and the trace of a run of these, as `run`
 /// and `trace` make one, are held within their limits, the verdict is yes, or memory was refused, or a fault was counted.
 pub fn traces_of_runs_pass()
-    ensures { (ran : Args) (program : ProgramParts) (script : List ℤ) (book : BookView) (state : PlainState)
-        (words : List (List ℕ)) (c : Call) (args : VerifyArgs) (text : List ℕ) → IsRunOf ran program script book state →
-        IsValid book.history → Says words c → asked words ≡ Ok (Verify args) → IsHeld ProgramFile c args.file text →
-        IsTextOf text program → IsScriptFor c args.probes script →
+    ensures { (job : JobParts) (book : BookView) (state : PlainState) (words : List (List ℕ)) (c : Call) (args : VerifyArgs)
+        (text : List ℕ) → IsRunOf job book state → IsValid book.history → Says words c → asked words ≡ Ok (Verify args) →
+        IsHeld ProgramFile c args.file text → IsTextOf text job.program → IsScriptFor c args.probes job.script →
         IsHeld TraceFile c args.trace (trace book.history) →
         ((status_of c ≡ DoneStatus) ⊎ (status_of c ≡ NoMemoryStatus)) ⊎ CountedFault c }
 {}
 
-/// Runs of one job, as `run` and `trace` make them, have one history: what happens in them is fixed by the job.
+/// What happens in a run is fixed by its job, as `run`, `trace` and `mill` make one: two runs that are over have one history, and
+/// one that isn't over has the first events of one that is.
 pub fn runs_have_one_history()
-    ensures { (ran other : Args) (program text : ProgramParts) (script numbers : List ℤ) (a b : BookView) (s t : PlainState) →
-        IsRunOf ran program script a s → IsRunOf other text numbers b t → a.job ≡ b.job →
-        a.history.events ≡ b.history.events }
+    ensures whole { (job : JobParts) (a b : BookView) (s t : PlainState) → IsRunOf job a s → IsRunOf job b t →
+        IsWholeSolo a.job a.history.events → IsWholeSolo b.job b.history.events → a.history.events ≡ b.history.events }
+    ensures part { (job : JobParts) (a b : BookView) (s t : PlainState) → IsRunOf job a s → IsRunOf job b t →
+        IsWholeSolo a.job a.history.events → BeginsWith a.history.events b.history.events }
 {}
 
 /// Where the words ask for what is built, and the files tell that bytes with a fault are held within the limit under the name

@@ -1,13 +1,14 @@
 //! Runs a program, and writes what it shows or its trace.
-ghost use Rattle.std.specs.Prelude.{◌≡◌, ◌≤◌, Some, length, string_bytes, IfOk};
+ghost use Rattle.std.specs.Prelude.{◌≡◌, ◌≤◌, length, IfErr, IfOk};
 ghost use Rattle.stab_code.specs.JobParts.{job_of};
 ghost use Rattle.stab_code.specs.Limits.{max_script};
 ghost use Rattle.stab_words.specs.Command.{most_fuel, most_quantum};
 ghost use Rattle.stab_words.specs.Within.{IsUpTo};
 ghost use Rattle.commit_book.specs.Book.{IsAtStart};
-ghost use Rattle.book_text.specs.Written.{IsRestText, IsShownText};
-ghost use Rattle.stab_top.specs.Device.{device};
-ghost use Rattle.stab_top.specs.Ending.{AsReleased, AtTheEnd, IsTextBehind, RunEnds, WritesRest, mill_line, outcome_of, text_with};
+ghost use Rattle.stab_top.specs.declared.report.Status.TheVariants.{NoMemory as OutOfMemory};
+ghost use Rattle.stab_top.specs.Device.{Rests, device};
+ghost use Rattle.stab_top.specs.Ending.{AsReleased, AtTheEnd, RunEnds, outcome_of, text_with};
+ghost use Rattle.stab_top.specs.Playing.{IsTextBehind, WritesOf};
 
 use crate::playing::{Stop, play};
 use crate::reading::Given;
@@ -108,7 +109,9 @@ fn rest_with(alloc: Global, book: &Book, size: Option<u32>) -> Result<Vec<u8>, N
 
 // Writes what is still to be written, where there was memory for it. The status is that of the end.
 fn write_rest<K: Sink>(status: Status, rest: Result<Vec<u8>, NoMemory>, sink: &mut K) -> Status
-    ensures { WritesRest status result rest (device K.told K.faults sink.old) (device K.told K.faults sink.new) }
+    ensures written { IfOk rest (λ text. WritesOf status result text.items
+        (device K.told K.faults sink.old) (device K.told K.faults sink.new)) }
+    ensures silent { IfErr rest (λ _. (result ≡ OutOfMemory) × Rests (device K.told K.faults sink.old) (device K.told K.faults sink.new)) }
 {
     let Ok(text) = rest else {
         return Status::NoMemory;

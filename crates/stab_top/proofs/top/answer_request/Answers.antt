@@ -1,5 +1,5 @@
-use Rattle.std.proofs.Common.{sym, ◌∙◌}
-use Rattle.stab_words.specs.declared.request.Request.TheVariants.{Run, Trace, Verify, Check}
+use Rattle.std.proofs.Common.{refl, sym, ◌∙◌}
+use Rattle.stab_words.specs.declared.request.Request.TheVariants.{Run, Trace, Mill, Verify, Check}
 use Rattle.stab_top.proofs.Wording.{said_built}
 use Rattle.stab_top.proofs.top.answer_request.Goals as goal
 
@@ -10,6 +10,10 @@ returns-in-Run-clause-says g c =
 pub returns-in-Trace-clause-says : goal.returns-in-Trace-clause-says
 returns-in-Trace-clause-says g c =
     said_built c.args.request.now (Trace c.in-Trace.args) _ c.in-Trace.is (sym c.is_built.ensures ∙ c.if-not-is_built.false) c.trace_file.ensures.says
+
+pub returns-in-Mill-clause-says : goal.returns-in-Mill-clause-says
+returns-in-Mill-clause-says g c =
+    said_built c.args.request.now (Mill c.in-Mill.args) _ c.in-Mill.is (sym c.is_built.ensures ∙ c.if-not-is_built.false) (refl, c.run_mill.ensures)
 
 pub returns-in-Verify-clause-says : goal.returns-in-Verify-clause-says
 returns-in-Verify-clause-says g c =

@@ -1,15 +1,15 @@
 use Rattle.std.proofs.Common.{refl}
 use Rattle.stab_top.specs.Device.{device}
-use Rattle.stab_top.specs.Ending.{outcome_of, trace_by}
+use Rattle.stab_top.specs.Ending.{AtTheEnd, outcome_of}
 use Rattle.stab_top.proofs.Given.{given_says, refused_says}
 use Rattle.stab_top.proofs.top.trace_file.Goals as goal
 
 pub returns-in-Ok-clause-says : goal.returns-in-Ok-clause-says
 returns-in-Ok-clause-says g c =
-    given_says trace_by (outcome_of g.K.Sink.told g.K.Sink.faults c.args.sink.now c.trace_program.new.sink c.trace_program.result) (g.F.Files.faults c.read_run.new.files) (device g.F.Files.held g.F.Files.faults c.args.files.now) c.args.args.now
+    given_says AtTheEnd (outcome_of g.K.Sink.told g.K.Sink.faults c.args.sink.now c.trace_program.new.sink c.trace_program.result) (g.F.Files.faults c.read_run.new.files) (device g.F.Files.held g.F.Files.faults c.args.files.now) c.args.args.now
     c.args.args.now.probes c.in-Ok.given.program c.in-Ok.given.script.items c.in-Ok.ensures.ok c.trace_program.ensures
 
 pub returns-in-Err-clause-says : goal.returns-in-Err-clause-says
 returns-in-Err-clause-says g c =
-    refused_says trace_by (outcome_of g.K.Sink.told g.K.Sink.faults c.args.sink.now c.args.sink.now c.in-Err.report) (g.F.Files.faults c.read_run.new.files) (device g.F.Files.held g.F.Files.faults c.args.files.now) c.args.args.now
+    refused_says AtTheEnd (outcome_of g.K.Sink.told g.K.Sink.faults c.args.sink.now c.args.sink.now c.in-Err.report) (g.F.Files.faults c.read_run.new.files) (device g.F.Files.held g.F.Files.faults c.args.files.now) c.args.args.now
     c.args.args.now.probes c.in-Err.ensures.err (refl, refl)
