@@ -1,7 +1,11 @@
 //! Books of short texts.
 
+mod before;
+mod drills;
 mod lists;
 mod plain;
 mod runs;
+mod texts;
+mod traces;
 mod turns;
 mod weights;

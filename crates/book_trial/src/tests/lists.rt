@@ -1,54 +1,132 @@
-//! Random lists of calls with up to eight leases held at once, beside the machine of the plain language.
-ghost use Rattle.std.specs.Prelude.{◌<◌, ◌≤◌};
+//! Random lists of calls with up to eight leases held at once, beside the judge of histories and the machine of the plain
+//! language.
+ghost use Rattle.std.specs.Prelude.{◌<◌, ◌≤◌, length};
 
-use super::plain::{Plain, has_answered};
-use super::turns::{Work, answer, book_with, next_work};
-use commit_book::{Book, Done};
+use super::plain::{agrees, surviving};
+use super::texts::TEXTS;
+use super::turns::{Stuck, Work, answer, book_with, next_work};
+use book_text::shown_text;
+use commit_book::{Book, Counts, Done};
+use plain_language::PlainState;
+use stab_base::{Seq, ThreadId};
+use stab_journal::What;
 use std::alloc::Global;
 use std::test::Fail;
+use trace_verify::{Verdict, verify};
 
-fn text_of(k: u32) -> &'static str {
-    match k {
-        0 => {
-            "fn pong(c: chan[int], d: chan[int]): unit { send(d, recv(c) + 1); pong(c, d) } fn ping(c: chan[int], d: chan[int], n: int): unit { send(c, n); let m = recv(d); print(m); if m < 9 { ping(c, d, m) } else { () } } fn main(): unit { let c = chan[int](); let d = chan[int](); spawn pong(c, d); ping(c, d, 1) }"
+// What calls were told.
+#[derive(Clone, Copy, Drop)]
+struct Told {
+    commits: u64,
+    stale: u64,
+    undos: u64,
+    // Steps that were taken back.
+    removed: u64,
+    strange: bool,
+}
+
+impl Told {
+    fn new() -> Told {
+        Told {
+            commits: 0,
+            stale: 0,
+            undos: 0,
+            removed: 0,
+            strange: false,
         }
-        1 => {
-            "fn s(c: chan[int], n: int): unit { send(c, n); s(c, n + 1) } fn main(): unit { let c = chan[int](); let d = chan[int](); spawn s(c, 10); spawn s(d, 20); spawn s(d, 30); p(c, d, 9) } fn p(c: chan[int], d: chan[int], n: int): unit { let q = pick(d, c); print(fst(q)); print(snd(q)); if n == 0 { () } else { p(c, d, n - 1) } }"
+    }
+
+    fn hear(&mut self, done: Result<Done, Stuck>) {
+        match done {
+            Ok(Done::Taken { .. } | Done::Parked { .. }) => self.commits = self
+                .commits
+                .saturating_add(1),
+            Ok(Done::Undone { removed, .. }) => {
+                self.commits = self.commits.saturating_add(1);
+                self.undos = self.undos.saturating_add(1);
+                self.removed = self.removed.saturating_add(removed);
+            }
+            Ok(Done::Stale { .. }) => self.stale = self.stale.saturating_add(1),
+            _ => self.strange = true,
         }
-        2 => {
-            "fn add(r: ref[int], n: int): unit { set(r, get(r) + n); print(get(r)); add(r, n * 2) } fn main(): unit { let r = ref(1); spawn add(r, 3); spawn add(r, 5); add(r, 7) }"
-        }
-        3 => {
-            "fn over(n: int): unit { print(n); over(n * 1000000) } fn main(): unit { spawn over(probe()); spawn over(probe()); print(probe()); print(get(3)) }"
-        }
-        _ => {
-            "fn part(n: int): int { pin(); if n == 0 { attempt() } else { stable part(n - 1) } } fn t(): unit { print(stable part(3)); stabilize() } fn main(): unit { spawn t(); spawn t(); print(stable part(2)); main() }"
-        }
+    }
+
+    fn add(&mut self, other: Told) {
+        self.commits = self.commits.saturating_add(other.commits);
+        self.stale = self.stale.saturating_add(other.stale);
+        self.undos = self.undos.saturating_add(other.undos);
+    }
+
+    fn agrees(&self, counts: Counts) -> bool {
+        !self.strange
+            && counts.commits == self.commits
+            && counts.stale == self.stale
+            && counts.undos == self.undos
     }
 }
 
-// A book, the machine beside it, and what its calls were told.
+// A book, what it released, the state to which its steps lead, and what its calls were told.
 #[derive(Drop)]
 struct Trial {
+    alloc: Global,
     book: Book,
-    plain: Plain,
+    out: Vec<u8>,
+    state: PlainState,
+    // The events and the struck steps of the history that was judged last.
+    judged: (u64, u64),
     dice: u64,
-    commits: u64,
-    stale: u64,
-    agrees: bool,
+    told: Told,
+    calls: u64,
+    // The call after which something was first wrong.
+    wrong: Option<u64>,
+}
+
+fn next_dice(dice: u64) -> u64 {
+    dice.wrapping_mul(6_364_136_223_846_793_005)
+        .wrapping_add(1_442_695_040_888_963_407)
+}
+
+// Ten numbers, of which about half are below 0.
+fn script_of(seed: u64) -> [i64; 10] {
+    let mut script = [1_i64; 10];
+    let mut dice = seed;
+    for n in &mut script {
+        dice = next_dice(dice);
+        if (dice >> 33) % 2 == 0 {
+            *n = -1;
+        }
+    }
+    script
+}
+
+// How many steps were taken back.
+fn struck(book: &Book) -> u64 {
+    let history = book.history();
+    let mut struck = 0_u64;
+    for q in 1..=history.len() {
+        if let Some(event) = history.get(Seq(q)) {
+            if matches!(event.what, What::Step(_)) && !history.is_live(Seq(q)) {
+                struck = struck.saturating_add(1);
+            }
+        }
+    }
+    struck
 }
 
 impl Trial {
     fn new(alloc: Global, text: &str, seed: u64) -> Result<Trial, Fail> {
-        let book = book_with(alloc, text, &[7, -4], 200)?;
-        let plain = Plain::new(alloc, &book)?;
+        let book = book_with(alloc, text, &script_of(seed), 400)?;
+        let state = PlainState::start(alloc, book.job().program())?;
         Ok(Trial {
+            alloc,
             book,
-            plain,
+            out: Vec::new(alloc),
+            state,
+            judged: (0, 0),
             dice: seed,
-            commits: 0,
-            stale: 0,
-            agrees: true,
+            told: Told::new(),
+            calls: 0,
+            wrong: None,
         })
     }
 
@@ -57,34 +135,76 @@ impl Trial {
         requires { 0 < sides }
         ensures { result < sides }
     {
-        self.dice = self
-            .dice
-            .wrapping_mul(6_364_136_223_846_793_005)
-            .wrapping_add(1_442_695_040_888_963_407);
+        self.dice = next_dice(self.dice);
         (self.dice >> 33) as u32 % sides
     }
 
-    fn compare(&mut self) {
-        let agrees = self.plain.agrees(&self.book)
-            && has_answered(self.book.counts(), self.commits, self.stale);
-        self.agrees = self.agrees && agrees;
+    // A call was made.
+    fn called(&mut self) {
+        self.calls = self.calls.saturating_add(1);
+        if self.wrong.is_none() && !self.is_right() {
+            self.wrong = Some(self.calls);
+        }
+    }
+
+    fn is_right(&mut self) -> bool {
+        self.is_judged()
+            && agrees(&self.state, &self.book)
+            && self.told.agrees(self.book.counts())
+            && self.told.removed == self.judged.1
+            && self.has_released()
+    }
+
+    // Whether the history is one that its job can have. What was judged isn't judged once more.
+    fn is_judged(&mut self) -> bool {
+        let now = (self.book.history().len(), struck(&self.book));
+        if self.judged == now {
+            return true;
+        }
+        self.judged = now;
+        match surviving(self.alloc, &self.book) {
+            Some(state) => self.state = state,
+            None => return false,
+        }
+        let verdict = verify(self.alloc, self.book.job(), self.book.history());
+        matches!(verdict, Ok(Verdict::Yes))
+    }
+
+    // What was released is the front of what the book shows.
+    fn has_released(&self) -> bool {
+        match shown_text(self.alloc, &self.book) {
+            Ok(shown) => shown.as_slice().starts_with(self.out.as_slice()),
+            Err(_) => false,
+        }
     }
 
     fn next(&mut self) -> Option<Work> {
+        if self.book.due() > 0 {
+            let worker = self.roll(64) + 1;
+            self.told.strange |= self.book.release(worker, &mut self.out).is_err();
+            self.told.strange |= self.book.due() > 0;
+            self.called();
+        }
         let worker = self.roll(64) + 1;
-        let steps = self.roll(5) + 1;
+        let steps = self.roll(16) + 1;
         let work = match next_work(&mut self.book, worker, steps) {
             Ok(work) => work,
-            Err(_) => None,
+            Err(_) => {
+                self.told.strange = true;
+                None
+            }
         };
-        self.compare();
+        if let Some((lease, progress)) = &work {
+            self.told.strange |= progress.origin().mark() != self.state.mark(lease.thread());
+        }
+        self.called();
         work
     }
 
     fn recall(&mut self) {
         if self.roll(8) == 0 {
             self.book.recall();
-            self.compare();
+            self.called();
         }
     }
 
@@ -92,25 +212,11 @@ impl Trial {
         let (lease, progress) = work;
         if self.roll(6) == 0 {
             self.book.give_back(lease);
-            self.compare();
-            return;
+        } else {
+            let done = answer(&mut self.book, lease, progress);
+            self.told.hear(done);
         }
-        match answer(&mut self.book, lease, progress) {
-            Ok(Done::Taken { first: _, count: _ }) => self.commits = self.commits.saturating_add(1),
-            Ok(Done::Parked { first: _, count: _ }) => {
-                self.commits = self.commits.saturating_add(1);
-            }
-            Ok(
-                Done::Stale {
-                    lease_generation: _,
-                    now: _,
-                },
-            ) => {
-                self.stale = self.stale.saturating_add(1);
-            }
-            _ => self.agrees = false,
-        }
-        self.compare();
+        self.called();
     }
 
     // Other leases are taken, and some of them ended, before one ends: this one or another.
@@ -140,7 +246,7 @@ impl Trial {
 
     // Up to eight leases are held at once.
     fn run(&mut self) {
-        for _ in 0..12 {
+        for _ in 0..20 {
             match self.next() {
                 Some(work) => self.hold(work, 7),
                 None => self.recall(),
@@ -151,18 +257,17 @@ impl Trial {
 
 #[test]
 fn random_lists_of_calls(rt: HostRuntime) -> Result<(), Fail> {
-    let mut commits = 0_u64;
-    let mut stale = 0_u64;
-    for k in 0..5 {
-        for seed in 0..400 {
-            let mut trial = Trial::new(rt.alloc(), text_of(k), seed)?;
+    let mut total = Told::new();
+    for (k, text) in TEXTS.iter().enumerate() {
+        for seed in 0..200 {
+            let mut trial = Trial::new(rt.alloc(), text, seed)?;
             trial.run();
-            assert!(rt; trial.agrees, "at {seed} of {k}");
-            commits = commits.saturating_add(trial.commits);
-            stale = stale.saturating_add(trial.stale);
+            assert_eq!(rt; trial.wrong, None, "at {seed} of text {k}");
+            total.add(trial.told);
         }
     }
-    assert!(rt; commits > 20_000);
-    assert!(rt; stale > 1_000);
+    assert!(rt; total.commits > 20_000);
+    assert!(rt; total.stale > 1_000);
+    assert!(rt; total.undos > 1_000);
     Ok(())
 }

@@ -1,0 +1,358 @@
+//! Leases that are held over undos: what each call is told, a line each.
+ghost use Rattle.std.specs.Prelude.{◌≤◌, length};
+ghost use Rattle.stab_journal.specs.Event.{IsWorker};
+
+use super::texts::CASCADE;
+use super::turns::{Work, answer, book_with, next_work};
+use book_text::shown_text;
+use commit_book::{Book, Done, Lease};
+use stab_base::{NoMemory, Seq};
+use std::alloc::Global;
+use std::test::Fail;
+
+const QUANTUM: u32 = 1_000;
+
+// A book and what its calls were told.
+#[derive(Drop)]
+struct Drill {
+    alloc: Global,
+    book: Book,
+    told: String,
+    // Whether a line is missing, for want of memory or of a thread that is ready.
+    lacks: bool,
+}
+
+fn lease_line(alloc: Global, k: u32, lease: &Lease) -> Result<String, NoMemory> {
+    let (t, generation) = (lease.thread().0, lease.generation().0);
+    Ok(format!(in alloc; "lease {k} thread {t} gen {generation}\n")?)
+}
+
+fn commit_line(alloc: Global, k: u32, done: &Done) -> Result<String, NoMemory> {
+    match done {
+        Done::Taken { first, count } => {
+            let first = first.0;
+            Ok(format!(in alloc; "commit {k} taken {first} {count}\n")?)
+        }
+        Done::Parked { first, count } => {
+            let first = first.0;
+            Ok(format!(in alloc; "commit {k} parked {first} {count}\n")?)
+        }
+        Done::Undone {
+            first,
+            count,
+            mark,
+            removed,
+            marks: _,
+        } => {
+            let (first, mark) = (first.0, mark.0);
+            Ok(format!(in alloc;
+                "commit {k} undone {first} {count} mark {mark} removed {removed}\n"
+            )?)
+        }
+        Done::Stale {
+            lease_generation,
+            now: Some(now),
+        } => {
+            let (generation, now) = (lease_generation.0, now.0);
+            Ok(format!(in alloc; "commit {k} stale {generation} now {now}\n")?)
+        }
+        Done::Stale {
+            lease_generation,
+            now: None,
+        } => {
+            let generation = lease_generation.0;
+            Ok(format!(in alloc; "commit {k} stale {generation} now none\n")?)
+        }
+        Done::Over { weight } => Ok(format!(in alloc; "commit {k} over {weight}\n")?),
+    }
+}
+
+impl Drill {
+    fn new(alloc: Global, text: &str, script: &[i64]) -> Result<Drill, Fail>
+        requires { length script.now ≤ 10 }
+    {
+        Ok(Drill {
+            alloc,
+            book: book_with(alloc, text, script, 10_000)?,
+            told: String::new(alloc),
+            lacks: false,
+        })
+    }
+
+    fn say(&mut self, line: Result<String, NoMemory>) {
+        let said = match line {
+            Ok(line) => self.told.push_str(line.as_str()).is_ok(),
+            Err(NoMemory) => false,
+        };
+        self.lacks = self.lacks || !said;
+    }
+
+    fn lease(&mut self, k: u32) -> Option<Work>
+        requires { IsWorker k }
+    {
+        match next_work(&mut self.book, k, QUANTUM) {
+            Ok(Some((lease, progress))) => {
+                self.say(lease_line(self.alloc, k, &lease));
+                Some((lease, progress))
+            }
+            _ => {
+                self.lacks = true;
+                None
+            }
+        }
+    }
+
+    fn commit(&mut self, k: u32, work: Option<Work>) {
+        let Some((lease, progress)) = work else {
+            return;
+        };
+        match answer(&mut self.book, lease, progress) {
+            Ok(done) => self.say(commit_line(self.alloc, k, &done)),
+            Err(_) => self.lacks = true,
+        }
+    }
+
+    fn give_back(&mut self, work: Option<Work>) {
+        if let Some((lease, _progress)) = work {
+            self.book.give_back(lease);
+        }
+    }
+
+    // Turns of the first worker.
+    fn turns(&mut self, count: u32) {
+        for _ in 0..count {
+            let work = self.lease(1);
+            self.commit(1, work);
+        }
+    }
+
+    // What the book shows now is told too.
+    fn show(&mut self) -> Result<(), Fail> {
+        let shown = shown_text(self.alloc, &self.book)?;
+        self.told.push_str(std::str::from_utf8(shown.as_slice())?)?;
+        Ok(())
+    }
+}
+
+#[test]
+fn stale_lease_of_another_control(rt: HostRuntime) -> Result<(), Fail> {
+    let mut drill = Drill::new(rt.alloc(), "fn main(): unit { print(5); print(6) }", &[])?;
+    let held = drill.lease(2);
+    drill.book.recall();
+    drill.turns(1);
+    drill.commit(2, held);
+    drill.show()?;
+    let told = "\
+lease 2 thread 1 gen 0
+lease 1 thread 1 gen 0
+commit 1 taken 1 1
+commit 2 stale 0 now 0
+5
+ended 0 faulted 0 waiting 1
+";
+    let counts = drill.book.counts();
+    assert_eq!(rt; drill.told.as_str(), told);
+    assert_eq!(rt; (counts.commits, counts.stale, counts.undos), (1, 1, 0));
+    assert!(rt; !drill.lacks);
+    Ok(())
+}
+
+#[test]
+fn stale_lease_of_a_gone_thread(rt: HostRuntime) -> Result<(), Fail> {
+    let text = "
+fn kid(): unit { stabilize() }
+fn part(): unit { spawn kid(); if probe() < 0 { stabilize() } else { () } }
+fn main(): unit { stable part() }";
+    let mut drill = Drill::new(rt.alloc(), text, &[-1])?;
+    drill.turns(2);
+    let of_the_child = drill.lease(2);
+    drill.turns(2);
+    drill.commit(2, of_the_child);
+    drill.show()?;
+    let told = "\
+lease 1 thread 1 gen 0
+commit 1 taken 1 1
+lease 1 thread 1 gen 0
+commit 1 taken 2 1
+lease 2 thread 2 gen 0
+lease 1 thread 1 gen 0
+commit 1 taken 3 2
+lease 1 thread 1 gen 0
+commit 1 undone 5 2 mark 1 removed 5
+commit 2 stale 0 now none
+ended 0 faulted 0 waiting 1
+";
+    assert_eq!(rt; drill.told.as_str(), told);
+    assert!(rt; !drill.lacks);
+    Ok(())
+}
+
+#[test]
+fn stale_lease_of_the_same_control(rt: HostRuntime) -> Result<(), Fail> {
+    let text = "
+fn b(c: chan[int]): unit { recv(c); b(c) }
+fn part(c: chan[int]): unit { send(c, 1); if probe() < 0 { stabilize() } else { () } }
+fn a(c: chan[int]): unit { stable part(c) }
+fn main(): unit { let c = chan[int](); spawn b(c); spawn a(c); stable part(c) }";
+    let mut drill = Drill::new(rt.alloc(), text, &[-1, -1])?;
+    drill.turns(9);
+    let third = drill.lease(3);
+    drill.turns(1);
+    let second = drill.lease(2);
+    drill.turns(1);
+    let fourth = drill.lease(4);
+    let fifth = drill.lease(5);
+    drill.commit(3, third);
+    let third = drill.lease(3);
+    drill.commit(3, third);
+    drill.commit(5, fifth);
+    drill.commit(2, second);
+    let shown = drill.show();
+    drill.give_back(fourth);
+    shown?;
+    let told = "\
+lease 1 thread 1 gen 0
+commit 1 taken 1 1
+lease 1 thread 1 gen 0
+commit 1 taken 2 2
+lease 1 thread 2 gen 0
+commit 1 parked 4 0
+lease 1 thread 1 gen 0
+commit 1 taken 4 2
+lease 1 thread 3 gen 0
+commit 1 taken 6 1
+lease 1 thread 1 gen 0
+commit 1 taken 7 2
+lease 1 thread 3 gen 0
+commit 1 taken 9 1
+lease 1 thread 1 gen 0
+commit 1 parked 10 0
+lease 1 thread 2 gen 0
+commit 1 taken 10 2
+lease 3 thread 3 gen 0
+lease 1 thread 1 gen 0
+commit 1 taken 12 2
+lease 2 thread 2 gen 0
+lease 1 thread 1 gen 0
+commit 1 undone 14 2 mark 8 removed 5
+lease 4 thread 1 gen 1
+lease 5 thread 2 gen 1
+commit 3 taken 16 2
+lease 3 thread 3 gen 0
+commit 3 undone 18 2 mark 6 removed 6
+commit 5 stale 1 now 2
+commit 2 stale 0 now 2
+ended 0 faulted 0 waiting 3
+";
+    assert_eq!(rt; drill.told.as_str(), told);
+    assert!(rt; !drill.lacks);
+    Ok(())
+}
+
+#[test]
+fn an_undo_tells_which_nodes_it_took_away(rt: HostRuntime) -> Result<(), Fail> {
+    let mut book = book_with(rt.alloc(), CASCADE, &[-1], 10_000)?;
+    let mut told = None;
+    for _ in 0..32 {
+        if let Some((lease, progress)) = next_work(&mut book, 1, QUANTUM)? {
+            if let Done::Undone {
+                first,
+                count,
+                mark,
+                removed,
+                marks,
+            } = answer(&mut book, lease, progress)?
+            {
+                told = Some((
+                    first.0,
+                    count,
+                    mark.0,
+                    removed,
+                    sorted(rt.alloc(), marks.nodes())?,
+                ));
+            }
+        }
+    }
+    let Some((first, count, mark, removed, nodes)) = told else {
+        return Err(Fail::from("no undo"));
+    };
+    assert_eq!(rt; (first, count, mark, removed), (31, 2, 17, 10));
+    assert_eq!(rt; nodes.as_slice(), &[17, 20, 23, 26, 28][..]);
+    Ok(())
+}
+
+// The numbers in order.
+fn sorted(alloc: Global, nodes: &[Seq]) -> Result<Vec<u64>, Fail> {
+    let mut numbers = Vec::new(alloc);
+    for q in nodes {
+        numbers.push(q.0)?;
+    }
+    numbers.sort_unstable();
+    Ok(numbers)
+}
+
+#[test]
+fn three_stale_leases(rt: HostRuntime) -> Result<(), Fail> {
+    let text = "
+fn b(c: chan[int]): unit { recv(c); b(c) }
+fn part(c: chan[int]): unit { send(c, 1); if probe() < 0 { stabilize() } else { () } }
+fn main(): unit { let c = chan[int](); spawn b(c); stable part(c) }";
+    let mut drill = Drill::new(rt.alloc(), text, &[-1, -1, -1])?;
+    drill.turns(5);
+    let over_three = drill.lease(2);
+    drill.turns(5);
+    let over_two = drill.lease(3);
+    drill.turns(5);
+    let over_one = drill.lease(4);
+    drill.turns(2);
+    drill.commit(2, over_three);
+    drill.commit(3, over_two);
+    drill.commit(4, over_one);
+    drill.show()?;
+    let told = "\
+lease 1 thread 1 gen 0
+commit 1 taken 1 1
+lease 1 thread 1 gen 0
+commit 1 taken 2 2
+lease 1 thread 2 gen 0
+commit 1 parked 4 0
+lease 1 thread 1 gen 0
+commit 1 taken 4 2
+lease 1 thread 1 gen 0
+commit 1 taken 6 1
+lease 2 thread 2 gen 0
+lease 1 thread 1 gen 0
+commit 1 taken 7 2
+lease 1 thread 1 gen 0
+commit 1 undone 9 2 mark 5 removed 5
+lease 1 thread 1 gen 1
+commit 1 taken 11 1
+lease 1 thread 2 gen 1
+commit 1 parked 12 0
+lease 1 thread 1 gen 1
+commit 1 taken 12 1
+lease 3 thread 2 gen 1
+lease 1 thread 1 gen 1
+commit 1 taken 13 2
+lease 1 thread 1 gen 1
+commit 1 undone 15 2 mark 11 removed 5
+lease 1 thread 1 gen 2
+commit 1 taken 17 1
+lease 1 thread 2 gen 2
+commit 1 parked 18 0
+lease 1 thread 1 gen 2
+commit 1 taken 18 1
+lease 4 thread 2 gen 2
+lease 1 thread 1 gen 2
+commit 1 taken 19 2
+lease 1 thread 1 gen 2
+commit 1 undone 21 2 mark 17 removed 5
+commit 2 stale 0 now 3
+commit 3 stale 1 now 3
+commit 4 stale 2 now 3
+ended 0 faulted 0 waiting 2
+";
+    assert_eq!(rt; drill.told.as_str(), told);
+    assert!(rt; !drill.lacks);
+    Ok(())
+}
