@@ -204,7 +204,7 @@ check_came c program (inl failed) = failed_checked c failed
 check_came c program (inr ends) = checked (status_of c) c program ends
 
 -- what is said of a request that is built
-request_said : (words : List (List ℕ)) (c : Call) (request : Request) → Says words c → asked words ≡ Ok request → is_built request ≡ true → BuiltSays c request
+pub request_said : (words : List (List ℕ)) (c : Call) (request : Request) → Says words c → asked words ≡ Ok request → is_built request ≡ true → BuiltSays c request
 request_said words c request says is built =
     let here : RequestSays (is_built request) c request = subst (λ (r : Result Request WordFault). WordsSay r c) is says in
     subst (λ b. RequestSays b c request) built here

@@ -11,3 +11,4 @@ pub mod Executing
 pub mod OwnTraces
 pub mod Given
 pub mod Mill
+pub mod Headline

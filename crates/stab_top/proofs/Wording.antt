@@ -1,5 +1,5 @@
 -- What is said of words where memory was refused.
-use Rattle.std.proofs.Common.{◌≡◌, inl, ℕ, List, [], Bool, true, false, Option, Some, None, Result, Ok, Err, sym, subst}
+use Rattle.std.proofs.Common.{◌≡◌, inl, inr, ℕ, List, [], Bool, true, false, Option, Some, None, Result, Ok, Err, sym, subst}
 use Rattle.stab_code.specs.JobParts.{job_of}
 use Rattle.stab_words.specs.Asked.{asked}
 use Rattle.stab_words.specs.declared.request.Request.{Request}

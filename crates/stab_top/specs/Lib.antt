@@ -10,3 +10,4 @@ pub mod Milling
 pub mod Call
 pub mod Command
 pub mod Complete
+pub mod Headline

@@ -21,9 +21,25 @@ ghost use Rattle.stab_top.specs.Call.{Call, CountedFault, Says, status_of};
 ghost use Rattle.stab_top.specs.Words.{is_built};
 ghost use Rattle.stab_top.specs.Complete.{Checked, IsHeld, IsHeldFor, IsRefused, IsScriptFor, Ran, WasJudged};
 ghost use Rattle.stab_top.specs.Ending.{IsRunOf};
+ghost use Rattle.stab_top.specs.Headline.{AsksForRun, IsEnd, IsOfTheLanguage, ShowsRunOf};
 ghost use Rattle.stab_top.specs.Reading.{probes_form, program_form, trace_form};
 ghost use Rattle.stab_top.specs.declared.report.Role.TheVariants.{Probes as ProbesFile, Program as ProgramFile, Trace as TraceFile};
 ghost use Rattle.stab_top.specs.declared.report.Status.TheVariants.{Done as DoneStatus, NoMemory as NoMemoryStatus};
+
+/// Where the words ask for a run, and it is Done, Held or Spent: the journal of the report's book without its undone steps is, in
+/// order, a run of the plain language from the start state that ends in exactly the book's threads, channels, references and
+/// output; each granted stabilize undid its section's entry and precisely the steps that depend on it; no step that stands before
+/// a cut, or on which a pin depends, was undone; and what that run shows was written, and nothing else.
+pub fn runs_are_of_the_language()
+    ensures { (words : List (List ℕ)) (c : Call) (args : Args) → Says words c → asked words ≡ Ok (Run args) →
+        IsEnd (status_of c) → ShowsRunOf c }
+{}
+
+/// The same of the book of a run, a trace or the mill, whatever the status, wherever the report has a book.
+pub fn books_are_of_the_language()
+    ensures { (words : List (List ℕ)) (c : Call) (request : Request) (book : BookView) → Says words c →
+        asked words ≡ Ok request → AsksForRun request → c.outcome.report.book ≡ Some book → IsOfTheLanguage book }
+{}
 
 /// Where the words ask for a run, and the files tell that the text of a program is held within the limit under its
 /// name, and so is the script that the words name, the run came to its end, or memory was refused, or a fault was counted.

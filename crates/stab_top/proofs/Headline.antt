@@ -1,0 +1,282 @@
+-- What a call shows of the program that it runs.
+use Rattle.std.proofs.Common.{◌≡◌, ◌⊎◌, inl, inr, ℕ, true, length, length-append, arith, List, [], ◌∷◌, ◌++◌, Option, Some, None, Result, Ok, refl, sym, ap, subst, ◌∙◌, append-nil, append_assoc}
+use Rattle.std.proofs.lemmas.Bool.{false≢true}
+use Rattle.std.proofs.lemmas.List.{append_cancel_left}
+use Rattle.stab_code.specs.JobParts.{JobParts, job_of}
+use Rattle.stab_code.specs.Program.{ProgramParts}
+use Rattle.stab_files.specs.Entry.{Entry}
+use Rattle.stab_journal.specs.declared.event.Event.{Event}
+use Rattle.stab_journal.specs.declared.event.Numbered.{Numbered}
+use Rattle.stab_journal.specs.declared.event.What.{What}
+use Rattle.stab_journal.specs.declared.event.What.TheVariants.{Undo}
+use Rattle.stab_journal.specs.Reached.{without_reached}
+use Rattle.stab_journal.specs.Surviving.{run_of}
+use Rattle.stab_words.specs.Asked.{asked}
+use Rattle.stab_words.specs.declared.request.MillArgs.{MillArgs}
+use Rattle.stab_words.specs.declared.request.Request.{Request}
+use Rattle.stab_words.specs.declared.request.Request.TheVariants.{Run, Trace, Verify, Drill, Check, Mill, Types, Save, Resume, Watch}
+use Rattle.stab_words.specs.declared.request.RunArgs.{RunArgs}
+use Rattle.plain_language.specs.Plain.{PlainState}
+use Rattle.plain_language.specs.Standing.{MayUndo, StandsFor, nothing, step, undo, release, event}
+use Rattle.journal_laws.proofs.Chains.{chain_reached, reached_chain}
+use Rattle.journal_laws.proofs.Held.{cuts_hold, parts_of, pins_hold}
+use Rattle.journal_laws.proofs.Undone.{stands_run}
+use Rattle.commit_book.specs.Book.{BookView}
+use Rattle.commit_book.specs.Undoing.{undo_by}
+use Rattle.commit_book.specs.Counts.{is_undo}
+use Rattle.commit_book.proofs.Firm.{IsSnoc, front_of, snoc_of}
+use Rattle.stab_top.specs.declared.report.Report.{Report}
+use Rattle.stab_top.specs.declared.report.Status.{Status}
+use Rattle.stab_top.specs.declared.report.Status.TheVariants.{Done, Held, BadWords, BadText, NoFile, TooBig, FileFault, SinkFault, Spent, NoMemory, BadProbes, BadTrace, BadScript, No, NotBuilt}
+use Rattle.stab_top.specs.Words.{is_built}
+use Rattle.stab_top.specs.Call.{BuiltSays, Call, LastSays, MillSays, ReadSays, RunSaysBy, Says, Writing, status_of}
+use Rattle.stab_top.specs.Device.{Device, Gains}
+use Rattle.stab_top.specs.Ending.{AsReleased, AtTheEnd, Ends, IsRunOf, Outcome, RunEnds, milled_by, shown_by}
+use Rattle.stab_top.specs.Headline.{AsksForRun, IsEnd, IsOfTheLanguage, ShowsRunOf, TakesBack}
+use Rattle.stab_top.specs.declared.report.Role.{Role}
+use Rattle.stab_top.specs.Loading.{LoadRefused}
+use Rattle.stab_top.specs.Reading.{BytesRefused, Form, ReadRefused, probes_form, program_form}
+use Rattle.stab_top.proofs.Complete.{request_said}
+
+-- ---- an undo of a history
+
+record UndoneAt (p : ProgramParts) (first : List Event) (w t m : ℕ) : Type 0 where
+  run : List Numbered
+  before : PlainState
+  after : PlainState
+  stands : StandsFor p first run before
+  may : MayUndo p run before t m
+  left : StandsFor p (first ++ undo_by w t m ∷ []) (without_reached m run) after
+
+-- what an undo says
+abbrev thread_of : What → ℕ
+thread_of (Undo t m) = t.0
+thread_of what = 0
+
+abbrev mark_of : What → ℕ
+mark_of (Undo t m) = m.0
+mark_of what = 0
+
+-- nothing stands before the last event of a list of one
+nil_of : {X : Type 0} (xs : List X) → length xs ≡ 0 → xs ≡ []
+nil_of [] is = refl
+nil_of (x ∷ xs) is = absurd (omega (arith, is))
+
+alone : {X : Type 0} (x : X) (k : IsSnoc (x ∷ [])) → k.front ≡ []
+alone x k = let long : 1 ≡ length (k.front ++ k.last ∷ []) = ap length k.is in let sum = length-append k.front (k.last ∷ []) in nil_of k.front (omega (arith, long, sum))
+
+-- the last event of a list, and what stands before it
+last_is : (fs first : List Event) (e x : Event) → fs ++ e ∷ [] ≡ first ++ x ∷ [] → (fs ≡ first) × (e ≡ x)
+last_is fs first e x is =
+    let front : fs ≡ first = front_of fs first e x [] is ∙ ap (λ l. first ++ l) (alone x (snoc_of x [])) ∙ append-nil first in
+    let ends : e ∷ [] ≡ x ∷ [] = append_cancel_left first (e ∷ []) (x ∷ []) (ap (λ l. l ++ e ∷ []) (sym front) ∙ is) in
+    (front, let same : e ≡ x = cc in same)
+
+earlier : (fs first : List Event) (e u x : Event) (xs : List Event) → fs ++ e ∷ [] ≡ first ++ u ∷ (x ∷ xs) → fs ≡ first ++ u ∷ (snoc_of x xs).front
+earlier fs first e u x xs is =
+    front_of fs (first ++ u ∷ []) e x xs (is ∙ sym (append_assoc first (u ∷ []) (x ∷ xs))) ∙ append_assoc first (u ∷ []) (snoc_of x xs).front
+
+no_event : (first : List Event) (u : Event) (after : List Event) → [] ≡ first ++ u ∷ after → ⊥
+no_event [] u after is = let wrong : ⊥ = cc in wrong
+no_event (e ∷ es) u after is = let wrong : ⊥ = cc in wrong
+
+module _ (p : ProgramParts) (first : List Event) (w t m : ℕ) where
+  undone_at : (fs : List Event) (r : List Numbered) (s : PlainState) → StandsFor p fs r s → (after : List Event) → fs ≡ first ++ undo_by w t m ∷ after → UndoneAt p first w t m
+  undone_at _ _ _ nothing after is = absurd (no_event first (undo_by w t m) after is)
+  undone_at _ _ _ (step {events = fs} {run = r} {before = s} next worker label before may made) (x ∷ xs) is = undone_at fs r s before (snoc_of x xs).front (earlier fs first _ (undo_by w t m) x xs is)
+  undone_at _ _ _ (undo {events = fs} {run = r} {before = s} next worker u k before may ends) (x ∷ xs) is = undone_at fs r s before (snoc_of x xs).front (earlier fs first _ (undo_by w t m) x xs is)
+  undone_at _ _ _ (release {events = fs} {run = r} {state = s} worker k before final more) (x ∷ xs) is = undone_at fs r s before (snoc_of x xs).front (earlier fs first _ (undo_by w t m) x xs is)
+  undone_at _ _ _ (step {events = fs} {run = r} {before = s} next worker label before may made) [] is =
+      absurd (false≢true (ap is_undo (last_is fs first _ (undo_by w t m) is).1))
+  undone_at _ _ _ (release {events = fs} {run = r} {state = s} worker k before final more) [] is =
+      absurd (false≢true (ap is_undo (last_is fs first _ (undo_by w t m) is).1))
+  undone_at _ _ _ (undo {events = fs} {run = r} {before = s} next worker u k before may ends) [] is =
+      let parts = last_is fs first (event worker (Undo (record { 0 = u }) (record { 0 = k }))) (undo_by w t m) is in
+      let same = parts.1 in
+      let by : worker ≡ w = ap (λ (e : Event). e.worker) same in
+      let thread : u ≡ t = ap (λ (e : Event). thread_of e.what) same in
+      let mark : k ≡ m = ap (λ (e : Event). mark_of e.what) same in
+      let here : UndoneAt p fs worker u k = record { run = r; before = s; after = next; stands = before; may = may; left = undo next worker u k before may ends } in
+      subst (λ es. UndoneAt p es w t m) parts.0 (subst (λ v. UndoneAt p fs v t m) by (subst (λ v. UndoneAt p fs worker v m) thread (subst (λ v. UndoneAt p fs worker u v) mark here)))
+
+  takes_back : (fs : List Event) (r : List Numbered) (s : PlainState) → StandsFor p fs r s → (after : List Event) → fs ≡ first ++ undo_by w t m ∷ after → TakesBack m (run_of first) (run_of (first ++ undo_by w t m ∷ []))
+  takes_back fs r s stands after is =
+      let at = undone_at fs r s stands after is in
+      let before = stands_run p first at.run at.before at.stands in
+      let behind = stands_run p (first ++ undo_by w t m ∷ []) (without_reached m at.run) at.after at.left in
+      let rises = before.1.rises in
+      let may = at.may.revocable in
+      let here : TakesBack m at.run (without_reached m at.run) = record {
+        entered = (parts_of at.run m may).entered;
+        without = refl;
+        precisely = λ front n back cut. (reached_chain at.run m 1 rises front n back cut, chain_reached at.run m 1 rises n);
+        cuts = λ q lost. cuts_hold at.run m q rises may lost;
+        pins = λ front n back cut pin is chain. pins_hold at.run m rises may front n back cut pin is chain;
+      }
+      in
+      subst (λ ns. TakesBack m ns (run_of (first ++ undo_by w t m ∷ []))) before.0 (subst (λ ns. TakesBack m at.run ns) behind.0 here)
+
+-- what the report's book shows
+abbrev of_language : (job : JobParts) (book : BookView) (state : PlainState) → IsRunOf job book state → IsOfTheLanguage book
+of_language job book state r =
+    let p = book.job.program in
+    let history = r.shown.journal.history in
+    record {
+      run = r.run;
+      state = state;
+      left = history.left;
+      made = (stands_run p book.history.events r.run state history.stands).1;
+      threads = r.shown.threads.threads;
+      channels = r.shown.journal.channels;
+      references = r.shown.journal.references;
+      output = r.shown.journal.printed;
+      undos = λ first after w t m is. takes_back p first w t m book.history.events r.run state history.stands after is;
+    }
+
+-- ---- a call
+
+not_there : {A : Type 0} (o : Option BookView) (b : BookView) → o ≡ None → o ≡ Some b → A
+not_there o b none some = absurd (let wrong : ⊥ = cc in wrong)
+
+same_book : (o : Option BookView) (a b : BookView) → o ≡ Some a → o ≡ Some b → a ≡ b
+same_book o a b x y = cc
+
+no_bytes_book : {Content Fault : Type 0} (form : Form Content Fault) (report : Report) (bytes : List ℕ) → BytesRefused form report bytes → report.book ≡ None
+no_bytes_book form report bytes (inl have) = have.blames.no_book
+no_bytes_book form report bytes (inr none) = none.1.no_book
+
+no_read_book : {Content Fault : Type 0} (form : Form Content Fault) (report : Report) (files : Device (List Entry)) (name : List ℕ) (faults : ℕ) → ReadRefused form report files name faults → report.book ≡ None
+no_read_book form report files name faults (inl x) = x.1.no_book
+no_read_book form report files name faults (inr x) = no_bytes_book form report x.0 x.2
+
+module _ (o : Outcome) (b : BookView) (there : o.report.book ≡ Some b) where
+  module _ (writes : Status → BookView → PlainState → Outcome → Type 0) (job : JobParts) where
+    ends_book : (status : Status) → Ends writes status job o → IsOfTheLanguage b
+    ends_book status e = subst IsOfTheLanguage (same_book o.report.book e.book b e.reported there) (of_language job e.book e.state e.run)
+
+    run_book : (status : Status) → RunEnds writes status job o → IsOfTheLanguage b
+    run_book Done e = ends_book Done e
+    run_book Held e = ends_book Held e
+    run_book BadWords e = ends_book BadWords e
+    run_book BadText e = ends_book BadText e
+    run_book NoFile e = ends_book NoFile e
+    run_book TooBig e = ends_book TooBig e
+    run_book FileFault e = ends_book FileFault e
+    run_book SinkFault e = ends_book SinkFault e
+    run_book Spent e = ends_book Spent e
+    run_book NoMemory (inl none) = not_there o.report.book b none.0.no_book there
+    run_book NoMemory (inr e) = ends_book NoMemory e
+    run_book BadProbes e = ends_book BadProbes e
+    run_book BadTrace e = ends_book BadTrace e
+    run_book BadScript e = ends_book BadScript e
+    run_book No e = ends_book No e
+    run_book NotBuilt e = ends_book NotBuilt e
+
+module _ (c : Call) (b : BookView) (there : c.outcome.report.book ≡ Some b) where
+  read_book : {Content Fault : Type 0} (form : Form Content Fault) (file : List ℕ) (faults : ℕ) (Said : Content → Type 0) → ((content : Content) → Said content → IsOfTheLanguage b) → ReadSays form c file faults Said → IsOfTheLanguage b
+  read_book form file faults Said all (inl refused) = not_there c.outcome.report.book b (no_read_book form c.outcome.report c.files file c.files_after refused.0) there
+  read_book form file faults Said all (inr (content, holds, said)) = all content said
+
+  file_book : (writes : Writing) (args : RunArgs) (named : Option (List ℕ)) → RunSaysBy writes c args named → IsOfTheLanguage b
+  file_book writes args None says =
+      read_book program_form args.file c.files_after (λ p. RunEnds writes (status_of c) (job_of p [] args.fuel args.quantum) c.outcome)
+      (λ p ends. run_book c.outcome b there writes (job_of p [] args.fuel args.quantum) (status_of c) ends) says
+  file_book writes args (Some name) says =
+      read_book program_form args.file c.files.faults (λ p. LastSays probes_form c name (λ script. RunEnds writes (status_of c) (job_of p script args.fuel args.quantum) c.outcome))
+      (λ p said. read_book probes_form name c.files_after (λ script. RunEnds writes (status_of c) (job_of p script args.fuel args.quantum) c.outcome)
+      (λ script ends. run_book c.outcome b there writes (job_of p script args.fuel args.quantum) (status_of c) ends) said) says
+
+  mill_book : (args : MillArgs) → MillSays c args → IsOfTheLanguage b
+  mill_book args (same, inl refused) = not_there c.outcome.report.book b (no_bytes_book program_form c.outcome.report _ refused.0) there
+  mill_book args (same, inr (p, is, ends)) = run_book c.outcome b there (AsReleased (milled_by args.size)) _ (status_of c) ends
+
+  built_book : (request : Request) → AsksForRun request → BuiltSays c request → IsOfTheLanguage b
+  built_book (Run args) asks says = file_book (AsReleased shown_by) args args.probes says
+  built_book (Trace args) asks says = file_book AtTheEnd args args.probes says
+  built_book (Mill args) asks says = mill_book args says
+  built_book (Verify args) asks says = elim asks [ ]
+  built_book (Check file) asks says = elim asks [ ]
+  built_book (Drill args) asks says = elim asks [ ]
+  built_book (Types file) asks says = elim asks [ ]
+  built_book (Save args) asks says = elim asks [ ]
+  built_book (Resume args) asks says = elim asks [ ]
+  built_book (Watch args) asks says = elim asks [ ]
+
+is_asked : (request : Request) → AsksForRun request → is_built request ≡ true
+is_asked (Run args) asks = refl
+is_asked (Trace args) asks = refl
+is_asked (Mill args) asks = refl
+is_asked (Verify args) asks = elim asks [ ]
+is_asked (Check file) asks = elim asks [ ]
+is_asked (Drill args) asks = elim asks [ ]
+is_asked (Types file) asks = elim asks [ ]
+is_asked (Save args) asks = elim asks [ ]
+is_asked (Resume args) asks = elim asks [ ]
+is_asked (Watch args) asks = elim asks [ ]
+
+-- each book that is reported of a run is of the language
+pub book_of_language : (words : List (List ℕ)) (c : Call) (request : Request) (b : BookView) → Says words c → asked words ≡ Ok request → AsksForRun request → c.outcome.report.book ≡ Some b → IsOfTheLanguage b
+book_of_language words c request b says is asks there = built_book c b there request asks (request_said words c request says is (is_asked request asks))
+
+-- ---- a run that is over
+
+ended_run : (c : Call) (job : JobParts) (status : Status) → IsEnd status → RunEnds (AsReleased shown_by) status job c.outcome → ShowsRunOf c
+ended_run c job Done over e = record { book = e.book; reported = e.reported; says = of_language job e.book e.state e.run; written = e.writes.gains }
+ended_run c job Held over e = record { book = e.book; reported = e.reported; says = of_language job e.book e.state e.run; written = e.writes.gains }
+ended_run c job Spent over e = record { book = e.book; reported = e.reported; says = of_language job e.book e.state e.run; written = e.writes.gains }
+ended_run c job BadWords over e = elim over [ ]
+ended_run c job BadText over e = elim over [ ]
+ended_run c job NoFile over e = elim over [ ]
+ended_run c job TooBig over e = elim over [ ]
+ended_run c job FileFault over e = elim over [ ]
+ended_run c job SinkFault over e = elim over [ ]
+ended_run c job NoMemory over e = elim over [ ]
+ended_run c job BadProbes over e = elim over [ ]
+ended_run c job BadTrace over e = elim over [ ]
+ended_run c job BadScript over e = elim over [ ]
+ended_run c job No over e = elim over [ ]
+ended_run c job NotBuilt over e = elim over [ ]
+
+load_no_end : (role : Role) (status : Status) (files : Device (List Entry)) (name : List ℕ) (faults : ℕ) → LoadRefused status role files name faults → IsEnd status → ⊥
+load_no_end role Done files name faults refused over = refused
+load_no_end role Held files name faults refused over = refused
+load_no_end role Spent files name faults refused over = refused
+load_no_end role BadWords files name faults refused over = over
+load_no_end role BadText files name faults refused over = over
+load_no_end role NoFile files name faults refused over = over
+load_no_end role TooBig files name faults refused over = over
+load_no_end role FileFault files name faults refused over = over
+load_no_end role SinkFault files name faults refused over = over
+load_no_end role NoMemory files name faults refused over = over
+load_no_end role BadProbes files name faults refused over = over
+load_no_end role BadTrace files name faults refused over = over
+load_no_end role BadScript files name faults refused over = over
+load_no_end role No files name faults refused over = over
+load_no_end role NotBuilt files name faults refused over = over
+
+module _ {Content Fault : Type 0} (form : Form Content Fault) (bad : IsEnd form.bad → ⊥) (report : Report) (over : IsEnd report.status) where
+  bytes_no_end : (bytes : List ℕ) → BytesRefused form report bytes → ⊥
+  bytes_no_end bytes (inl have) = bad (subst IsEnd have.status over)
+  bytes_no_end bytes (inr none) = subst IsEnd none.0 over
+
+  read_no_end : (files : Device (List Entry)) (name : List ℕ) (faults : ℕ) → ReadRefused form report files name faults → ⊥
+  read_no_end files name faults (inl x) = load_no_end form.role report.status files name faults x.0 over
+  read_no_end files name faults (inr x) = bytes_no_end x.0 x.2
+
+module _ (c : Call) (over : IsEnd (status_of c)) where
+  read_ended : {Content Fault : Type 0} (form : Form Content Fault) → (IsEnd form.bad → ⊥) → (file : List ℕ) (faults : ℕ) (Said : Content → Type 0) → ((content : Content) → Said content → ShowsRunOf c) → ReadSays form c file faults Said → ShowsRunOf c
+  read_ended form bad file faults Said all (inl refused) = absurd (read_no_end form bad c.outcome.report over c.files file c.files_after refused.0)
+  read_ended form bad file faults Said all (inr (content, holds, said)) = all content said
+
+  file_ended : (args : RunArgs) (named : Option (List ℕ)) → RunSaysBy (AsReleased shown_by) c args named → ShowsRunOf c
+  file_ended args None says =
+      read_ended program_form (λ bad. bad) args.file c.files_after (λ p. RunEnds (AsReleased shown_by) (status_of c) (job_of p [] args.fuel args.quantum) c.outcome)
+      (λ p ends. ended_run c (job_of p [] args.fuel args.quantum) (status_of c) over ends) says
+  file_ended args (Some name) says =
+      read_ended program_form (λ bad. bad) args.file c.files.faults (λ p. LastSays probes_form c name (λ script. RunEnds (AsReleased shown_by) (status_of c) (job_of p script args.fuel args.quantum) c.outcome))
+      (λ p said. read_ended probes_form (λ bad. bad) name c.files_after (λ script. RunEnds (AsReleased shown_by) (status_of c) (job_of p script args.fuel args.quantum) c.outcome)
+      (λ script ends. ended_run c (job_of p script args.fuel args.quantum) (status_of c) over ends) said) says
+
+-- what a run that is over shows
+pub run_shows : (words : List (List ℕ)) (c : Call) (args : RunArgs) → Says words c → asked words ≡ Ok (Run args) → IsEnd (status_of c) → ShowsRunOf c
+run_shows words c args says is over = file_ended c over args args.probes (request_said words c (Run args) says is refl)
