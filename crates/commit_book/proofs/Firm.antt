@@ -108,7 +108,7 @@ below_rest f gone above (n ∷ ns) =
     ] refl
 
 -- a step more, above the last cut, makes no print less final
-floor_last : (f : ℕ) (ns : List Numbered) (n : Numbered) → floor_from f (ns ++ n ∷ []) ≡ cond (is_cut n.label) n.seq.0 (floor_from f ns)
+pub floor_last : (f : ℕ) (ns : List Numbered) (n : Numbered) → floor_from f (ns ++ n ∷ []) ≡ cond (is_cut n.label) n.seq.0 (floor_from f ns)
 floor_last f [] n = refl
 floor_last f (k ∷ ns) n = floor_last (cond (is_cut k.label) k.seq.0 f) ns n
 
@@ -236,7 +236,7 @@ front_of fs es e x xs is =
     let k = snoc_of x xs in
     snoc_front fs (es ++ k.front) e k.last (is ∙ ap (λ l. es ++ l) k.is ∙ sym (append_assoc es k.front (k.last ∷ [])))
 
-no_events : (es : List Event) (x : Event) (xs : List Event) → [] ≡ es ++ x ∷ xs → ⊥
+pub no_events : (es : List Event) (x : Event) (xs : List Event) → [] ≡ es ++ x ∷ xs → ⊥
 no_events es x xs is = let none : 0 ≡ length (es ++ x ∷ xs) = ap length is in let all = length-append es (x ∷ xs) in omega (arith, none, all)
 
 module _ (p : ProgramParts) where

@@ -120,3 +120,4 @@ pub mod Holding
 pub mod Chosen
 pub mod Crossing
 pub mod Firm
+pub mod LawfulBooks

@@ -43,7 +43,7 @@ module _ (p : ProgramParts) where
   all_printed s ns = prints (effect_of p) (λ _. false) s ns
 
   -- the output of a run has what its steps printed
-  output_is : (ns : List Numbered) (s end : PlainState) → after_steps (effect_of p) (Some s) ns ≡ Some end → end.output ≡ s.output ++ all_printed (Some s) ns
+  pub output_is : (ns : List Numbered) (s end : PlainState) → after_steps (effect_of p) (Some s) ns ≡ Some end → end.output ≡ s.output ++ all_printed (Some s) ns
   output_is [] s end run = sym (append_nil s.output ∙ ap (λ (y : PlainState). y.output) (some_is run))
     where
       append_nil : (l : List Datum) → l ++ [] ≡ l

@@ -28,3 +28,4 @@ pub mod Releases
 pub mod Commits
 pub mod Acting
 pub mod Meetings
+pub mod Headline
