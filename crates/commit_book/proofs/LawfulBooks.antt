@@ -1,5 +1,5 @@
 -- What stands behind the laws of books: each event was due where it came, and what is final or pinned stays.
-use Rattle.std.proofs.Common.{◌≡◌, ◌↔◌, ℕ, suc, ◌+◌, ◌<◌, ◌≤◌, Bool, true, false, cond, not, ◌&&◌, ◌||◌, List, [], ◌∷◌, ◌++◌, length, Option, Some, None, refl, sym, ap, subst, ◌∙◌, append-nil, append_assoc, arith}
+use Rattle.std.proofs.Common.{◌≡◌, ℕ, suc, ◌+◌, ◌<◌, ◌≤◌, Bool, true, false, cond, not, ◌&&◌, ◌||◌, List, [], ◌∷◌, ◌++◌, length, Option, Some, None, refl, sym, ap, subst, ◌∙◌, append-nil, append_assoc, arith}
 use Rattle.std.proofs.lemmas.Bool.{and_parts, not-true}
 use Rattle.stab_code.specs.Program.{ProgramParts}
 use Rattle.stab_base.specs.declared.numbers.Seq.{Seq}
@@ -13,7 +13,7 @@ use Rattle.stab_journal.specs.declared.event.What.TheVariants.{Step, Undo, Relea
 use Rattle.stab_journal.specs.Dependence.{DependsOn, Reaches, itself, link, shares, writes, writes_what}
 use Rattle.stab_journal.specs.Due.{final_prints}
 use Rattle.stab_journal.specs.Floor.{floor, is_cut, is_pin, is_revocable}
-use Rattle.stab_journal.specs.Journal.{RiseFrom, step_at, survivors}
+use Rattle.stab_journal.specs.Journal.{RiseFrom}
 use Rattle.stab_journal.specs.Names.{has, is_at, read}
 use Rattle.stab_journal.specs.Reached.{reached, rest, without_reached}
 use Rattle.stab_journal.specs.Surviving.{after_event, after_events, run_of}
@@ -24,7 +24,6 @@ use Rattle.journal_laws.proofs.Chains.{or_cases, or_right, chain_reached, reache
 use Rattle.journal_laws.proofs.Held.{cuts_hold, pins_hold, entry_of, parts_of}
 use Rattle.journal_laws.proofs.Numbers.{joined, rise_front}
 use Rattle.journal_laws.proofs.Undone.{stands_run}
-use Rattle.commit_book.specs.Book.{BookView, IsShown}
 use Rattle.commit_book.specs.Headline.{StandsIn, IsGranted, IsRefused}
 use Rattle.commit_book.proofs.Firm.{floor_last, front_of, no_events, snoc_of}
 use Rattle.commit_book.proofs.Floors.{floor_below}

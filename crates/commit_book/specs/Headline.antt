@@ -11,6 +11,7 @@ use Rattle.stab_journal.specs.Floor.{is_mark_revocable}
 use Rattle.stab_journal.specs.Journal.{survivors}
 use Rattle.stab_journal.specs.Names.{has}
 use Rattle.stab_journal.specs.Reached.{reached, without_reached}
+use Rattle.stab_journal.specs.Script.{FollowsScript}
 use Rattle.stab_journal.specs.Surviving.{run_of}
 use Rattle.plain_language.specs.Plain.{PlainState, IsRun, mark_in}
 use Rattle.plain_language.specs.Standing.{StandsFor, MayUndo, event}
@@ -26,11 +27,12 @@ pub record StandsIn (run : List Numbered) (n : Numbered) : Type 0 where
   pub after : List Numbered
   pub is : run ≡ before ++ n ∷ after
 
--- the steps that aren't struck are what the undos left, and a run of the plain language from the start state; the book's threads, channels, references and output are those of the state in which it ends
+-- the steps that aren't struck are what the undos left, and a run of the plain language from the start state, whose probes got the script's numbers; the book's threads, channels, references and output are those of the state in which it ends
 pub record HasRun (b : BookView) : Type 0 where
   pub end : PlainState
   pub left : survivors b.history ≡ run_of b.history.events
   pub run : IsRun b.job.program (survivors b.history) end
+  pub script : FollowsScript b.job.script b.history.events
   pub threads : AreThreads (expr_of b.job.program) b.threads end
   pub channels : AreChannels b.offers.lines end
   pub references : HoldValues b.references end

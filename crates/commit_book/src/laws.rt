@@ -20,7 +20,8 @@ ghost use Rattle.commit_book.specs.Book.{BookView, IsShown};
 ghost use Rattle.commit_book.specs.Headline.{HasRun, IsGranted, IsRefused, StandsIn};
 
 /// The journal without its undone steps is, in order, a run of the plain language from the start state, and it ends in
-/// exactly the book's threads, channels, references and output.
+/// exactly the book's threads, channels, references and output. Its probes got the numbers of the script, of which those that
+/// were undone used up theirs.
 pub fn books_show_a_run()
     ensures { (b : BookView) → IsShown b → HasRun b }
 {}

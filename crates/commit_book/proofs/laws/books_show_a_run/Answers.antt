@@ -14,6 +14,7 @@ has_run b shown =
       end = shown.state;
       left = journal.history.left ∙ ran.0;
       run = subst (λ (r : List Numbered). IsRun b.job.program r shown.state) (sym journal.history.left) ran.1;
+      script = journal.script;
       threads = shown.shows.threads.threads;
       channels = journal.channels;
       references = journal.references;
