@@ -21,6 +21,8 @@ fn main(rt: HostRuntime) -> io::Result<()> {
         "trace sum.stab",
         "verify cascade.stab cascade.trace --probes cascade.probes",
         "verify cascade.stab cascade.trace",
+        "run cascade.stab --probes cascade.probes",
+        "mill 10",
     ] {
         let mut files = DiskFiles::new(&rt);
         let mut output = OutSink::new(io::writer(&rt));

@@ -81,18 +81,17 @@ fn check_and_size(rt: HostRuntime) -> Result<(), Fail> {
     answers(&rt, alloc, "check p", &tokens, "0 ok functions 1 texts 0/")
 }
 
-const UNBUILT: &[u8] =
+const TRY_READ: &[u8] =
     b"fn try_read(): int { let p = probe(); if p < 0 { stabilize() } else { p } } fn main(): unit { stable try_read(); }";
 
 #[test]
-fn what_is_checked_may_be_not_built(rt: HostRuntime) -> Result<(), Fail> {
+fn checks(rt: HostRuntime) -> Result<(), Fail> {
     let alloc = rt.alloc();
     for (words, failing, expected) in [
         ("check p", 2, "0 ok functions 2 texts 0/"),
         ("check p", 1, "7 stab: SinkFault/"),
-        ("run p", 1, "14 stab: NotBuilt/"),
     ] {
-        let trial = Trial::new(&rt, alloc, words, UNBUILT, [&[], &[failing]])?;
+        let trial = Trial::new(&rt, alloc, words, TRY_READ, [&[], &[failing]])?;
         is_answer(alloc, words, trial.answer.as_str(), expected)?;
     }
     let texts = b"fn f(): text { \"a\" } fn main(): unit { print(\"b\"); print(\"a\") }";

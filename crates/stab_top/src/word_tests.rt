@@ -70,7 +70,6 @@ fn refused_words(rt: HostRuntime) -> Result<(), Fail> {
 
 const UNBUILT: &str = "\
 drill p s -> 14 stab: NotBuilt/\n\
-mill 5 -> 14 stab: NotBuilt/\n\
 types p -> 14 stab: NotBuilt/\n\
 save p t 1 -> 14 stab: NotBuilt/\n\
 resume i -> 14 stab: NotBuilt/\n\

@@ -1,6 +1,0 @@
-//! Programs without sections, cuts and pins.
-#![tactic(auto)]
-
-mod flat;
-
-pub use flat::is_flat;
