@@ -138,12 +138,11 @@ module _ (book : BookView) (state : PlainState) (job : JobParts) (run : IsRunOf 
     where
       by : (faults ends : List ℕ) → shown book.job.program state ≡ value_lines book.job.program state.output ++ faults ++ ends → (more : List ℕ) × (shown book.job.program state ≡ released_lines book ++ more)
       by faults ends is =
-          let rest = value_lines book.job.program others in
-          (
+          let rest = value_lines book.job.program others in (
             rest ++ faults ++ ends,
             is ∙ ap (λ l. l ++ faults ++ ends) values_split
-            ∙ ap (λ l. l ++ ends) (append_assoc (released_lines book) rest faults)
-            ∙ append_assoc (released_lines book) (rest ++ faults) ends,
+                ∙ ap (λ l. l ++ ends) (append_assoc (released_lines book) rest faults)
+                ∙ append_assoc (released_lines book) (rest ++ faults) ends,
           )
 
   text_more : (size : Option ℕ) → (more : List ℕ) × (text_with size book state ≡ released_lines book ++ more)
@@ -164,8 +163,7 @@ module _ (book : BookView) (state : PlainState) (job : JobParts) (run : IsRunOf 
     -- only the lines of what was released were written
     lines_only : Gains o.sink o.sink_after (released_lines book) → AsReleased (text_with size) NoMemory book state o
     lines_only gains =
-        let more = text_more size in
-        (
+        let more = text_more size in (
           record {
             front = released_lines book;
             back = more.0;
@@ -178,10 +176,9 @@ module _ (book : BookView) (state : PlainState) (job : JobParts) (run : IsRunOf 
     -- a line couldn't be written
     fault_written : StopSays stops.SinkFault book state o.sink o.sink_after → AsReleased (text_with size) SinkFault book state o
     fault_written says =
-        let more = text_more size in
-        (
+        let more = text_more size in (
           subst (SomePrefix (λ front. Appends o.sink.told o.sink_after.told front × HasReleases book state front)) (sym more.1)
-          (SomePrefix-append (λ front. Appends o.sink.told o.sink_after.told front × HasReleases book state front) (released_lines book) more.0 says.0),
+              (SomePrefix-append (λ front. Appends o.sink.told o.sink_after.told front × HasReleases book state front) (released_lines book) more.0 says.0),
           says.1,
         )
 
@@ -189,8 +186,7 @@ module _ (book : BookView) (state : PlainState) (job : JobParts) (run : IsRunOf 
       -- the rest was written, or a prefix of it
       rest_prefix : (text : List ℕ) → IsTextBehind size book text → GainsPrefix between o.sink_after text → AsReleased (text_with size) SinkFault book state o
       rest_prefix text behind prefix =
-          let part = prefix.0 in
-          (
+          let part = prefix.0 in (
             record {
               front = released_lines book ++ part.front;
               back = part.back;

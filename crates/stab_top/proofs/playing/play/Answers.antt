@@ -27,7 +27,7 @@ loop-sink-preserved g c =
       later_again start old new inv.1 c.in-Released.ensures.later,
       record { unlent = c.in-Released.ensures.unlent; none_due = says.1 },
       round_gains (device g.K.Sink.told g.K.Sink.faults c.args.sink.now) (device g.K.Sink.told g.K.Sink.faults c.loop-sink.sink) (device g.K.Sink.told g.K.Sink.faults c.put_lines.new.sink)
-      (released_lines old) c.round.new.lines.items (released_lines new) inv.3 written c.in-Released.ensures.lines,
+          (released_lines old) c.round.new.lines.items (released_lines new) inv.3 written c.in-Released.ensures.lines,
     )
 
 pub returns-in-Err-Failed-clause-stopped : goal.returns-in-Err-Failed-clause-stopped
