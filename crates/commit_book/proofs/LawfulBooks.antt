@@ -1,5 +1,7 @@
 -- What stands behind the laws of books: each event was due where it came, and what is final or pinned stays.
 use Rattle.std.proofs.Common.{◌≡◌, ℕ, suc, ◌+◌, ◌<◌, ◌≤◌, Bool, true, false, cond, not, ◌&&◌, ◌||◌, List, [], ◌∷◌, ◌++◌, length, Option, Some, None, refl, sym, ap, subst, ◌∙◌, append-nil, append_assoc, arith}
+use Rattle.std.specs.Prelude.{IsSomeAnd, option_and_then, option_map}
+use Rattle.std.specs.FinMap as map
 use Rattle.std.proofs.lemmas.Bool.{and_parts, not-true}
 use Rattle.stab_code.specs.Program.{ProgramParts}
 use Rattle.stab_base.specs.declared.numbers.Seq.{Seq}
@@ -17,12 +19,16 @@ use Rattle.stab_journal.specs.Journal.{RiseFrom}
 use Rattle.stab_journal.specs.Names.{has, is_at, read}
 use Rattle.stab_journal.specs.Reached.{reached, rest, without_reached}
 use Rattle.stab_journal.specs.Surviving.{after_event, after_events, run_of}
-use Rattle.plain_language.specs.Plain.{PlainState}
-use Rattle.plain_language.specs.Standing.{StandsFor, MayStep, MayUndo, nothing, step, undo, release, event}
+use Rattle.plain_language.specs.Expression.{Expr}
+use Rattle.plain_language.specs.Plain.{PlainState, effect_of, language_of, look_in, plain_step, standing}
+use Rattle.plain_language.specs.Steps.{Effect, effect_in}
+use Rattle.plain_language.specs.Table.{Look, act, stabilizes, refuse_by}
+use Rattle.plain_language.specs.Standing.{StandsFor, MayStep, MayUndo, is_stabilize, nothing, step, undo, release, event}
 use Rattle.journal_laws.proofs.Applying.{or_false}
 use Rattle.journal_laws.proofs.Chains.{or_cases, or_right, chain_reached, reached_chain}
 use Rattle.journal_laws.proofs.Held.{cuts_hold, pins_hold, entry_of, parts_of}
 use Rattle.journal_laws.proofs.Numbers.{joined, rise_front}
+use Rattle.journal_laws.proofs.Stepping.{step_of}
 use Rattle.journal_laws.proofs.Undone.{stands_run}
 use Rattle.commit_book.specs.Headline.{StandsIn, IsGranted, IsRefused}
 use Rattle.commit_book.proofs.Firm.{floor_last, front_of, no_events, snoc_of}
@@ -31,9 +37,14 @@ use Rattle.commit_book.proofs.UndoneParts.{floor_rest}
 
 -- ---- each event was due where it came
 
+-- the language has the step
+pub record IsMade (p : ProgramParts) (s : PlainState) (q : ℕ) (l : Label) : Type 0 where
+  pub end : PlainState
+  pub is : plain_step p s q l ≡ Some end
+
 -- what an event asks of the events before it, their run and its end
 abbrev MayCome : ProgramParts → List Event → List Numbered → PlainState → What → Type 0
-MayCome p es run s (Step l) = MayStep es run s l
+MayCome p es run s (Step l) = MayStep es run s l × IsMade p s (length es + 1) l
 MayCome p es run s (Undo t m) = MayUndo p run s t.0 m.0
 MayCome p es run s (Release k) = k ≡ final_prints run
 
@@ -73,7 +84,7 @@ module _ (p : ProgramParts) where
   pub due_after : (es : List Event) (run : List Numbered) (s : PlainState) → StandsFor p es run s → (first : List Event) (e : Event) (after : List Event) → es ≡ first ++ e ∷ after → IsDueAfter p first e.what
   due_after _ _ _ nothing first e after cut = absurd (no_events first e after cut)
   due_after _ _ _ (step {events = es} {run = run} {before = s} end worker label stands may made) first e after cut =
-      due_there es run s (event worker (Step label)) stands may first e (λ between is. due_after es run s stands first e between is) (where_is es _ first e after cut)
+      due_there es run s (event worker (Step label)) stands (may, record { end = end; is = made }) first e (λ between is. due_after es run s stands first e between is) (where_is es _ first e after cut)
   due_after _ _ _ (undo {events = es} {run = run} {before = s} end worker t m stands may ends) first e after cut =
       due_there es run s (event worker (Undo (record { 0 = t }) (record { 0 = m }))) stands may first e (λ between is. due_after es run s stands first e between is) (where_is es _ first e after cut)
   due_after _ _ _ (release {events = es} {run = run} {state = s} worker k stands final more) first e after cut =
@@ -241,7 +252,29 @@ granted p es run s stands first after worker t m cut =
       gone = λ n at. (reached_chain (run_of first) m.0 1 ran.rises at.before n at.after at.is, chain_reached (run_of first) m.0 1 ran.rises n);
     }
 
+-- where a refusal is a step, its thread stands at stabilize
+module _ (p : ProgramParts) where
+  refusal_at : (x : Look Expr) (e : Effect Expr) → refuse_by (language_of p) x ≡ Some e → is_stabilize x ≡ true
+  refusal_at (act stabilizes) e is = refl
+  refusal_at _ e is = absurd (cc)
+
+  refused_by : (s : PlainState) (q : ℕ) (t : ThreadId) (o : Option Expr) → map.get s.threads t.0 ≡ o
+      → effect_in (effect_of p) s q (Refuse t) ≡ option_and_then (λ es. effect_of p q (Refuse t) es None) (option_and_then (λ x. option_map (λ es. x ∷ es) (Some [])) o)
+  refused_by s q t o there = ap (λ x. option_and_then (λ es. effect_of p q (Refuse t) es None) (option_and_then (λ x. option_map (λ es. x ∷ es) (Some [])) x)) there
+
+  at_there : (o : Option Expr) (s : PlainState) (q : ℕ) (t : ThreadId) (e : Effect Expr) → map.get s.threads t.0 ≡ o → effect_in (effect_of p) s q (Refuse t) ≡ Some e → IsSomeAnd o (λ x. is_stabilize (look_in p x) ≡ true)
+  at_there None s q t e there found =
+      let none : None ≡ Some e = sym (refused_by s q t None there) ∙ found in
+      absurd (cc)
+  at_there (Some x) s q t e there found = refusal_at (look_in p x) e (sym (refused_by s q t (Some x) there) ∙ found)
+
+  at_stabilize : (s : PlainState) (q : ℕ) (t : ThreadId) (end : PlainState) → plain_step p s q (Refuse t) ≡ Some end → IsSomeAnd (standing s t.0) (λ x. is_stabilize (look_in p x) ≡ true)
+  at_stabilize s q t end made =
+      let st = step_of (effect_of p) s q (Refuse t) end made in
+      at_there (map.get s.threads t.0) s q t st.eff refl st.found
+
 pub refused : (p : ProgramParts) (es : List Event) (run : List Numbered) (s : PlainState) → StandsFor p es run s → (first after : List Event) (worker : ℕ) (t : ThreadId) → es ≡ first ++ event worker (Step (Refuse t)) ∷ after → IsRefused p first t
 refused p es run s stands first after worker t cut =
     let due = due_after p es run s stands first (event worker (Step (Refuse t))) after cut in
-    record { state = due.state; stands = due.stands; due = due.may }
+    let made = due.may.1 in
+    record { state = due.state; stands = due.stands; at = at_stabilize p due.state (length first + 1) t made.end made.is; due = due.may.0 }

@@ -1,5 +1,5 @@
 -- What the headline says of a book.
-use Rattle.std.specs.Prelude.{◌≡◌, ◌↔◌, ℕ, true, false, List, [], ◌∷◌, ◌++◌}
+use Rattle.std.specs.Prelude.{◌≡◌, ◌↔◌, ℕ, true, false, List, [], ◌∷◌, ◌++◌, IsSomeAnd}
 use Rattle.stab_base.specs.declared.numbers.Seq.{Seq}
 use Rattle.stab_base.specs.declared.numbers.ThreadId.{ThreadId}
 use Rattle.stab_code.specs.Program.{ProgramParts}
@@ -13,8 +13,8 @@ use Rattle.stab_journal.specs.Names.{has}
 use Rattle.stab_journal.specs.Reached.{reached, without_reached}
 use Rattle.stab_journal.specs.Script.{FollowsScript}
 use Rattle.stab_journal.specs.Surviving.{run_of}
-use Rattle.plain_language.specs.Plain.{PlainState, IsRun, mark_in}
-use Rattle.plain_language.specs.Standing.{StandsFor, MayUndo, event}
+use Rattle.plain_language.specs.Plain.{PlainState, IsRun, look_in, mark_in, standing}
+use Rattle.plain_language.specs.Standing.{StandsFor, MayUndo, event, is_stabilize}
 use Rattle.step_eval.specs.ControlView.{expr_of}
 use Rattle.commit_book.specs.Book.{BookView}
 use Rattle.commit_book.specs.Channels.{AreChannels}
@@ -47,8 +47,9 @@ pub record IsGranted (p : ProgramParts) (first : List Event) (worker : ℕ) (t :
   pub entry : has (reached (run_of first) m.0) m.0 ≡ true
   pub gone : (n : Numbered) → StandsIn (run_of first) n → (has (reached (run_of first) m.0) n.seq.0 ≡ true) ↔ Reaches (run_of first) m.0 n
 
--- behind the first events stabilize is refused to the thread t: there it stood in no section, or in one that couldn't be taken back
+-- behind the first events stabilize is refused to the thread t: there it stood at stabilize, in no section or in one that couldn't be taken back
 pub record IsRefused (p : ProgramParts) (first : List Event) (t : ThreadId) : Type 0 where
   pub state : PlainState
   pub stands : StandsFor p first (run_of first) state
+  pub at : IsSomeAnd (standing state t.0) (λ e. is_stabilize (look_in p e) ≡ true)
   pub due : is_mark_revocable (run_of first) (mark_in state t.0) ≡ false
