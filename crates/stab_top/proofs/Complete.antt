@@ -2,6 +2,7 @@
 use Rattle.std.proofs.Common.{arith, ◌≡◌, ◌⊎◌, inl, inr, ℕ, ℤ, ◌<◌, true, List, [], length, Option, Some, None, Result, Ok, Err, IfSome, IsSomeAnd, refl, ap, sym, subst, ◌∙◌}
 use Rattle.plain_language.specs.Plain.{PlainState}
 use Rattle.commit_book.specs.Book.{BookView}
+use Rattle.mill_text.specs.Mill.{mill_script, mill_text}
 use Rattle.probe_text.specs.declared.fault.ProbesFault.{ProbesFault}
 use Rattle.probe_text.specs.Probes as probes
 use Rattle.stab_code.specs.JobParts.{JobParts, job_of}
@@ -12,6 +13,7 @@ use Rattle.stab_text.specs.declared.fault.TextFault.{TextFault}
 use Rattle.stab_text.specs.Text.{HasFault, IsTextOf}
 use Rattle.stab_text.proofs.Reading.{not_both, one_fault, one_program}
 use Rattle.stab_words.specs.Asked.{asked}
+use Rattle.stab_words.specs.declared.request.MillArgs.{MillArgs}
 use Rattle.stab_words.specs.declared.request.Request.{Request}
 use Rattle.stab_words.specs.declared.request.Request.TheVariants.{Run, Trace, Verify, Drill, Check, Mill, Types, Save, Resume, Watch}
 use Rattle.stab_words.specs.declared.request.RunArgs.{RunArgs}
@@ -27,7 +29,8 @@ use Rattle.stab_top.specs.declared.report.Status.{Status}
 use Rattle.stab_top.specs.declared.report.Status.TheVariants.{Done, Held, BadWords, BadText, NoFile, TooBig, FileFault, SinkFault, Spent, NoMemory, BadProbes, BadTrace, BadScript, No, NotBuilt}
 use Rattle.stab_top.specs.Words.{is_built}
 use Rattle.stab_top.specs.Device.{Device}
-use Rattle.stab_top.specs.Ending.{AsReleased, AtTheEnd, CheckEnds, IsJudged, IsTold, RunEnds, VerdictEnds, shown_by}
+use Rattle.stab_top.specs.Ending.{AsReleased, AtTheEnd, CheckEnds, IsJudged, IsTold, RunEnds, VerdictEnds, milled_by, shown_by}
+use Rattle.stab_top.specs.Milling.{MillEnds}
 use Rattle.stab_top.specs.Loading.{Finds, LoadRefused, Loads, max_bytes}
 use Rattle.stab_top.specs.Reading.{Blames, Form, HaveFault, Holds, ReadRefused, probes_form, program_form, trace_form}
 use Rattle.stab_top.specs.Call.{BuiltSays, Call, CheckSays, CountedFault, LastSays, ReadSays, RequestSays, RunSaysBy, Says, ScriptSays, TraceSays, VerifySays, WordsSay, Writing, status_of}
@@ -251,6 +254,15 @@ run_with_bad_probes words c args text name bytes program fault says (inl is) hel
     bad_probes_said (AsReleased shown_by) c args text program held of args.probes name bytes fault named there has (request_said words c (Run args) says is refl)
 run_with_bad_probes words c args text name bytes program fault says (inr is) held of named there has =
     bad_probes_said AtTheEnd c args text program held of args.probes name bytes fault named there has (request_said words c (Trace args) says is refl)
+
+-- the mill, where its text is one of a program
+pub mill_runs : (words : List (List ℕ)) (c : Call) (args : MillArgs) (program : ProgramParts) → Says words c → asked words ≡ Ok (Mill args) → IsTextOf (mill_text args.size) program → Ran (status_of c) ⊎ CountedFault c
+mill_runs words c args program says is text = by (request_said words c (Mill args) says is refl).1
+  where
+    by : MillEnds (status_of c) args c.outcome → Ran (status_of c) ⊎ CountedFault c
+    by (inl (inl have, rests)) = absurd (not_both (mill_text args.size) program have.fault text have.has)
+    by (inl (inr none, rests)) = inl (subst Ran (sym none.0) tt)
+    by (inr (other, same, ends)) = ran (milled_by args.size) (status_of c) c (job_of other (mill_script args.size) args.fuel args.quantum) ends
 
 pub good_program_checks : (words : List (List ℕ)) (c : Call) (file bytes : List ℕ) (program : ProgramParts) → Says words c → asked words ≡ Ok (Check file) →
     IsHeld roles.Program c file bytes → IsTextOf bytes program → Checked (status_of c) ⊎ CountedFault c

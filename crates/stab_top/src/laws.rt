@@ -4,6 +4,7 @@ ghost use Rattle.std.specs.Prelude.{◌≡◌, ◌⊎◌, ◌<◌, ◌++◌, ◌
 ghost use Rattle.commit_book.specs.Book.{BookView};
 ghost use Rattle.commit_book.specs.Undoing.{undo_by};
 ghost use Rattle.lone_worker.specs.Solo.{BeginsWith, IsWholeSolo};
+ghost use Rattle.mill_text.specs.Mill.{mill_text};
 ghost use Rattle.plain_language.specs.Plain.{PlainState};
 ghost use Rattle.probe_text.specs.declared.fault.ProbesFault.{ProbesFault};
 ghost use Rattle.stab_code.specs.JobParts.{JobParts};
@@ -21,7 +22,8 @@ ghost use Rattle.stab_text.specs.declared.fault.TextFault.{TextFault};
 ghost use Rattle.stab_text.specs.Text.{HasFault, IsTextOf};
 ghost use Rattle.stab_words.specs.Asked.{asked};
 ghost use Rattle.stab_words.specs.declared.request.Request.{Request};
-ghost use Rattle.stab_words.specs.declared.request.Request.TheVariants.{Check, Run, Trace, Verify};
+ghost use Rattle.stab_words.specs.declared.request.MillArgs.{MillArgs};
+ghost use Rattle.stab_words.specs.declared.request.Request.TheVariants.{Check, Mill, Run, Trace, Verify};
 ghost use Rattle.stab_words.specs.declared.request.RunArgs.{RunArgs as Args};
 ghost use Rattle.stab_words.specs.declared.request.VerifyArgs.{VerifyArgs};
 ghost use Rattle.trace_text.specs.declared.fault.TraceFault.{TraceFault};
@@ -81,6 +83,13 @@ pub fn good_programs_are_traced()
     ensures { (words : List (List ℕ)) (c : Call) (args : Args) (bytes : List ℕ) (program : ProgramParts)
         (script : List ℤ) → Says words c → asked words ≡ Ok (Trace args) → IsHeld ProgramFile c args.file bytes →
         IsTextOf bytes program → IsScriptFor c args.probes script → Ran (status_of c) ⊎ CountedFault c }
+{}
+
+/// Where the words ask for the mill, and its text is one of a program, the run came to its end, or memory was refused, or a fault was
+/// counted.
+pub fn mills_run()
+    ensures { (words : List (List ℕ)) (c : Call) (args : MillArgs) (program : ProgramParts) → Says words c →
+        asked words ≡ Ok (Mill args) → IsTextOf (mill_text args.size) program → Ran (status_of c) ⊎ CountedFault c }
 {}
 
 /// Where the words ask for a check, and the files tell that the text of a program is held within the limit under its name,

@@ -43,7 +43,7 @@ pub enum Status {
     BadScript,
     /// The trace is no run of the program.
     No,
-    /// What the words or the program ask for isn't built yet.
+    /// What the words ask for isn't built yet.
     NotBuilt,
 }
 
@@ -116,7 +116,7 @@ impl Role {
 #[derive(Drop)]
 pub struct Report {
     pub status: Status,
-    /// The book of a run that came to its end, also where its output couldn't be written.
+    /// The book of a run, also where its output couldn't be written. Where memory was wanted it is there once the run had begun.
     pub book: Option<Book>,
     /// Why the words were refused.
     pub words_fault: Option<WordFault>,
@@ -133,7 +133,7 @@ pub struct Report {
 }
 
 impl Report {
-    /// The report of a run that came to its end.
+    /// The report of a run.
     pub(crate) fn ending(status: Status, book: Book) -> Report
         ensures status { result.status ≡ status }
         ensures book { result.book ≡ Some book }
