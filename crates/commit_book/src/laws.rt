@@ -1,7 +1,7 @@
 //! What every book shows, whatever calls led to it: each call of `Book` says `IsShown` of the book that it leaves, and here
 //! is what follows from it. The calls do nothing, take no memory and answer nothing.
 
-ghost use Rattle.std.specs.Prelude.{◌≡◌, ◌≤◌, ◌++◌, ◌∷◌, ℕ, true, false, List, Some, count_by, length};
+ghost use Rattle.std.specs.Prelude.{◌≡◌, ◌≤◌, ◌++◌, ◌∷◌, ℕ, true, false, List, Some, count_by, length, take};
 ghost use Rattle.stab_base.specs.declared.numbers.Seq.{Seq};
 ghost use Rattle.stab_base.specs.declared.numbers.ThreadId.{ThreadId};
 ghost use Rattle.stab_journal.specs.declared.event.Event.{Event};
@@ -9,12 +9,12 @@ ghost use Rattle.stab_journal.specs.declared.event.Label.TheVariants.{Refuse};
 ghost use Rattle.stab_journal.specs.declared.event.Numbered.{Numbered};
 ghost use Rattle.stab_journal.specs.declared.event.What.TheVariants.{Step, Undo};
 ghost use Rattle.stab_journal.specs.Dependence.{Reaches};
-ghost use Rattle.stab_journal.specs.Due.{is_print};
+ghost use Rattle.stab_journal.specs.Due.{is_print, released};
 ghost use Rattle.stab_journal.specs.Floor.{floor, is_pin};
 ghost use Rattle.stab_journal.specs.Journal.{survivors};
 ghost use Rattle.stab_journal.specs.Surviving.{run_of};
-ghost use Rattle.plain_language.specs.Plain.{effect_of, start};
-ghost use Rattle.plain_language.specs.Standing.{event};
+ghost use Rattle.plain_language.specs.Plain.{PlainState, effect_of, start};
+ghost use Rattle.plain_language.specs.Standing.{StandsFor, event};
 ghost use Rattle.journal_laws.specs.Surviving.{prints};
 ghost use Rattle.commit_book.specs.Book.{BookView, IsShown};
 ghost use Rattle.commit_book.specs.Headline.{HasRun, IsGranted, IsRefused, StandsIn};
@@ -62,4 +62,14 @@ pub fn no_undone_value_is_shown()
         → b.printed ≡ prints (effect_of b.job.program) (λ _. false) (Some (start b.job.program)) (survivors b.history) }
     ensures each { (b : BookView) → IsShown b
         → length b.printed ≡ count_by (λ (n : Numbered). is_print n.label) (survivors b.history) }
+{}
+
+/// What a release handed out stays printed: whatever came after the first events, the values that were released by then are
+/// the first of the printed ones, as they were in the state to which those events led.
+pub fn released_values_stay()
+    ensures values { (b : BookView) → IsShown b → (first after : List Event) → b.history.events ≡ first ++ after
+        → (s : PlainState) → StandsFor b.job.program first (run_of first) s
+        → take (released first) b.printed ≡ take (released first) s.output }
+    ensures all { (b : BookView) → IsShown b → (first after : List Event) → b.history.events ≡ first ++ after
+        → (s : PlainState) → StandsFor b.job.program first (run_of first) s → released first ≤ length s.output }
 {}

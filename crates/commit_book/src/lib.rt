@@ -25,7 +25,7 @@ pub use counts::Counts;
 pub use done::{CommitRefused, Done};
 pub use laws::{
     books_show_a_run, final_steps_stay, no_undone_value_is_shown, pinned_steps_stay,
-    refusals_are_due, undos_take_what_depends,
+    refusals_are_due, released_values_stay, undos_take_what_depends,
 };
 pub use lease::Lease;
 pub use turn::Turn;
