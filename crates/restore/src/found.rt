@@ -1,5 +1,5 @@
 //! The lines of threads while they are found.
-ghost use Rattle.std.specs.Prelude.{◌≡◌, ◌<◌, ◌≤◌, ◌+◌, ℕ, [], length, nat_eq, OnOk, true, false};
+ghost use Rattle.std.specs.Prelude.{◌≡◌, ◌<◌, ◌≤◌, ◌+◌, ℕ, [], length, nat_eq, IsOk, OnOk, true, false};
 ghost use Rattle.std.specs.FinMap as map;
 ghost use Rattle.restore.specs.Found.{numbers};
 ghost use Rattle.restore.specs.Noted.{with_line};
@@ -52,6 +52,7 @@ impl Found {
     /// Makes room for the threads with numbers below `spare`.
     pub(crate) fn reserve(&mut self, spare: usize) -> Result<(), NoMemory>
         ensures spare { OnOk result (spare ≤ self.new.spare) }
+        ensures enough { spare ≤ self.old.spare → IsOk result }
         ensures lines { self.new.lines ≡ self.old.lines }
         ensures touched { self.new.touched ≡ self.old.touched }
         ensures no_less { self.old.spare ≤ self.new.spare }

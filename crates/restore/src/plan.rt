@@ -1,5 +1,5 @@
 //! What a rollback will do to threads.
-ghost use Rattle.std.specs.Prelude.{◌≡◌, ◌<◌, ◌≤◌, OnOk, OnErr};
+ghost use Rattle.std.specs.Prelude.{◌≡◌, ◌<◌, ◌≤◌, IsOk, OnOk, OnErr};
 ghost use Rattle.std.specs.FinMap as map;
 ghost use Rattle.restore.specs.Found.{numbers};
 
@@ -44,6 +44,7 @@ impl Plan {
     /// Makes room for the threads with numbers up to `threads`. Where there is room already it costs nothing.
     pub fn reserve(&mut self, threads: u32) -> Result<(), NoMemory>
         ensures spare { OnOk result (threads < self.new.spare) }
+        ensures enough { threads < self.old.spare → IsOk result }
         ensures lines { self.new.lines ≡ self.old.lines }
         ensures no_less { self.old.spare ≤ self.new.spare }
     {
