@@ -149,9 +149,9 @@ fn add_events(history: &mut History, fuel: u64, worker: u32, events: u32) -> (Se
 
 fn add_event(history: &mut History, worker: u32)
     requires worker { IsWorker worker }
-    requires room { (1 ≤ history.old.spare) × (weight_of history.old.events < 2 * MAX_FUEL) }
+    requires spare { (1 ≤ history.old.spare) × (weight_of history.old.events < 2 * MAX_FUEL) }
     ensures after { (e : Event) × (e.worker ≡ worker) × (history.new.events ≡ history.old.events ++ e ∷ []) }
-    ensures room { (history.new.spare + 1 ≡ history.old.spare) × (weight_of history.new.events ≡ weight_of history.old.events + 1) }
+    ensures spare { (history.new.spare + 1 ≡ history.old.spare) × (weight_of history.new.events ≡ weight_of history.old.events + 1) }
 {
     history.push(Event {
         worker,
