@@ -31,7 +31,7 @@ use step_counter::Steps;
 /// A thread's text on its way. Contracts see what is looked at, the frames round it, and its mark.
 #[derive(Drop)]
 pub struct Control {
-    pub(crate) machine: Machine,
+    pub(crate) machine: Box<Machine>,
 }
 
 impl Model for Control {
@@ -46,7 +46,7 @@ impl Model for Control {
 
     ghost coded = { Prim.hlevel (codes, coded_datum, fault.the_row.coded, act.the_row.coded, place.the_row.coded) };
 
-    ghost view = { λ c. view_of c.machine };
+    ghost view = { λ c. view_of c.machine.value };
 }
 
 /// The memory that a call needs isn't there. The arguments come back.
@@ -79,10 +79,14 @@ impl Control {
         ensures view { IfOk result (λ c. c ≡ entered n value args.items) }
         ensures back { IfErr result (λ refused. refused.args.items ≡ args.items) }
     {
+        let Ok(mut machine) = Machine::boxed(alloc, n, value) else {
+            return Err(CallRefused { args });
+        };
         match Arc::new(alloc, Env::new(args)) {
-            Ok(env) => Ok(Control {
-                machine: Machine::entered(alloc, n, value, env),
-            }),
+            Ok(env) => {
+                machine.env = env;
+                Ok(Control { machine })
+            }
             Err(refused) => Err(CallRefused {
                 args: refused.value.into_values(),
             }),
@@ -95,7 +99,7 @@ impl Control {
         ensures steps { steps.new ≤ steps.old + 1 }
     {
         Ok(Control {
-            machine: self.machine.copied(steps)?,
+            machine: self.machine.boxed_copy(steps)?,
         })
     }
 
@@ -165,9 +169,10 @@ impl Control {
     pub fn mark(&self) -> Option<Seq>
         ensures { (p : ProgramParts) → IsValid p → Fits p self.now → option_map (λ m. m.0) result ≡ mark (expr_of p self.now) }
     {
-        match &self.machine.focus {
-            Focus::Value(_v) => self.machine.mark_round_value(),
-            _ => self.machine.mark,
+        let machine: &Machine = &self.machine;
+        match &machine.focus {
+            Focus::Value(_v) => machine.mark_round_value(),
+            _ => machine.mark,
         }
     }
 
@@ -182,9 +187,10 @@ impl Control {
     pub fn rest(&self) -> Rest
         ensures { (p : ProgramParts) → IsValid p → Fits p self.now → result ≡ rest_of (expr_of p self.now) }
     {
-        match &self.machine.focus {
+        let machine: &Machine = &self.machine;
+        match &machine.focus {
             Focus::Fault(k) => Rest::Failed(*k),
-            Focus::Value(_v) => self.machine.rest_of_value(),
+            Focus::Value(_v) => machine.rest_of_value(),
             Focus::Begun(_n) => Rest::Going,
             Focus::Form => Rest::Going,
             Focus::Act(_a) => Rest::Going,

@@ -83,6 +83,19 @@ impl Machine {
         }
     }
 
+    /// The same of no variables, in a box.
+    pub(crate) fn boxed(
+        alloc: Global,
+        n: NodeId,
+        value: Option<Value>,
+    ) -> Result<Box<Machine>, NoMemory>
+        ensures { IfOk result (λ m. view_of m.value ≡ entered n value []) }
+    {
+        let env = Arc::new(alloc, Env::new(Vec::new(alloc)))?;
+        let machine = Box::new(alloc, Machine::entered(alloc, n, value, env))?;
+        Ok(machine)
+    }
+
     /// How many frames there are.
     pub(crate) fn count(&self) -> usize
         ensures { result ≡ length (round_of self.now) }
@@ -171,6 +184,19 @@ impl Machine {
             Some(frame) => Some(frame.copy(steps)?),
         };
         self.keep(top)
+    }
+
+    /// The same in a box.
+    pub(crate) fn boxed_copy<L: Ledger>(
+        &self,
+        steps: &mut Steps<L>,
+    ) -> Result<Box<Machine>, NoMemory>
+        ensures same { IfOk result (λ m. view_of m.value ≡ view_of self.now) }
+        ensures steps { steps.new ≤ steps.old + 1 }
+    {
+        let machine = self.copied(steps)?;
+        let boxed = Box::new(self.alloc, machine)?;
+        Ok(boxed)
     }
 
     /// The same machine once more, which has this copy of its innermost frame and shares the others.

@@ -151,7 +151,7 @@ fn advanced<L: Ledger>(
 {
     // Nobody reads this count.
     let mut count: Steps<L> = Steps::new(blank);
-    let mut machine = control.machine.copied(&mut count)?;
+    let mut machine = control.machine.boxed_copy(&mut count)?;
     machine.find(p)?;
     let steps = machine.run(p, quantum)?;
     Ok((steps, Control { machine }))

@@ -3,7 +3,7 @@ use Rattle.step_eval.proofs.Marking.{mark-is, mark-of-value}
 use Rattle.step_eval.proofs.control.Control.mark.Goals as goal
 
 pub returns-in-Value : goal.returns-in-Value
-returns-in-Value c = λ p valid fits. mark-of-value p valid c.args.self.now c.self.inside.machine (cc) fits c.in-Value._v c.mark_round_value.result c.in-Value.is c.mark_round_value.ensures.alone c.mark_round_value.ensures.within
+returns-in-Value c = λ p valid fits. mark-of-value p valid c.args.self.now c.deref-machine.result.now (cc) fits c.in-Value._v c.mark_round_value.result c.in-Value.is c.mark_round_value.ensures.alone c.mark_round_value.ensures.within
 
 pub returns-in_default : goal.returns-in_default
-returns-in_default c = λ p valid fits. mark-is p valid c.args.self.now c.self.inside.machine (cc) fits c.in_default.not-Value
+returns-in_default c = λ p valid fits. mark-is p valid c.args.self.now c.deref-machine.result.now (cc) fits c.in_default.not-Value
