@@ -23,14 +23,15 @@ use std::mem;
 use std::sync::Arc;
 
 impl Machine {
-    /// A value is looked at.
+    /// A value is looked at. The values of the form at hand are then read no more.
     fn hold(&mut self, v: Value)
         ensures focus { self.new.focus ≡ Focus.Value v }
-        ensures here { here_of self.new ≡ here_of self.old }
+        ensures env { arc_value self.new.env ≡ arc_value self.old.env }
         ensures round { round_of self.new ≡ round_of self.old }
         ensures mark { self.new.mark ≡ self.old.mark }
     {
         self.focus = Focus::Value(v);
+        self.done.clear();
     }
 
     /// A value takes the place of the act.

@@ -1,5 +1,5 @@
 -- The value stands where the act stood.
-use Rattle.std.proofs.Common.{ap, sym, ◌∙◌}
+use Rattle.std.proofs.Common.{ap, refl, sym, ◌∙◌}
 use Rattle.plain_language.specs.Expression.{value}
 use Rattle.plain_language.specs.Redex.{cap, within}
 use Rattle.step_eval.specs.ControlView.{ControlView, expr_of}
@@ -14,5 +14,5 @@ returns-clause-expr c =
     let p = c.args.p.now in
     let m = c.args.self.now in
     c.cap_ahead.ensures.expr
-    ∙ ap (λ (w : ControlView). cap (expr_of p w)) (view-is c.hold.new.self (focus.Value c.args.v) (here_of m) (round_of m) m.mark c.hold.ensures.focus c.hold.ensures.here c.hold.ensures.round c.hold.ensures.mark)
+    ∙ ap (λ (w : ControlView). cap (expr_of p w)) (view-is c.hold.new.self (focus.Value c.args.v) (here_of c.hold.new.self) (round_of m) m.mark c.hold.ensures.focus refl c.hold.ensures.round c.hold.ensures.mark)
     ∙ ap (λ fs. cap (within fs (value c.args.v))) (sym (act-frames p m c.requires.act c.requires.fits))
