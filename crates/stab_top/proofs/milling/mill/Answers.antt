@@ -1,6 +1,5 @@
-use Rattle.std.proofs.Common.{◌≡◌, ◌≤◌, length, List, ℕ, Result, Ok, Err, IfErr, ap, subst, sym, ◌∙◌}
+use Rattle.std.proofs.Common.{◌≤◌, length, subst, sym, ◌∙◌}
 use Rattle.std.proofs.lemmas.Result.{err_from_is_err_and}
-use Rattle.mill_text.specs.Mill.{mill_text}
 use Rattle.stab_text.specs.Text.{IsTextOf}
 use Rattle.stab_top.specs.Reading.{BytesRefused, program_form}
 use Rattle.stab_top.proofs.Mill.{script_fits, text_fits}

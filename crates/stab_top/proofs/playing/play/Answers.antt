@@ -1,4 +1,4 @@
-use Rattle.std.proofs.Common.{◌≡◌, ◌++◌, sym, ap, subst, ◌∙◌}
+use Rattle.std.proofs.Common.{subst}
 use Rattle.book_text.specs.Written.{released_lines}
 use Rattle.lone_worker.specs.declared.worker.RunEnd.TheVariants as ends
 use Rattle.lone_worker.specs.Rounds.{none}

@@ -1,7 +1,6 @@
 use Rattle.std.proofs.Common.{refl}
 use Rattle.stab_top.specs.declared.report.Status.TheVariants.{BadWords, NoMemory}
 use Rattle.stab_top.specs.Reason.{blame_of}
-use Rattle.stab_top.specs.Device.{device}
 use Rattle.stab_top.proofs.Executing.{ends_as, executed, refused}
 use Rattle.stab_top.proofs.program.command.Goals as goal
 

@@ -1,6 +1,5 @@
 use Rattle.std.proofs.Common.{subst}
 use Rattle.stab_code.specs.JobParts.{job_of}
-use Rattle.stab_top.specs.declared.playing.Stop.TheVariants as stops
 use Rattle.stab_top.specs.Device.{device}
 use Rattle.stab_top.specs.Ending.{outcome_of}
 use Rattle.stab_top.specs.Playing.{HasRun, HasStopped}
