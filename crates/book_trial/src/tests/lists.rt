@@ -178,13 +178,18 @@ impl Trial {
         }
     }
 
-    fn next(&mut self) -> Option<Work> {
+    // What is due is released.
+    fn release(&mut self) {
+        let worker = self.roll(64) + 1;
         if self.book.due() > 0 {
-            let worker = self.roll(64) + 1;
-            self.told.strange |= self.book.release(worker, &mut self.out).is_err();
-            self.told.strange |= self.book.due() > 0;
+            let released = self.book.release(worker, &mut self.out);
+            self.told.strange |= released.is_err() || self.book.due() > 0;
             self.called();
         }
+    }
+
+    fn next(&mut self) -> Option<Work> {
+        self.release();
         let worker = self.roll(64) + 1;
         let steps = self.roll(16) + 1;
         let work = match next_work(&mut self.book, worker, steps) {
