@@ -1,0 +1,14 @@
+pub mod Outs
+pub mod Jobs
+pub mod Under
+pub mod Playing
+pub mod Desks
+pub mod OneLease
+pub mod OneStep
+pub mod OneEnd
+pub mod OneFault
+pub mod OneCommit
+pub mod Truth
+pub mod OneAnswer
+pub mod OneSeat
+pub mod OneUndone

@@ -1,0 +1,5 @@
+pub mod Out
+pub mod Text
+pub mod Played
+pub mod Drilled
+pub mod Alike

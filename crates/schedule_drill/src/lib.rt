@@ -1,0 +1,19 @@
+//! Drills: schedules that are written by hand, played on a book.
+#![tactic(auto)]
+
+mod fault;
+mod held;
+mod laws;
+mod leases;
+mod play;
+mod spelling;
+mod whole;
+
+pub use fault::DrillFault;
+pub use laws::{
+    leases_stay_true, one_answer, one_end, one_fault, one_late, one_lease, one_step, one_undo,
+};
+pub use whole::{DrillEnd, drill};
+
+#[cfg(test)]
+mod tests;
