@@ -30,7 +30,8 @@ pub enum Stop {
 pub fn play<K: Sink>(alloc: Global, book: &mut Book, sink: &mut K) -> Result<Status, Stop>
     requires { IsAtStart book.old }
     ensures over { IfOk result (λ status. HasRun status book.old.job book.new) }
-    ensures written { OnOk result (Gains (device K.told K.faults sink.old) (device K.told K.faults sink.new) (released_lines book.new)) }
+    ensures written { OnOk result (Gains (device K.told K.faults sink.old) (device K.told K.faults sink.new)
+        (released_lines book.new)) }
     ensures stopped { IfErr result (λ stop. HasStopped stop book.old.job book.new
         (device K.told K.faults sink.old) (device K.told K.faults sink.new)) }
 {
@@ -50,7 +51,8 @@ pub fn play<K: Sink>(alloc: Global, book: &mut Book, sink: &mut K) -> Result<Sta
 
 // Held where a thread failed or waits, and else Done.
 fn at_rest(book: &Book) -> Status
-    ensures status { result ≡ (if nat_eq (faulted_in book.now.job.program book.now.threads book.now.next.thread + in_state Parked book.now) 0 then IsDone else IsHeld) }
+    ensures status { result ≡ (if nat_eq (faulted_in book.now.job.program book.now.threads book.now.next.thread
+        + in_state Parked book.now) 0 then IsDone else IsHeld) }
     ensures valid { IsValid book.now.job.program }
 {
     let _texts = book.job().program().texts();

@@ -37,7 +37,8 @@ pub fn run_program<K: Sink>(
     requires fuel { IsUpTo most_fuel fuel }
     requires quantum { IsUpTo most_quantum quantum }
     requires few { length given.script.items ≤ max_script }
-    ensures { RunEnds (AsReleased (text_with size)) result.status (job_of given.program given.script.items fuel quantum) (outcome_of K.told K.faults sink.old sink.new result) }
+    ensures { RunEnds (AsReleased (text_with size)) result.status (job_of given.program given.script.items fuel quantum)
+        (outcome_of K.told K.faults sink.old sink.new result) }
 {
     let Ok(mut book) = begun(alloc, given, fuel, quantum) else {
         return Report::bare(Status::NoMemory);
@@ -63,7 +64,8 @@ pub fn trace_program<K: Sink>(
     requires fuel { IsUpTo most_fuel fuel }
     requires quantum { IsUpTo most_quantum quantum }
     requires few { length given.script.items ≤ max_script }
-    ensures { RunEnds AtTheEnd result.status (job_of given.program given.script.items fuel quantum) (outcome_of K.told K.faults sink.old sink.new result) }
+    ensures { RunEnds AtTheEnd result.status (job_of given.program given.script.items fuel quantum)
+        (outcome_of K.told K.faults sink.old sink.new result) }
 {
     let Ok(mut book) = begun(alloc, given, fuel, quantum) else {
         return Report::bare(Status::NoMemory);
@@ -111,7 +113,8 @@ fn rest_with(alloc: Global, book: &Book, size: Option<u32>) -> Result<Vec<u8>, N
 fn write_rest<K: Sink>(status: Status, rest: Result<Vec<u8>, NoMemory>, sink: &mut K) -> Status
     ensures written { IfOk rest (λ text. WritesOf status result text.items
         (device K.told K.faults sink.old) (device K.told K.faults sink.new)) }
-    ensures silent { IfErr rest (λ _. (result ≡ OutOfMemory) × Rests (device K.told K.faults sink.old) (device K.told K.faults sink.new)) }
+    ensures silent { IfErr rest (λ _. (result ≡ OutOfMemory) ×
+        Rests (device K.told K.faults sink.old) (device K.told K.faults sink.new)) }
 {
     let Ok(text) = rest else {
         return Status::NoMemory;

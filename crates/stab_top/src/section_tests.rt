@@ -1,6 +1,7 @@
 //! Whole calls that run programs with sections, cuts, pins and attempts.
 
 use crate::trial::{Trial, is_answer};
+use mill_text::mill_text;
 use stab_journal::What;
 use std::alloc::Global;
 use std::sync::Wait;
@@ -315,4 +316,43 @@ fn mill_ten(rt: HostRuntime) -> Result<(), Fail> {
     let trial = Trial::over(&rt, alloc, "mill 10 --fuel 1", &[], [&[], &[]])?;
     let expected = "8 ended 0 faulted 0 waiting 1/mill 10 undos 0/stab: Spent/";
     is_answer(alloc, "fuel 1", trial.answer.as_str(), expected)
+}
+
+// The trace of the program with these probes and this quantum has the verdict yes.
+fn passes<R: Threads + Wait + Sync>(
+    rt: &R,
+    alloc: Global,
+    program: &str,
+    probes: &str,
+    quantum: u32,
+) -> Result<(), Fail> {
+    let line = format!(in alloc; "trace p --probes s --quantum {quantum}")?;
+    let traced = call(rt, alloc, line.as_str(), program, probes)?;
+    let files: [(&str, &[u8]); 3] = [
+        ("p", program.as_bytes()),
+        ("s", probes.as_bytes()),
+        ("t", traced.written.as_slice()),
+    ];
+    let line = "verify p t --probes s";
+    let trial = Trial::over(rt, alloc, line, &files, [&[], &[]])?;
+    is_answer(alloc, program, trial.answer.as_str(), "0 yes/")
+}
+
+#[test]
+fn traces_of_sections_pass(rt: HostRuntime) -> Result<(), Fail> {
+    let alloc = rt.alloc();
+    for program in [TRY_READ, BLIND_WRITE, NESTED, PIN_BEHIND, CUTS, QUEUE] {
+        for probes in ["", "-1\n", "0\n-1\n-1\n", "-1\n0\n-1\n0\n-1\n"] {
+            for quantum in [1, 2, 1_000] {
+                passes(&rt, alloc, program, probes, quantum)?;
+            }
+        }
+    }
+    let mut text = Vec::new(alloc);
+    mill_text(25, &mut text)?;
+    let text = String::from_utf8(text).map_err(|_| Fail::from("no text"))?;
+    for quantum in [1, 3, 1_000] {
+        passes(&rt, alloc, text.as_str(), "0\n-1\n0\n-1\n-1\n-1\n", quantum)?;
+    }
+    Ok(())
 }
