@@ -94,7 +94,9 @@ fn part(r: ref[int], n: int): int {
     if attempt() < 2 { stabilize() } else { if probe() < 0 { pin(); stabilize() } else { attempt() } }
 }
 fn over(r: ref[int], n: int): unit { print(stable part(r, n)); over(r, n + get(r)) }
-fn main(): unit { let r = ref(1); spawn over(r, 7); spawn over(r, 0 - 5); print(stable part(r, 2)); cut(); over(r, 1); print(get(3)) }";
+fn main(): unit {
+    let r = ref(1); spawn over(r, 7); spawn over(r, 0 - 5); print(stable part(r, 2)); cut(); over(r, 1); print(get(3))
+}";
 
 // Requests with references and channels that the asker made.
 const REQUESTS: &str = "
