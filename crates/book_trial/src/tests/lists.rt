@@ -155,13 +155,32 @@ impl Trial {
             && self.has_released()
     }
 
-    // Whether the history is one that its job can have. What was judged isn't judged once more.
+    // Whether the history is one that its job can have: it goes on from what was judged before, or is judged anew after an undo.
     fn is_judged(&mut self) -> bool {
-        let now = (self.book.history().len(), struck(&self.book));
-        if self.judged == now {
-            return true;
+        let before = self.judged;
+        self.judged = (self.book.history().len(), struck(&self.book));
+        if self.judged.1 == before.1 {
+            self.goes_on(before.0.saturating_add(1))
+        } else {
+            self.is_verified()
         }
-        self.judged = now;
+    }
+
+    // The machine has each of the steps from a number on.
+    fn goes_on(&mut self, first: u64) -> bool {
+        for q in first..=self.judged.0 {
+            if let Some(event) = self.book.history().get(Seq(q)) {
+                if let What::Step(label) = event.what {
+                    if self.state.play(self.alloc, Seq(q), &label).is_err() {
+                        return false;
+                    }
+                }
+            }
+        }
+        true
+    }
+
+    fn is_verified(&mut self) -> bool {
         match surviving(self.alloc, &self.book) {
             Some(state) => self.state = state,
             None => return false,
@@ -251,12 +270,13 @@ impl Trial {
 
     // Up to eight leases are held at once.
     fn run(&mut self) {
-        for _ in 0..6 {
+        for _ in 0..8 {
             match self.next() {
                 Some(work) => self.hold(work, 7),
                 None => self.recall(),
             }
         }
+        self.told.strange |= !self.is_verified();
     }
 }
 
@@ -268,6 +288,7 @@ fn random_lists_of_calls(rt: HostRuntime) -> Result<(), Fail> {
             let mut trial = Trial::new(rt.alloc(), text, seed)?;
             trial.run();
             assert_eq!(rt; trial.wrong, None, "at {seed} of text {k}");
+            assert!(rt; !trial.told.strange, "at {seed} of text {k}");
             total.add(trial.told);
         }
     }
