@@ -13,6 +13,9 @@ use std::time::CpuClock;
 /// The most bytes of a program.
 const MAX_PROGRAM: usize = 1_048_576;
 
+/// The most numbers of a script.
+const MAX_SCRIPT: usize = 524_288;
+
 /// The greatest fuel.
 pub const FUEL: u64 = 16_000_000;
 
@@ -66,7 +69,11 @@ pub fn printed_of(alloc: Global, bench: Bench, messages: u32, many: u32) -> io::
 fn book_of(alloc: Global, bench: Bench, messages: u32, many: u32) -> io::Result<Book> {
     let text = bench.text(alloc, messages, many)?;
     let program = Arc::new(alloc, read(alloc, text.as_str())?)?;
-    let job = Job::new(program, bench.script(alloc, messages)?, FUEL, QUANTUM);
+    let script = bench.script(alloc, messages)?;
+    if script.len() > MAX_SCRIPT {
+        return Err(Error::from(ErrorKind::InvalidInput));
+    }
+    let job = Job::new(program, script, FUEL, QUANTUM);
     Book::new(alloc, job).map_err(|_| no_memory())
 }
 

@@ -57,15 +57,16 @@ fn print_undone<R: AllocGlobal + CpuClock + Print>(
     let ran = run_of(rt, bench, messages, many)?;
     let printed = printed_of(rt.alloc(), bench, messages, many)?;
     let name = bench.name();
+    let counts = ran.counts;
     println!(rt;
-        "{name}: {} {:?}, {} undos, ended {} faulted {} waiting {}, prints {printed}",
-        ran.events,
-        ran.end,
-        ran.counts.undos,
-        ran.counts.ended,
-        ran.counts.faulted,
-        ran.counts.parked
-    )
+        "{name}: {} {:?}, {} undos",
+        ran.events, ran.end, counts.undos
+    )?;
+    println!(rt;
+        "{name}: ended {} faulted {} waiting {}",
+        counts.ended, counts.faulted, counts.parked
+    )?;
+    println!(rt; "{name}: prints {printed}")
 }
 
 /// The nanoseconds of an event and of a message, and the microseconds of a whole run.
@@ -79,11 +80,12 @@ pub fn print_times<R: AllocGlobal + CpuClock + Print>(rt: &R) -> io::Result<()> 
         );
         let (name, unit) = (bench.name(), bench.unit());
         println!(rt;
-            "{name}: {} events, {} us, {an_event} ns an event, {of_unit} ns {unit}, {:?}",
+            "{name}: {} events, {} us, {:?}",
             ran.events,
             ran.nanos / 1_000,
             ran.end
         )?;
+        println!(rt; "{name}: {an_event} ns an event, {of_unit} ns {unit}")?;
     }
     Ok(())
 }
@@ -117,11 +119,9 @@ fn print_growth_from<R: AllocGlobal + CpuClock + Print>(
     let tenths = many.nanos.saturating_mul(10) / few.nanos.max(1);
     let name = bench.name();
     println!(rt;
-        "{name}: {} and {} us, {} and {} ns an event, {}.{} times as long",
+        "{name}: {} and {} us, {}.{} times as long",
         few.nanos / 1_000,
         many.nanos / 1_000,
-        few.nanos / few.events.max(1),
-        many.nanos / many.events.max(1),
         tenths / 10,
         tenths % 10
     )
