@@ -21,7 +21,7 @@ impl Gate for OpenGate {
     fn before_commit(&self, _worker: u32) {}
 }
 
-/// The time of a call of `run`, and of a message in it, from the bytes of the program and its probe file to the written text.
+/// The nanoseconds of a message in a call of `run`, from the bytes of the program to the written text.
 pub fn print_times<R: AllocGlobal + CpuClock + Print + Threads + Wait + Sync>(
     rt: &R,
 ) -> io::Result<()> {
@@ -31,12 +31,8 @@ pub fn print_times<R: AllocGlobal + CpuClock + Print + Threads + Wait + Sync>(
             least = least.min(nanos_of_call(rt, bench)?);
         }
         let name = bench.name();
-        let of_unit = least / u64::from(messages_of(bench)).max(1);
-        println!(rt;
-            "stab run {name}: {} us, {of_unit} ns {}",
-            least / 1_000,
-            bench.unit()
-        )?;
+        let a_message = least / u64::from(messages_of(bench)).max(1);
+        println!(rt; "stab run {name}: {a_message} ns a message")?;
     }
     Ok(())
 }
@@ -47,13 +43,7 @@ fn nanos_of_call<R: AllocGlobal + CpuClock + Threads + Wait + Sync>(
 ) -> io::Result<u64> {
     let alloc = rt.alloc();
     let text = bench.text(alloc, messages_of(bench), MANY)?;
-    let held = vec![in alloc;
-        (String::from_str(alloc, "p")?, text.into_bytes()),
-        (
-            String::from_str(alloc, "s")?,
-            probes_of(alloc, bench)?.into_bytes()
-        ),
-    ]?;
+    let held = vec![in alloc; (String::from_str(alloc, "p")?, text.into_bytes())]?;
     let mut files = MemFiles::new(held, Vec::new(alloc));
     let Ok(mut sink) = MemSink::new(alloc, ROOM, Vec::new(alloc)) else {
         return Err(Error::from(ErrorKind::OutOfMemory));
@@ -68,19 +58,10 @@ fn nanos_of_call<R: AllocGlobal + CpuClock + Threads + Wait + Sync>(
     }
 }
 
-// The probe file: a number on each line.
-fn probes_of(alloc: Global, bench: Bench) -> io::Result<String> {
-    let mut file = String::new(alloc);
-    for number in bench.script(alloc, messages_of(bench))? {
-        writeln!(file, "{number}")?;
-    }
-    Ok(file)
-}
-
 fn words(alloc: Global) -> Result<Vec<String>, AllocError> {
     let fuel = format!(in alloc; "{FUEL}")?;
     let mut words = Vec::new(alloc);
-    for word in ["run", "p", "--probes", "s", "--fuel", fuel.as_str()] {
+    for word in ["run", "p", "--fuel", fuel.as_str()] {
         words.push(String::from_str(alloc, word)?)?;
     }
     Ok(words)

@@ -246,7 +246,7 @@ fn release_and_sink_fails(rt: HostRuntime) -> Result<(), Fail> {
         assert_eq!(rt; trial.events.len(), events);
     }
     let trial = Trial::new(&rt, alloc, "run p", CUTS.as_bytes(), [&[], &[2]])?;
-    assert!(rt; trial.events[8] == What::Release(2));
+    assert!(rt; matches!(trial.events.get(8), Some(What::Release(2))));
     // A trace is written at the end.
     let line = "trace p";
     let trial = Trial::new(&rt, alloc, line, CUTS.as_bytes(), [&[], &[2]])?;
@@ -269,10 +269,10 @@ fn undone_prints_are_not_shown(rt: HostRuntime) -> Result<(), Fail> {
     let alloc = rt.alloc();
     let line = "run p --probes s";
     let trial = call(&rt, alloc, line, PRINTED_TWICE, "")?;
-    let mut lines = 0;
+    let mut lines = 0_u32;
     for line in trial.answer.as_str().split('/') {
         if line == "0 1" {
-            lines += 1;
+            lines = lines.saturating_add(1);
         }
         assert!(rt; line != "1");
     }
@@ -318,6 +318,22 @@ fn mill_ten(rt: HostRuntime) -> Result<(), Fail> {
     is_answer(alloc, "fuel 1", trial.answer.as_str(), expected)
 }
 
+// What is answered of a trace of the program with these probes.
+fn judged<R: Threads + Wait + Sync>(
+    rt: &R,
+    alloc: Global,
+    program: &str,
+    probes: &str,
+    trace: &[u8],
+) -> Result<Trial, Fail> {
+    let files: [(&str, &[u8]); 3] = [
+        ("p", program.as_bytes()),
+        ("s", probes.as_bytes()),
+        ("t", trace),
+    ];
+    Trial::over(rt, alloc, "verify p t --probes s", &files, [&[], &[]])
+}
+
 // The trace of the program with these probes and this quantum has the verdict yes.
 fn passes<R: Threads + Wait + Sync>(
     rt: &R,
@@ -328,13 +344,7 @@ fn passes<R: Threads + Wait + Sync>(
 ) -> Result<(), Fail> {
     let line = format!(in alloc; "trace p --probes s --quantum {quantum}")?;
     let traced = call(rt, alloc, line.as_str(), program, probes)?;
-    let files: [(&str, &[u8]); 3] = [
-        ("p", program.as_bytes()),
-        ("s", probes.as_bytes()),
-        ("t", traced.written.as_slice()),
-    ];
-    let line = "verify p t --probes s";
-    let trial = Trial::over(rt, alloc, line, &files, [&[], &[]])?;
+    let trial = judged(rt, alloc, program, probes, traced.written.as_slice())?;
     is_answer(alloc, program, trial.answer.as_str(), "0 yes/")
 }
 
