@@ -2,6 +2,7 @@
 #![tactic(auto)]
 
 mod checking;
+mod drilling;
 mod judging;
 mod laws;
 mod loading;
