@@ -2,7 +2,6 @@
 #![tactic(auto)]
 
 mod checking;
-mod drilling;
 mod judging;
 mod laws;
 mod loading;

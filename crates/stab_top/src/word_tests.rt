@@ -59,9 +59,6 @@ verify p q -> 4 stab: NoFile trace/\n\
 verify p q --probes q -> 4 stab: NoFile probes/\n\
 verify p p --probes p -> 10 stab: BadProbes Line 0/\n\
 verify p p -> 11 stab: BadTrace NoEnd/\n\
-drill p s -> 4 stab: NoFile script/\n\
-drill p p --probes p -> 10 stab: BadProbes Line 0/\n\
-drill p p -> 12 stab: BadScript BadLine 0/\n\
 run p --probes q -> 4 stab: NoFile probes/\n\
 trace p --probes q -> 4 stab: NoFile probes/\n\
 ";
@@ -72,6 +69,7 @@ fn refused_words(rt: HostRuntime) -> Result<(), Fail> {
 }
 
 const UNBUILT: &str = "\
+drill p s -> 14 stab: NotBuilt/\n\
 types p -> 14 stab: NotBuilt/\n\
 save p t 1 -> 14 stab: NotBuilt/\n\
 resume i -> 14 stab: NotBuilt/\n\
