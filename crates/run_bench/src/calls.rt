@@ -21,7 +21,7 @@ impl Gate for OpenGate {
     fn before_commit(&self, _worker: u32) {}
 }
 
-/// The nanoseconds of a message in a call of `run`, from the bytes of the program to the written text.
+/// The time of a call of `run`, and of a message in it, from the bytes of the program and its probe file to the written text.
 pub fn print_times<R: AllocGlobal + CpuClock + Print + Threads + Wait + Sync>(
     rt: &R,
 ) -> io::Result<()> {
@@ -31,8 +31,12 @@ pub fn print_times<R: AllocGlobal + CpuClock + Print + Threads + Wait + Sync>(
             least = least.min(nanos_of_call(rt, bench)?);
         }
         let name = bench.name();
-        let a_message = least / u64::from(messages_of(bench)).max(1);
-        println!(rt; "stab run {name}: {a_message} ns a message")?;
+        let of_unit = least / u64::from(messages_of(bench)).max(1);
+        println!(rt;
+            "stab run {name}: {} us, {of_unit} ns {}",
+            least / 1_000,
+            bench.unit()
+        )?;
     }
     Ok(())
 }
@@ -43,25 +47,53 @@ fn nanos_of_call<R: AllocGlobal + CpuClock + Threads + Wait + Sync>(
 ) -> io::Result<u64> {
     let alloc = rt.alloc();
     let text = bench.text(alloc, messages_of(bench), MANY)?;
-    let held = vec![in alloc; (String::from_str(alloc, "p")?, text.into_bytes())]?;
+    let held = vec![in alloc;
+        (String::from_str(alloc, "p")?, text.into_bytes()),
+        (
+            String::from_str(alloc, "s")?,
+            probes_of(alloc, bench)?.into_bytes()
+        ),
+    ]?;
     let mut files = MemFiles::new(held, Vec::new(alloc));
     let Ok(mut sink) = MemSink::new(alloc, ROOM, Vec::new(alloc)) else {
         return Err(Error::from(ErrorKind::OutOfMemory));
     };
     let words = words(alloc)?;
     let start = rt.thread_cpu_time()?;
-    let report: Report = stab(rt, alloc, &words, &mut files, &mut sink, &OpenGate);
+    let is_reported = reports(rt, alloc, &words, &mut files, &mut sink);
     let nanos = rt.thread_cpu_time()?.saturating_sub(start).as_nanos();
-    match report.book {
-        Some(_) => Ok(u64::try_from(nanos).unwrap_or(u64::MAX)),
-        None => Err(Error::from(ErrorKind::OutOfMemory)),
+    if is_reported {
+        Ok(u64::try_from(nanos).unwrap_or(u64::MAX))
+    } else {
+        Err(Error::from(ErrorKind::OutOfMemory))
     }
+}
+
+// Whether a call reports a book.
+fn reports<R: Threads + Wait + Sync>(
+    rt: &R,
+    alloc: Global,
+    words: &[String],
+    files: &mut MemFiles,
+    sink: &mut MemSink,
+) -> bool {
+    let report: Report = stab(rt, alloc, words, files, sink, &OpenGate);
+    report.book.is_some()
+}
+
+// The probe file: a number on each line.
+fn probes_of(alloc: Global, bench: Bench) -> io::Result<String> {
+    let mut file = String::new(alloc);
+    for number in bench.script(alloc, messages_of(bench))? {
+        writeln!(file, "{number}")?;
+    }
+    Ok(file)
 }
 
 fn words(alloc: Global) -> Result<Vec<String>, AllocError> {
     let fuel = format!(in alloc; "{FUEL}")?;
     let mut words = Vec::new(alloc);
-    for word in ["run", "p", "--fuel", fuel.as_str()] {
+    for word in ["run", "p", "--probes", "s", "--fuel", fuel.as_str()] {
         words.push(String::from_str(alloc, word)?)?;
     }
     Ok(words)

@@ -1,6 +1,8 @@
-//! The programs that are run.
+//! The programs that are run, with the numbers that their probes get.
 
+use mill_text::{mill_script, mill_text};
 use std::alloc::{AllocError, Global};
+use std::io::{self, Error, ErrorKind};
 
 /// What is run.
 #[derive(Clone, Copy, PartialEq, Eq)]
@@ -15,14 +17,32 @@ pub enum Bench {
     Reference,
     /// Many threads do, each one of its own.
     References,
+    /// Sections send, each to a thread of its own, and a tenth of them is taken back.
+    Mill,
+    /// A section sends through a chain of many threads, and is taken back with all of these.
+    Cascade,
 }
 
-pub const ALL: [Bench; 5] = [
+/// Nothing is taken back in these.
+pub const KEPT: [Bench; 5] = [
     Bench::Pingpong,
     Bench::Pairs,
     Bench::Chain,
     Bench::Reference,
     Bench::References,
+];
+
+/// Sections are taken back in these.
+pub const UNDONE: [Bench; 2] = [Bench::Mill, Bench::Cascade];
+
+pub const ALL: [Bench; 7] = [
+    Bench::Pingpong,
+    Bench::Pairs,
+    Bench::Chain,
+    Bench::Reference,
+    Bench::References,
+    Bench::Mill,
+    Bench::Cascade,
 ];
 
 impl Bench {
@@ -33,21 +53,49 @@ impl Bench {
             Bench::Chain => "chain",
             Bench::Reference => "reference",
             Bench::References => "references",
+            Bench::Mill => "mill",
+            Bench::Cascade => "cascade",
+        }
+    }
+
+    /// What is counted in this one.
+    pub fn unit(self) -> &'static str {
+        match self {
+            Bench::Mill => "a section",
+            Bench::Cascade => "an undo",
+            _ => "a message",
         }
     }
 
     /// The text with so many messages, or gets and sets, in all, by so many pairs or threads where there are many. A chain has a
-    /// thread for each message.
-    pub fn text(self, alloc: Global, messages: u32, many: u32) -> Result<String, AllocError> {
+    /// thread for each message, and a mill a section. A cascade goes through many threads, once and as often as its script says.
+    pub fn text(self, alloc: Global, messages: u32, many: u32) -> io::Result<String> {
         let each = messages / many.max(1) / 2;
+        let text = match self {
+            Bench::Pingpong => pingpong(alloc, messages / 2)?,
+            Bench::Pairs => pairs(alloc, many, each)?,
+            Bench::Chain => chain(alloc, messages)?,
+            Bench::Reference => reference(alloc, messages / 2)?,
+            Bench::References => references(alloc, many, each)?,
+            Bench::Mill => mill(alloc, messages)?,
+            Bench::Cascade => cascade(alloc, many)?,
+        };
+        Ok(text)
+    }
+
+    /// The numbers that the probes get: a tenth of a mill's sections is taken back, and the cascade once for each message.
+    pub fn script(self, alloc: Global, messages: u32) -> io::Result<Vec<i64>> {
         match self {
-            Bench::Pingpong => pingpong(alloc, messages / 2),
-            Bench::Pairs => pairs(alloc, many, each),
-            Bench::Chain => chain(alloc, messages),
-            Bench::Reference => reference(alloc, messages / 2),
-            Bench::References => references(alloc, many, each),
+            Bench::Mill => mill_script(alloc, messages).map_err(|_| no_memory()),
+            Bench::Cascade => Ok(vec![in alloc; -1; messages as usize]?),
+            _ => Ok(Vec::new(alloc)),
         }
     }
+}
+
+/// What a call answers that wants memory.
+pub fn no_memory() -> Error {
+    Error::from(ErrorKind::OutOfMemory)
 }
 
 fn pingpong(alloc: Global, rounds: u32) -> Result<String, AllocError> {
@@ -101,6 +149,34 @@ fn up(n: int, r: ref[int]): unit {{ if n == 0 {{ () }} else {{ set(r, get(r) + 1
 fn own(): unit {{ let r = ref(0); up({rounds}, r) }}
 fn all(n: int): unit {{ if n == 0 {{ () }} else {{ spawn own(); all(n - 1) }} }}
 fn main(): unit {{ all({many}) }}
+"
+    )
+}
+
+fn mill(alloc: Global, sections: u32) -> io::Result<String> {
+    let mut text = Vec::new(alloc);
+    mill_text(sections, &mut text).map_err(|_| no_memory())?;
+    String::from_utf8(text).map_err(|_| Error::from(ErrorKind::InvalidData))
+}
+
+fn cascade(alloc: Global, threads: u32) -> Result<String, AllocError> {
+    format!(in alloc;
+        "
+fn link(a: chan[int], b: chan[int]): unit {{ send(b, recv(a)) }}
+fn chain(n: int, a: chan[int], last: chan[int]): unit {{
+    if n == 1 {{ spawn link(a, last) }} else {{ let b = chan[int](); spawn link(a, b); chain(n - 1, b, last) }}
+}}
+fn section(a: chan[int], last: chan[int]): int {{
+    send(a, 1);
+    let x = recv(last);
+    if probe() < 0 {{ stabilize() }} else {{ x }}
+}}
+fn main(): unit {{
+    let a = chan[int]();
+    let last = chan[int]();
+    chain({threads}, a, last);
+    print(stable section(a, last))
+}}
 "
     )
 }

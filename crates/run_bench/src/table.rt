@@ -1,7 +1,7 @@
 //! What is printed of runs of a book.
 
-use crate::programs::{ALL, Bench};
-use crate::runs::{Ran, run_of};
+use crate::programs::{ALL, Bench, KEPT, UNDONE};
+use crate::runs::{Ran, printed_of, run_of};
 use std::rt::Files;
 use std::time::CpuClock;
 use std::{fs, io};
@@ -11,8 +11,11 @@ pub const MESSAGES: u32 = 1_000_000;
 
 pub const MANY: u32 = 1_000;
 
-/// The threads of a chain.
+/// The threads of a chain, and the sections of a mill.
 pub const THREADS: u32 = 10_000;
+
+/// How often the cascade is taken back.
+pub const UNDOS: u32 = 100;
 
 /// How many runs are timed, of which the least time counts.
 pub const RUNS: u32 = 3;
@@ -20,14 +23,15 @@ pub const RUNS: u32 = 3;
 /// The messages of a whole run of such a program.
 pub fn messages_of(bench: Bench) -> u32 {
     match bench {
-        Bench::Chain => THREADS,
+        Bench::Chain | Bench::Mill => THREADS,
+        Bench::Cascade => UNDOS,
         _ => MESSAGES,
     }
 }
 
-/// How many events short runs have, and how they end, which is the same at each run.
+/// How many events short runs have, how they end, and what is taken back in them, which is the same at each run.
 pub fn print_counts<R: AllocGlobal + CpuClock + Print>(rt: &R) -> io::Result<()> {
-    for bench in ALL {
+    for bench in KEPT {
         let name = bench.name();
         let one = run_of(rt, bench, 6, 1)?;
         let more = run_of(rt, bench, 12, 3)?;
@@ -36,23 +40,52 @@ pub fn print_counts<R: AllocGlobal + CpuClock + Print>(rt: &R) -> io::Result<()>
             one.events, one.end, more.events, more.end
         )?;
     }
+    for bench in UNDONE {
+        print_undone(rt, bench, 10, 1)?;
+        print_undone(rt, bench, 20, 3)?;
+    }
     Ok(())
 }
 
-/// The nanoseconds of an event and of a message.
+// Of a run in which sections are taken back: also how many undos it has, how its threads end, and what it prints.
+fn print_undone<R: AllocGlobal + CpuClock + Print>(
+    rt: &R,
+    bench: Bench,
+    messages: u32,
+    many: u32,
+) -> io::Result<()> {
+    let ran = run_of(rt, bench, messages, many)?;
+    let printed = printed_of(rt.alloc(), bench, messages, many)?;
+    let name = bench.name();
+    let counts = ran.counts;
+    println!(rt;
+        "{name}: {} {:?}, {} undos",
+        ran.events, ran.end, counts.undos
+    )?;
+    println!(rt;
+        "{name}: ended {} faulted {} waiting {}",
+        counts.ended, counts.faulted, counts.parked
+    )?;
+    println!(rt; "{name}: prints {printed}")
+}
+
+/// The nanoseconds of an event and of a message, and the microseconds of a whole run.
 pub fn print_times<R: AllocGlobal + CpuClock + Print>(rt: &R) -> io::Result<()> {
     for bench in ALL {
         let messages = messages_of(bench);
         let ran = least(rt, bench, messages)?;
-        let (an_event, a_message) = (
+        let (an_event, of_unit) = (
             ran.nanos / ran.events.max(1),
             ran.nanos / u64::from(messages).max(1),
         );
-        let name = bench.name();
+        let (name, unit) = (bench.name(), bench.unit());
         println!(rt;
-            "{name}: {} events, {an_event} ns an event, {a_message} ns a message, {:?}",
-            ran.events, ran.end
+            "{name}: {} events, {} us, {:?}",
+            ran.events,
+            ran.nanos / 1_000,
+            ran.end
         )?;
+        println!(rt; "{name}: {an_event} ns an event, {of_unit} ns {unit}")?;
     }
     Ok(())
 }
@@ -69,21 +102,32 @@ fn least<R: AllocGlobal + CpuClock>(rt: &R, bench: Bench, messages: u32) -> io::
     Ok(best)
 }
 
-/// How much longer a chain of ten times as many threads takes.
-pub fn print_threads<R: AllocGlobal + CpuClock + Print>(rt: &R) -> io::Result<()> {
-    let few = least(rt, Bench::Chain, THREADS)?;
-    let many = least(rt, Bench::Chain, THREADS.saturating_mul(10))?;
+/// How much longer a run of ten times the size takes: of a chain with so many threads more, and of a mill of 10,000 sections
+/// than one of 1,000.
+pub fn print_growth<R: AllocGlobal + CpuClock + Print>(rt: &R) -> io::Result<()> {
+    print_growth_from(rt, Bench::Chain, THREADS)?;
+    print_growth_from(rt, Bench::Mill, THREADS / 10)
+}
+
+fn print_growth_from<R: AllocGlobal + CpuClock + Print>(
+    rt: &R,
+    bench: Bench,
+    size: u32,
+) -> io::Result<()> {
+    let few = least(rt, bench, size)?;
+    let many = least(rt, bench, size.saturating_mul(10))?;
     let tenths = many.nanos.saturating_mul(10) / few.nanos.max(1);
+    let name = bench.name();
     println!(rt;
-        "chain: {} and {} ns an event, {}.{} times as long",
-        few.nanos / few.events.max(1),
-        many.nanos / many.events.max(1),
+        "{name}: {} and {} us, {}.{} times as long",
+        few.nanos / 1_000,
+        many.nanos / 1_000,
         tenths / 10,
         tenths % 10
     )
 }
 
-/// By how much the memory that the process had at most rose in one run, by event.
+/// The most memory that the process had, and by how much that rose in one run, by event.
 ///
 /// It is for a process that does nothing else, since a run takes what an earlier one gave back.
 pub fn print_bytes<R: AllocGlobal + CpuClock + Files + Print>(
@@ -96,7 +140,10 @@ pub fn print_bytes<R: AllocGlobal + CpuClock + Files + Print>(
             let ran = run_of(rt, bench, messages_of(bench), MANY)?;
             let after = peak(rt)?;
             let bytes = after.saturating_sub(before).saturating_mul(1024) / ran.events.max(1);
-            println!(rt; "{word}: {} events, {bytes} bytes an event", ran.events)?;
+            println!(rt;
+                "{word}: {} events, {after} kibibytes, {bytes} bytes an event",
+                ran.events
+            )?;
         }
     }
     Ok(())

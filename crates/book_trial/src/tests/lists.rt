@@ -270,7 +270,7 @@ impl Trial {
 
     // Up to eight leases are held at once.
     fn run(&mut self) {
-        for _ in 0..8 {
+        for _ in 0..4 {
             match self.next() {
                 Some(work) => self.hold(work, 7),
                 None => self.recall(),
