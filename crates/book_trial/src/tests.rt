@@ -6,6 +6,5 @@ mod lists;
 mod plain;
 mod runs;
 mod texts;
-mod traces;
 mod turns;
 mod weights;
