@@ -15,12 +15,12 @@ use Rattle.stab_journal.specs.declared.event.What.TheVariants.{Step, Undo, Relea
 use Rattle.stab_journal.specs.Dependence.{DependsOn, Reaches, itself, link, shares, writes, writes_what}
 use Rattle.stab_journal.specs.Due.{final_prints}
 use Rattle.stab_journal.specs.Floor.{floor, is_cut, is_pin, is_revocable}
-use Rattle.stab_journal.specs.Journal.{RiseFrom}
+use Rattle.stab_journal.specs.Journal.{RiseFrom, survivors}
 use Rattle.stab_journal.specs.Names.{has, is_at, read}
 use Rattle.stab_journal.specs.Reached.{reached, rest, without_reached}
 use Rattle.stab_journal.specs.Surviving.{after_event, after_events, run_of}
 use Rattle.plain_language.specs.Expression.{Expr}
-use Rattle.plain_language.specs.Plain.{PlainState, effect_of, language_of, look_in, plain_step, standing}
+use Rattle.plain_language.specs.Plain.{IsRun, PlainState, effect_of, language_of, look_in, plain_step, standing}
 use Rattle.plain_language.specs.Steps.{Effect, effect_in}
 use Rattle.plain_language.specs.Table.{Look, act, stabilizes, refuse_by}
 use Rattle.plain_language.specs.Standing.{StandsFor, MayStep, MayUndo, is_stabilize, nothing, step, undo, release, event}
@@ -30,7 +30,8 @@ use Rattle.journal_laws.proofs.Held.{cuts_hold, pins_hold, entry_of, parts_of}
 use Rattle.journal_laws.proofs.Numbers.{joined, rise_front}
 use Rattle.journal_laws.proofs.Stepping.{step_of}
 use Rattle.journal_laws.proofs.Undone.{stands_run}
-use Rattle.commit_book.specs.Headline.{StandsIn, IsGranted, IsRefused}
+use Rattle.commit_book.specs.Book.{BookView, IsShown}
+use Rattle.commit_book.specs.Headline.{HasRun, StandsIn, IsGranted, IsRefused}
 use Rattle.commit_book.proofs.Firm.{floor_last, front_of, no_events, snoc_of}
 use Rattle.commit_book.proofs.Floors.{floor_below}
 use Rattle.commit_book.proofs.UndoneParts.{floor_rest}
@@ -278,3 +279,33 @@ refused p es run s stands first after worker t cut =
     let due = due_after p es run s stands first (event worker (Step (Refuse t))) after cut in
     let made = due.may.1 in
     record { state = due.state; stands = due.stands; at = at_stabilize p due.state (length first + 1) t made.end made.is; due = due.may.0 }
+
+-- ---- of every book
+
+module _ (b : BookView) (shown : IsShown b) where
+  pub has_run : HasRun b
+  has_run =
+      let journal = shown.shows.journal in
+      let ran = stands_run b.job.program b.history.events shown.run shown.state journal.history.stands in
+      record {
+        end = shown.state;
+        left = journal.history.left ∙ ran.0;
+        run = subst (λ (r : List Numbered). IsRun b.job.program r shown.state) (sym journal.history.left) ran.1;
+        script = journal.script;
+        threads = shown.shows.threads.threads;
+        channels = journal.channels;
+        references = journal.references;
+        output = journal.printed;
+      }
+
+  pub final_lasts : (first after : List Event) → b.history.events ≡ first ++ after → (n : Numbered) → StandsIn (run_of first) n → n.seq.0 ≤ floor (run_of first) → StandsIn (survivors b.history) n
+  final_lasts first after cut n at low =
+      let history = shown.shows.journal.history in
+      let last = lasts b.job.program (IsFinal n) (final_kept n) first (record { at = at; low = low }) b.history.events shown.run shown.state history.stands after cut in
+      subst (λ (r : List Numbered). StandsIn r n) (sym history.left) last.at
+
+  pub pinned_lasts : (first after : List Event) → b.history.events ≡ first ++ after → (n pin : Numbered) → StandsIn (run_of first) n → is_pin pin.label ≡ true → Reaches (run_of first) n.seq.0 pin → StandsIn (survivors b.history) n
+  pinned_lasts first after cut n pin at pins chain =
+      let history = shown.shows.journal.history in
+      let last = lasts b.job.program (IsPinned n pin) (pinned_kept n pin pins) first (record { at = at; chain = chain }) b.history.events shown.run shown.state history.stands after cut in
+      subst (λ (r : List Numbered). StandsIn r n) (sym history.left) last.at

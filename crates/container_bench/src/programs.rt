@@ -25,14 +25,15 @@ pub fn run(alloc: Global, n: u32) -> Result<u32, NoMemory>
     Ok(count_parts(&program, 4 * items + 2))
 }
 
-// `fn main(): unit { print(1 + 2); print(1 + 2); .. }`
+// `fn main(): unit { print(1 + 2); print(1 + 2); .. }`. As where a text is read, the number of nodes is known before.
 fn print_sums(alloc: Global, items: u32) -> Result<Program, NoMemory>
     requires some { 1 ≤ items }
     requires few { items ≤ 2500001 }
 {
-    let mut nodes = Nodes::new(alloc);
-    let mut slots = Vec::new(alloc);
-    let mut parts = Vec::new(alloc);
+    let count = 4 * items as usize + 2;
+    let mut nodes = Nodes::with_capacity(alloc, count, count)?;
+    let mut slots = Vec::with_capacity(alloc, items as usize)?;
+    let mut parts = Vec::with_capacity(alloc, items as usize + 1)?;
     for i in 0..items {
         add_print(&mut nodes, 4 * i)?;
         slots.push(None)?;

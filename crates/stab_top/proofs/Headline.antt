@@ -1,30 +1,16 @@
 -- What a call shows of the program that it runs.
 use Rattle.std.proofs.Common.{◌≡◌, ◌⊎◌, inl, inr, ℕ, true, length, length-append, arith, List, [], ◌∷◌, ◌++◌, Option, Some, None, Result, Ok, refl, sym, ap, subst, ◌∙◌, append-nil, append_assoc}
-use Rattle.std.proofs.lemmas.Bool.{false≢true}
-use Rattle.std.proofs.lemmas.List.{append_cancel_left}
 use Rattle.stab_code.specs.JobParts.{JobParts, job_of}
 use Rattle.stab_code.specs.Program.{ProgramParts}
 use Rattle.stab_files.specs.Entry.{Entry}
-use Rattle.stab_journal.specs.declared.event.Event.{Event}
-use Rattle.stab_journal.specs.declared.event.Numbered.{Numbered}
-use Rattle.stab_journal.specs.declared.event.What.{What}
-use Rattle.stab_journal.specs.declared.event.What.TheVariants.{Undo}
-use Rattle.stab_journal.specs.Reached.{without_reached}
-use Rattle.stab_journal.specs.Surviving.{run_of}
 use Rattle.stab_words.specs.Asked.{asked}
 use Rattle.stab_words.specs.declared.request.MillArgs.{MillArgs}
 use Rattle.stab_words.specs.declared.request.Request.{Request}
 use Rattle.stab_words.specs.declared.request.Request.TheVariants.{Run, Trace, Verify, Drill, Check, Mill, Types, Save, Resume, Watch}
 use Rattle.stab_words.specs.declared.request.RunArgs.{RunArgs}
 use Rattle.plain_language.specs.Plain.{PlainState}
-use Rattle.plain_language.specs.Standing.{MayUndo, StandsFor, nothing, step, undo, release, event}
-use Rattle.journal_laws.proofs.Chains.{chain_reached, reached_chain}
-use Rattle.journal_laws.proofs.Held.{cuts_hold, parts_of, pins_hold}
-use Rattle.journal_laws.proofs.Undone.{stands_run}
-use Rattle.commit_book.specs.Book.{BookView}
-use Rattle.commit_book.specs.Undoing.{undo_by}
-use Rattle.commit_book.specs.Counts.{is_undo}
-use Rattle.commit_book.proofs.Firm.{IsSnoc, front_of, snoc_of}
+use Rattle.commit_book.specs.Book.{BookView, IsShown}
+use Rattle.commit_book.proofs.LawfulBooks.{final_lasts, granted, has_run, pinned_lasts}
 use Rattle.stab_top.specs.declared.report.Report.{Report}
 use Rattle.stab_top.specs.declared.report.Status.{Status}
 use Rattle.stab_top.specs.declared.report.Status.TheVariants.{Done, Held, BadWords, BadText, NoFile, TooBig, FileFault, SinkFault, Spent, NoMemory, BadProbes, BadTrace, BadScript, No, NotBuilt}
@@ -32,105 +18,21 @@ use Rattle.stab_top.specs.Words.{is_built}
 use Rattle.stab_top.specs.Call.{BuiltSays, Call, LastSays, MillSays, ReadSays, RunSaysBy, Says, Writing, status_of}
 use Rattle.stab_top.specs.Device.{Device, Gains}
 use Rattle.stab_top.specs.Ending.{AsReleased, AtTheEnd, Ends, IsRunOf, Outcome, RunEnds, milled_by, shown_by}
-use Rattle.stab_top.specs.Headline.{AsksForRun, IsEnd, IsOfTheLanguage, ShowsRunOf, TakesBack}
+use Rattle.stab_top.specs.Headline.{AsksForRun, IsEnd, IsOfTheLanguage, ShowsRunOf}
 use Rattle.stab_top.specs.declared.report.Role.{Role}
 use Rattle.stab_top.specs.Loading.{LoadRefused}
 use Rattle.stab_top.specs.Reading.{BytesRefused, Form, ReadRefused, probes_form, program_form}
 use Rattle.stab_top.proofs.Complete.{request_said}
 
--- ---- an undo of a history
-
-record UndoneAt (p : ProgramParts) (first : List Event) (w t m : ℕ) : Type 0 where
-  run : List Numbered
-  before : PlainState
-  after : PlainState
-  stands : StandsFor p first run before
-  may : MayUndo p run before t m
-  left : StandsFor p (first ++ undo_by w t m ∷ []) (without_reached m run) after
-
--- what an undo says
-abbrev thread_of : What → ℕ
-thread_of (Undo t m) = t.0
-thread_of what = 0
-
-abbrev mark_of : What → ℕ
-mark_of (Undo t m) = m.0
-mark_of what = 0
-
--- nothing stands before the last event of a list of one
-nil_of : {X : Type 0} (xs : List X) → length xs ≡ 0 → xs ≡ []
-nil_of [] is = refl
-nil_of (x ∷ xs) is = absurd (omega (arith, is))
-
-alone : {X : Type 0} (x : X) (k : IsSnoc (x ∷ [])) → k.front ≡ []
-alone x k = let long : 1 ≡ length (k.front ++ k.last ∷ []) = ap length k.is in let sum = length-append k.front (k.last ∷ []) in nil_of k.front (omega (arith, long, sum))
-
--- the last event of a list, and what stands before it
-last_is : (fs first : List Event) (e x : Event) → fs ++ e ∷ [] ≡ first ++ x ∷ [] → (fs ≡ first) × (e ≡ x)
-last_is fs first e x is =
-    let front : fs ≡ first = front_of fs first e x [] is ∙ ap (λ l. first ++ l) (alone x (snoc_of x [])) ∙ append-nil first in
-    let ends : e ∷ [] ≡ x ∷ [] = append_cancel_left first (e ∷ []) (x ∷ []) (ap (λ l. l ++ e ∷ []) (sym front) ∙ is) in
-    (front, let same : e ≡ x = cc in same)
-
-earlier : (fs first : List Event) (e u x : Event) (xs : List Event) → fs ++ e ∷ [] ≡ first ++ u ∷ (x ∷ xs) → fs ≡ first ++ u ∷ (snoc_of x xs).front
-earlier fs first e u x xs is =
-    front_of fs (first ++ u ∷ []) e x xs (is ∙ sym (append_assoc first (u ∷ []) (x ∷ xs))) ∙ append_assoc first (u ∷ []) (snoc_of x xs).front
-
-no_event : (first : List Event) (u : Event) (after : List Event) → [] ≡ first ++ u ∷ after → ⊥
-no_event [] u after is = let wrong : ⊥ = cc in wrong
-no_event (e ∷ es) u after is = let wrong : ⊥ = cc in wrong
-
-module _ (p : ProgramParts) (first : List Event) (w t m : ℕ) where
-  undone_at : (fs : List Event) (r : List Numbered) (s : PlainState) → StandsFor p fs r s → (after : List Event) → fs ≡ first ++ undo_by w t m ∷ after → UndoneAt p first w t m
-  undone_at _ _ _ nothing after is = absurd (no_event first (undo_by w t m) after is)
-  undone_at _ _ _ (step {events = fs} {run = r} {before = s} next worker label before may made) (x ∷ xs) is = undone_at fs r s before (snoc_of x xs).front (earlier fs first _ (undo_by w t m) x xs is)
-  undone_at _ _ _ (undo {events = fs} {run = r} {before = s} next worker u k before may ends) (x ∷ xs) is = undone_at fs r s before (snoc_of x xs).front (earlier fs first _ (undo_by w t m) x xs is)
-  undone_at _ _ _ (release {events = fs} {run = r} {state = s} worker k before final more) (x ∷ xs) is = undone_at fs r s before (snoc_of x xs).front (earlier fs first _ (undo_by w t m) x xs is)
-  undone_at _ _ _ (step {events = fs} {run = r} {before = s} next worker label before may made) [] is =
-      absurd (false≢true (ap is_undo (last_is fs first _ (undo_by w t m) is).1))
-  undone_at _ _ _ (release {events = fs} {run = r} {state = s} worker k before final more) [] is =
-      absurd (false≢true (ap is_undo (last_is fs first _ (undo_by w t m) is).1))
-  undone_at _ _ _ (undo {events = fs} {run = r} {before = s} next worker u k before may ends) [] is =
-      let parts = last_is fs first (event worker (Undo (record { 0 = u }) (record { 0 = k }))) (undo_by w t m) is in
-      let same = parts.1 in
-      let by : worker ≡ w = ap (λ (e : Event). e.worker) same in
-      let thread : u ≡ t = ap (λ (e : Event). thread_of e.what) same in
-      let mark : k ≡ m = ap (λ (e : Event). mark_of e.what) same in
-      let here : UndoneAt p fs worker u k = record { run = r; before = s; after = next; stands = before; may = may; left = undo next worker u k before may ends } in
-      subst (λ es. UndoneAt p es w t m) parts.0 (subst (λ v. UndoneAt p fs v t m) by (subst (λ v. UndoneAt p fs worker v m) thread (subst (λ v. UndoneAt p fs worker u v) mark here)))
-
-  takes_back : (fs : List Event) (r : List Numbered) (s : PlainState) → StandsFor p fs r s → (after : List Event) → fs ≡ first ++ undo_by w t m ∷ after → TakesBack m (run_of first) (run_of (first ++ undo_by w t m ∷ []))
-  takes_back fs r s stands after is =
-      let at = undone_at fs r s stands after is in
-      let before = stands_run p first at.run at.before at.stands in
-      let behind = stands_run p (first ++ undo_by w t m ∷ []) (without_reached m at.run) at.after at.left in
-      let rises = before.1.rises in
-      let may = at.may.revocable in
-      let here : TakesBack m at.run (without_reached m at.run) = record {
-        entered = (parts_of at.run m may).entered;
-        without = refl;
-        precisely = λ front n back cut. (reached_chain at.run m 1 rises front n back cut, chain_reached at.run m 1 rises n);
-        cuts = λ q lost. cuts_hold at.run m q rises may lost;
-        pins = λ front n back cut pin is chain. pins_hold at.run m rises may front n back cut pin is chain;
-      }
-      in
-      subst (λ ns. TakesBack m ns (run_of (first ++ undo_by w t m ∷ []))) before.0 (subst (λ ns. TakesBack m at.run ns) behind.0 here)
-
 -- what the report's book shows
-abbrev of_language : (job : JobParts) (book : BookView) (state : PlainState) → IsRunOf job book state → IsOfTheLanguage book
+of_language : (job : JobParts) (book : BookView) (state : PlainState) → IsRunOf job book state → IsOfTheLanguage book
 of_language job book state r =
-    let p = book.job.program in
-    let history = r.shown.journal.history in
+    let shown : IsShown book = record { run = r.run; state = state; shows = r.shown } in
     record {
-      run = r.run;
-      state = state;
-      left = history.left;
-      made = (stands_run p book.history.events r.run state history.stands).1;
-      threads = r.shown.threads.threads;
-      channels = r.shown.journal.channels;
-      references = r.shown.journal.references;
-      output = r.shown.journal.printed;
-      undos = λ first after w t m is. takes_back p first w t m book.history.events r.run state history.stands after is;
+      run = has_run book shown;
+      undos = granted book.job.program book.history.events r.run state r.shown.journal.history.stands;
+      cuts = final_lasts book shown;
+      pins = pinned_lasts book shown;
     }
 
 -- ---- a call

@@ -1,19 +1,22 @@
 //! What the statuses say together: they leave no way round a good program or a trace, nor round a text that is none. The
 //! calls do nothing.
-ghost use Rattle.std.specs.Prelude.{◌≡◌, ◌⊎◌, ◌<◌, ◌++◌, ◌∷◌, [], ℕ, ℤ, List, count_by, length, Some, Ok, true, false};
+ghost use Rattle.std.specs.Prelude.{◌≡◌, ◌⊎◌, ◌++◌, ◌∷◌, [], ℕ, ℤ, List, count_by, length, Some, Ok, true};
 ghost use Rattle.commit_book.specs.Book.{BookView};
-ghost use Rattle.commit_book.specs.Undoing.{undo_by};
+ghost use Rattle.commit_book.specs.Headline.{StandsIn};
 ghost use Rattle.lone_worker.specs.Solo.{BeginsWith, IsWholeSolo};
 ghost use Rattle.mill_text.specs.Mill.{mill_text};
 ghost use Rattle.plain_language.specs.Plain.{PlainState};
+ghost use Rattle.plain_language.specs.Standing.{event};
+ghost use Rattle.stab_base.specs.declared.numbers.Seq.{Seq};
+ghost use Rattle.stab_base.specs.declared.numbers.ThreadId.{ThreadId};
 ghost use Rattle.probe_text.specs.declared.fault.ProbesFault.{ProbesFault};
 ghost use Rattle.stab_code.specs.JobParts.{JobParts};
 ghost use Rattle.stab_code.specs.Program.{ProgramParts};
 ghost use Rattle.stab_journal.specs.declared.event.Event.{Event};
 ghost use Rattle.stab_journal.specs.declared.event.Numbered.{Numbered};
+ghost use Rattle.stab_journal.specs.declared.event.What.TheVariants.{Undo};
 ghost use Rattle.stab_journal.specs.Dependence.{Reaches};
 ghost use Rattle.stab_journal.specs.Due.{is_print};
-ghost use Rattle.stab_journal.specs.Floor.{floor, is_pin};
 ghost use Rattle.stab_journal.specs.Journal.{IsValid, Journal, survivors};
 ghost use Rattle.stab_journal.specs.Names.{has};
 ghost use Rattle.stab_journal.specs.Reached.{reached};
@@ -52,22 +55,14 @@ pub fn books_are_of_the_language()
         asked words ≡ Ok request → AsksForRun request → c.outcome.report.book ≡ Some book → IsOfTheLanguage book }
 {}
 
-/// What this says of an undo in the history of such a book, and of the output: no step that stands before a cut is undone, nor one
-/// on which a pin depends; the undo removes the steps that depend on its section's entry, and no more; and as many values are
-/// printed as the journal without its undone steps has prints, so none of an undone one.
+/// What this says of an undo in the history of such a book, and of the output: the undo takes back only steps that depend on its
+/// section's entry; and as many values are printed as the journal without its undone steps has prints, so none of an undone one.
 pub fn undos_and_output()
-    ensures cuts { (book : BookView) (first after : List Event) (w t m q : ℕ) → IsOfTheLanguage book →
-        book.history.events ≡ first ++ undo_by w t m ∷ after → has (reached (run_of first) m) q ≡ true →
-        floor (run_of first) < q }
-    ensures pins { (book : BookView) (first after : List Event) (w t m : ℕ) (front : List Numbered) (n : Numbered)
-        (back : List Numbered) (pin : Numbered) → IsOfTheLanguage book → book.history.events ≡ first ++ undo_by w t m ∷ after →
-        run_of first ≡ front ++ n ∷ back → is_pin pin.label ≡ true → Reaches (run_of first) n.seq.0 pin →
-        has (reached (run_of first) m) n.seq.0 ≡ false }
-    ensures no_more { (book : BookView) (first after : List Event) (w t m : ℕ) (front : List Numbered) (n : Numbered)
-        (back : List Numbered) → IsOfTheLanguage book → book.history.events ≡ first ++ undo_by w t m ∷ after →
-        run_of first ≡ front ++ n ∷ back → has (reached (run_of first) m) n.seq.0 ≡ true → Reaches (run_of first) m n }
-    ensures output { (book : BookView) (said : IsOfTheLanguage book) →
-        length said.state.output ≡ count_by (λ (n : Numbered). is_print n.label) (survivors book.history) }
+    ensures no_more { (book : BookView) (first after : List Event) (worker : ℕ) (t : ThreadId) (m : Seq) (n : Numbered) →
+        IsOfTheLanguage book → book.history.events ≡ first ++ event worker (Undo t m) ∷ after → StandsIn (run_of first) n →
+        has (reached (run_of first) m.0) n.seq.0 ≡ true → Reaches (run_of first) m.0 n }
+    ensures output { (book : BookView) → IsOfTheLanguage book →
+        length book.printed ≡ count_by (λ (n : Numbered). is_print n.label) (survivors book.history) }
 {}
 
 /// Where the words ask for a run, and the files tell that the text of a program is held within the limit under its

@@ -1,5 +1,5 @@
-use Rattle.std.proofs.Common.{◌≡◌, ap, arith}
-use Rattle.std.specs.Prelude.{count_by}
+use Rattle.std.proofs.Common.{◌≡◌, ◌∙◌, ap, arith}
+use Rattle.std.specs.Prelude.{count_by, length}
 use Rattle.stab_journal.specs.declared.event.Numbered.{Numbered}
 use Rattle.stab_journal.specs.Due.{is_print}
 use Rattle.stab_journal.specs.Journal.{survivors}
@@ -7,17 +7,12 @@ use Rattle.plain_language.specs.Plain.{start}
 use Rattle.commit_book.proofs.PrintCounts.{run_printed}
 use Rattle.stab_top.proofs.laws.undos_and_output.Goals as goal
 
-pub returns-clause-cuts : goal.returns-clause-cuts
-returns-clause-cuts c = λ book first after w t m q said is lost. (said.undos first after w t m is).cuts q lost
-
-pub returns-clause-pins : goal.returns-clause-pins
-returns-clause-pins c = λ book first after w t m front n back pin said is cut pins chain. (said.undos first after w t m is).pins front n back cut pin pins chain
-
 pub returns-clause-no_more : goal.returns-clause-no_more
-returns-clause-no_more c = λ book first after w t m front n back said is cut lost. ((said.undos first after w t m is).precisely front n back cut).0 lost
+returns-clause-no_more c = λ book first after worker t m n said is at lost. ((said.undos first after worker t m is).gone n at).0 lost
 
 pub returns-clause-output : goal.returns-clause-output
 returns-clause-output c = λ book said.
-    let all = run_printed book.job.program said.run (start book.job.program) said.state said.made.ends in
-    let left : count_by (λ (n : Numbered). is_print n.label) (survivors book.history) ≡ count_by (λ (n : Numbered). is_print n.label) said.run = ap (count_by (λ (n : Numbered). is_print n.label)) said.left in
-    omega (arith, all, left)
+    let run = said.run in
+    let all = run_printed book.job.program (survivors book.history) (start book.job.program) run.end run.run.ends in
+    let as_many : length run.end.output ≡ count_by (λ (n : Numbered). is_print n.label) (survivors book.history) = omega (arith, all) in
+    ap length run.output ∙ as_many
