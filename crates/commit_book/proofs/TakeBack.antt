@@ -6,7 +6,6 @@ use Rattle.std.specs.FinSet.{FinSet}
 use Rattle.std.specs.Ordering.{nat_cmp}
 use Rattle.std.proofs.lemmas.Bool.{false≢true}
 use Rattle.std.proofs.lemmas.List.Sums.{count_by-le-length}
-use Rattle.stab_base.specs.declared.numbers.Seq.{Seq}
 use Rattle.stab_base.specs.declared.numbers.ThreadId.{ThreadId}
 use Rattle.stab_code.specs.JobParts.{JobParts}
 use Rattle.stab_code.specs.Program.{ProgramParts}
@@ -20,7 +19,7 @@ use Rattle.stab_journal.specs.Journal.{Journal, label_at, survivors, survivors_f
 use Rattle.stab_journal.proofs.Surviving.{are_survivors}
 use Rattle.thread_slots.specs.Slot.{Slot}
 use Rattle.comm_graph.specs.Node.{Node}
-use Rattle.reach_line.specs.MarkList.{MarkList}
+use Rattle.reach_line.specs.MarkList.{numbers}
 use Rattle.reach_line.specs.Reached as marks
 use Rattle.restore.specs.Line.{IsMarkedAs}
 use Rattle.plain_language.specs.Plain.{IsRun, look_in}
@@ -30,6 +29,7 @@ use Rattle.step_eval.specs.ControlView.{ControlView, Fits, expr_of}
 use Rattle.step_eval.specs.Progress.{ProgressView}
 use Rattle.journal_laws.proofs.Undone.{stands_run}
 use Rattle.commit_book.specs.declared.done.Outcome.TheVariants as outcome
+use Rattle.commit_book.specs.declared.done.Undone.{Undone}
 use Rattle.commit_book.specs.declared.counts.Tallies.{Tallies}
 use Rattle.commit_book.specs.declared.parts.Parts.{Parts}
 use Rattle.commit_book.specs.declared.rollback.Rollback.{Rollback}
@@ -143,17 +143,23 @@ module _ (job : JobParts) (old : Parts) (lease : LeaseView) (progress : Progress
   uncut : IsUncut kept.shown.run m
   uncut = record { entered = entered; above = above_now }
 
-  module _ (ms : MarkList) (reach : marks.AreReached planned.graph.nodes m ms.nodes) (free : (q : ℕ) → IsMarkedAs planned.graph.nodes ms.nodes is_pinned q → ⊥) where
-    reach_now : marks.AreReached mid.graph.nodes m ms.nodes
-    reach_now = subst (λ (ns : List Node). marks.AreReached ns m ms.nodes) (sym nodes_now) reach
+  module _ (reach : marks.AreReached planned.graph.nodes m planned.rollback.marks.nodes) (free : (q : ℕ) → IsMarkedAs planned.graph.nodes planned.rollback.marks.nodes is_pinned q → ⊥) where
+    marks_now : mid.rollback.marks.nodes ≡ planned.rollback.marks.nodes
+    marks_now = ap (λ (r : Rollback). r.marks.nodes) rollback_now
+
+    reach_now : marks.AreReached mid.graph.nodes m mid.rollback.marks.nodes
+    reach_now = subst (λ (ns : List Node). marks.AreReached ns m mid.rollback.marks.nodes) (sym nodes_now) (subst (marks.AreReached planned.graph.nodes m) (sym marks_now) reach)
+
+    free_now : (q : ℕ) → IsMarkedAs mid.graph.nodes mid.rollback.marks.nodes is_pinned q → ⊥
+    free_now q is = free q (subst (λ (ns : List Node). IsMarkedAs ns planned.rollback.marks.nodes is_pinned q) nodes_now (subst (λ (qs : List ℕ). IsMarkedAs mid.graph.nodes qs is_pinned q) marks_now is))
 
     revocable : is_revocable kept.shown.run m ≡ true
     revocable =
         granted kept.shown.run m entered above_now
-        (no_pin_reached kept.shown.run mid.graph.nodes runs.rises kept.shown.shows.journal.nodes m uncut ms.nodes reach_now (λ q is. free q (subst (λ (ns : List Node). IsMarkedAs ns ms.nodes is_pinned q) nodes_now is)))
+        (no_pin_reached kept.shown.run mid.graph.nodes runs.rises kept.shown.shows.journal.nodes m uncut mid.rollback.marks.nodes reach_now free_now)
 
     -- the undo can be made
-    pub undoing : HasRoomToRead planned.rollback (length planned.history.events + 1) (planned.slots.next - 1) → IsUndoing mid m ms.nodes
+    pub undoing : HasRoomToRead planned.rollback (length planned.history.events + 1) (planned.slots.next - 1) → IsUndoing mid m mid.rollback.marks.nodes
     undoing room = record {
       job = job;
       valid = kept.valid;
@@ -172,7 +178,7 @@ module _ (job : JobParts) (old : Parts) (lease : LeaseView) (progress : Progress
           (subst (λ (r : Rollback). HasRoomToRead r (length planned.history.events + 1) (planned.slots.next - 1)) (sym rollback_now) room));
     }
 
-    module _ (removed : ℕ) (out : Parts) (is : IsTakenOut mid out m removed ms.nodes) where
+    module _ (removed : ℕ) (out : Parts) (is : IsTakenOut mid out m removed mid.rollback.marks.nodes) where
       long_out : length out.history.events ≡ length mid.history.events
       long_out = ap length is.events
 
@@ -220,10 +226,11 @@ module _ (job : JobParts) (old : Parts) (lease : LeaseView) (progress : Progress
         more_so : new ≡ record out { history = new.history; rollback = new.rollback; tallies = record out.tallies { undos = out.tallies.undos + 1 } }
         more_so = more ∙ ap (λ (r : Rollback). record out { history = new.history; rollback = r; tallies = record out.tallies { undos = out.tallies.undos + 1 } }) (sym rollback_new)
 
-        pub taken : (section : Seq) → section.0 ≡ m → IsPerformed job old new lease progress (outcome.Undone (record { mark = section; removed = removed; marks = ms }))
-        taken section section_is = undo_performed job old lease progress may at m marked planned begins mid before longer rest was went both.0 kept revocable removed ms reach_now out new is pushed struck more_so section section_is
+        pub taken : (u : Undone) → u.mark.0 ≡ m → u.removed ≡ removed → numbers u.marks.items ≡ planned.rollback.marks.nodes → IsPerformed job old new lease progress (outcome.Undone u)
+        taken u section count listed =
+            undo_performed job old lease progress may at m marked planned begins mid before longer rest was went both.0 kept revocable removed mid.rollback.marks.nodes reach_now out new is pushed struck more_so u section count (listed ∙ sym marks_now)
 
         pub taken_kept : IsKept job new
         taken_kept =
-            undo_kept job old lease progress may at m marked planned begins mid before longer rest was went both.0 kept revocable removed ms reach_now out new is pushed struck more_so
+            undo_kept job old lease progress may at m marked planned begins mid before longer rest was went both.0 kept revocable removed mid.rollback.marks.nodes reach_now out new is pushed struck more_so
             (read_undo out.history new.history out.rollback new.rollback lease.worker lease.thread m is.read is.all pushed struck rollback_new)

@@ -6,7 +6,6 @@ use Rattle.std.specs.Cmp.{nat_eq_equiv}
 use Rattle.std.proofs.lemmas.Bool.{false≢true, eqb-true}
 use Rattle.std.proofs.lemmas.List.Elements.{filter-append}
 use Rattle.linked_lists.specs.Lists.{without}
-use Rattle.stab_base.specs.declared.numbers.Seq.{Seq}
 use Rattle.stab_code.specs.JobParts.{JobParts}
 use Rattle.stab_code.specs.Program.{ProgramParts}
 use Rattle.stab_journal.specs.declared.event.Label.TheVariants.{Refuse}
@@ -17,7 +16,7 @@ use Rattle.stab_journal.specs.Names.{has}
 use Rattle.stab_journal.specs.Reached.{reached}
 use Rattle.thread_slots.specs.Slot.{Slot, restored}
 use Rattle.rendezvous.specs.Line.{Line, Seen}
-use Rattle.reach_line.specs.MarkList.{MarkList}
+use Rattle.reach_line.specs.MarkList.{numbers}
 use Rattle.reach_line.specs.Reached as marks
 use Rattle.restore.specs.declared.line.Line as plan
 use Rattle.restore.specs.declared.line.Line.TheVariants.{From, Gone}
@@ -32,6 +31,7 @@ use Rattle.step_eval.specs.Progress.{ProgressView}
 use Rattle.journal_laws.specs.Lost.{is_hit, is_unmade}
 use Rattle.journal_laws.proofs.Undone.{stands_run}
 use Rattle.commit_book.specs.declared.done.Outcome.TheVariants as outcome
+use Rattle.commit_book.specs.declared.done.Undone.{Undone}
 use Rattle.commit_book.specs.declared.counts.Tallies.{Tallies}
 use Rattle.commit_book.specs.declared.parts.Parts.{Parts}
 use Rattle.commit_book.specs.Acting.{AreAsBefore, HasGoneOn, IsDone, IsDoneBy, IsLonger, IsOutcomeOf, IsPerformed, MayAct, StandsAt, state_for}
@@ -158,7 +158,7 @@ module _ (job : JobParts) (old : Parts) (lease : LeaseView) (progress : Progress
         same_before : is_revocable kept.shown.run m ≡ is_revocable (survivors old.history) m
         same_before = ap (λ (r : List Numbered). is_revocable r m) run_begun ∙ local_more (survivors old.history) (length old.history.events + 1) lease.thread progress.steps m (subst (RiseFrom 1) run_begun stood.rises)
 
-    module _ (removed : ℕ) (ms : MarkList) (reach : marks.AreReached mid.graph.nodes m ms.nodes) (out new : Parts) (is : IsTakenOut mid out m removed ms.nodes)
+    module _ (removed : ℕ) (qs : List ℕ) (reach : marks.AreReached mid.graph.nodes m qs) (out new : Parts) (is : IsTakenOut mid out m removed qs)
         (pushed : new.history.events ≡ out.history.events ++ undo_by lease.worker lease.thread m ∷ []) (struck : new.history.struck ≡ out.history.struck)
         (more : new ≡ record out { history = new.history; rollback = new.rollback; tallies = record out.tallies { undos = out.tallies.undos + 1 } }) where
       low : lease.thread < mid.slots.next
@@ -173,13 +173,13 @@ module _ (job : JobParts) (old : Parts) (lease : LeaseView) (progress : Progress
           let rise = stood.rises in
           let nodes = kept.shown.shows.journal.nodes in
           elim (line_of (has (reached run m)) u run) [
-            | (untouched miss) ↦ ap is_some (line_untouched run mid.graph.nodes rise nodes m revocable ms.nodes reach u (map.get is.lines u) miss (is.are u)) ∙ sym miss
+            | (untouched miss) ↦ ap is_some (line_untouched run mid.graph.nodes rise nodes m revocable qs reach u (map.get is.lines u) miss (is.are u)) ∙ sym miss
             | (unmade b n a cut miss lost touches spawns) ↦
-                ap is_some (line_unmade run mid.graph.nodes rise nodes m revocable ms.nodes reach u (map.get is.lines u) b n a cut lost spawns (is.are u))
+                ap is_some (line_unmade run mid.graph.nodes rise nodes m revocable qs reach u (map.get is.lines u) b n a cut lost spawns (is.are u))
                 ∙ sym (ap (is_hit (has (reached run m)) u) cut ∙ hit_here (has (reached run m)) u b n a lost touches)
             | (from b n a cut miss lost touches acts) ↦
                 let f = first_of_thread (view_of job mid) run kept.shown.state kept.shown.shows stood m revocable u b n a cut miss lost acts in
-                ap is_some (line_from run mid.graph.nodes rise nodes m revocable ms.nodes reach u (map.get is.lines u) b n a cut miss lost acts (saves_node n.label f.saved) f.alive (is.are u))
+                ap is_some (line_from run mid.graph.nodes rise nodes m revocable qs reach u (map.get is.lines u) b n a cut miss lost acts (saves_node n.label f.saved) f.alive (is.are u))
                 ∙ sym (ap (is_hit (has (reached run m)) u) cut ∙ hit_here (has (reached run m)) u b n a lost touches)
           ]
 
@@ -191,7 +191,7 @@ module _ (job : JobParts) (old : Parts) (lease : LeaseView) (progress : Progress
           ∙ hit_here (has (reached run m)) lease.thread entry.before entry.n entry.after (ap (has (reached run m)) entry.number ∙ itself_reached) entry.touches
         where
           itself_reached : has (reached kept.shown.run m) m ≡ true
-          itself_reached = marks_only run mid.graph.nodes stood.rises kept.shown.shows.journal.nodes m (uncut_of run m revocable) ms.nodes reach m (reach.all m marks.itself)
+          itself_reached = marks_only run mid.graph.nodes stood.rises kept.shown.shows.journal.nodes m (uncut_of run m revocable) qs reach m (reach.all m marks.itself)
 
       mid_queue : others (is_touched is.lines) mid.slots.queue ≡ others (is_touched is.lines) old.slots.queue
       mid_queue =
@@ -223,8 +223,8 @@ module _ (job : JobParts) (old : Parts) (lease : LeaseView) (progress : Progress
           by_line (Some (From q)) at =
               ap (λ b. loses_a_step run m u && b) (ap is_back at ∙ sym (ap is_some (threads_new u ∙ ap (λ l. put_back (λ q. saved_of mid.store.controls q u) l (map.get mid.slots.threads u)) at)
               ∙ back_there (map.get mid.slots.threads u) (saved_of mid.store.controls q.0 u) restored
-              (line_live (view_of job mid) run kept.shown.state kept.shown.shows stood m revocable ms.nodes reach is.lines is.are u (ap is_some at))
-              (line_saved (view_of job mid) run kept.shown.state kept.shown.shows stood m revocable ms.nodes reach is.lines is.are u q.0 at)))
+              (line_live (view_of job mid) run kept.shown.state kept.shown.shows stood m revocable qs reach is.lines is.are u (ap is_some at))
+              (line_saved (view_of job mid) run kept.shown.state kept.shown.shows stood m revocable qs reach is.lines is.are u q.0 at)))
 
       next_new : new.slots.next ≡ mid.slots.next
       next_new = ap (λ (x : Parts). x.slots.next) more ∙ is.next
@@ -233,7 +233,7 @@ module _ (job : JobParts) (old : Parts) (lease : LeaseView) (progress : Progress
       touched_low u hit =
           subst (λ (n : ℕ). u < n) (sym next_new)
           (thread_below (view_of job mid) run kept.shown.state kept.shown.shows.journal u
-          (sym (ap is_some (kept.shown.shows.threads.threads u)) ∙ there (map.get mid.slots.threads u) (line_live (view_of job mid) run kept.shown.state kept.shown.shows stood m revocable ms.nodes reach is.lines is.are u hit)))
+          (sym (ap is_some (kept.shown.shows.threads.threads u)) ∙ there (map.get mid.slots.threads u) (line_live (view_of job mid) run kept.shown.state kept.shown.shows stood m revocable qs reach is.lines is.are u hit)))
         where
           there : (o : Option (Slot ControlView)) → is_some o ≡ true → is_some (option_map (λ (k : Slot ControlView). expr_of p k.control) o) ≡ true
           there None h = absurd (false≢true h)
@@ -246,14 +246,14 @@ module _ (job : JobParts) (old : Parts) (lease : LeaseView) (progress : Progress
       taken_back = subst (IsTakenBack (view_of job old) (view_of job new) lease.worker lease.thread progress.steps m) run_begun (record {
         events =
             pushed ∙ ap (λ es. es ++ undo_by lease.worker lease.thread m ∷ []) (is.events ∙ ap (λ (k : Parts). k.history.events) gone_on.rest ∙ longer.events ∙ ap (λ (j : Journal). j.events ++ events_by lease.worker (local_of lease.thread progress.steps)) before.history);
-        survivors = survivors_after job mid kept lease.thread m removed lease.worker ms reach may_undo low out new is pushed struck more;
+        survivors = survivors_after job mid kept lease.thread m removed lease.worker qs reach may_undo low out new is pushed struck more;
         queue =
             ap (λ (x : Parts). x.slots.queue) more ∙ is.queue
             ∙ ap (λ l. l ++ filter (goes_back is.lines) (map.keys is.lines)) (mid_queue ∙ others_same touched (loses_a_step run m) touched_is old.slots.queue)
             ∙ ap (λ l. others (loses_a_step run m) old.slots.queue ++ l) (tail_is is.lines new.slots.next (λ u. loses_a_step run m u && map.contains_key new.slots.threads u) touched_low back_is);
         untouched = untouched_stay;
         lines = λ c.
-            lines_after job mid kept lease.thread m removed lease.worker ms reach may_undo low out new is pushed struck more c
+            lines_after job mid kept lease.thread m removed lease.worker qs reach may_undo low out new is pushed struck more c
             ∙ ap (cond (is_unmade (has (reached run m)) c run) None) (is.waiting c ∙ without_same touched (loses_a_step run m) touched_is (map.get mid.offers.lines c) ∙ ap (λ (o : Seen). option_map (without_all (loses_a_step run m)) (map.get o.lines c)) offers_mid);
         job = refl;
         answered = ap (λ (k : Parts). answers k.tallies) more ∙ ap (λ (k : Tallies). answers k) is.tallies ∙ moved.answered;
@@ -262,7 +262,7 @@ module _ (job : JobParts) (old : Parts) (lease : LeaseView) (progress : Progress
           untouched_stay : (u : ℕ) → loses_a_step kept.shown.run m u ≡ false → map.get new.slots.threads u ≡ map.get old.slots.threads u
           untouched_stay u miss =
               threads_new u
-              ∙ ap (λ l. put_back (λ q. saved_of mid.store.controls q u) l (map.get mid.slots.threads u)) (line_untouched run mid.graph.nodes stood.rises kept.shown.shows.journal.nodes m revocable ms.nodes reach u (map.get is.lines u) miss (is.are u))
+              ∙ ap (λ l. put_back (λ q. saved_of mid.store.controls q u) l (map.get mid.slots.threads u)) (line_untouched run mid.graph.nodes stood.rises kept.shown.shows.journal.nodes m revocable qs reach u (map.get is.lines u) miss (is.are u))
               ∙ moved.others u (ap (λ b. b || (b || false)) other)
             where
               other : nat_eq u lease.thread ≡ false
@@ -272,13 +272,16 @@ module _ (job : JobParts) (old : Parts) (lease : LeaseView) (progress : Progress
               ] refl
 
       -- what became of the thread
-      pub undo_performed : (section : Seq) → section.0 ≡ m → IsPerformed job old new lease progress (outcome.Undone (record { mark = section; removed = removed; marks = ms }))
-      undo_performed section section_is = record {
+      pub undo_performed : (u : Undone) → u.mark.0 ≡ m → u.removed ≡ removed → numbers u.marks.items ≡ qs → IsPerformed job old new lease progress (outcome.Undone u)
+      undo_performed u section count listed = record {
         becomes =
-            subst (λ (r : Row). IsOutcomeOf (begun (view_of job old) lease.thread progress.steps) r (outcome.Undone (record { mark = section; removed = removed; marks = ms }))) (sym row_is)
-            (subst (λ (r : List Numbered). IsToldOf r m section removed ms) run_begun (told job mid kept lease.thread m removed lease.worker ms reach may_undo low out new is pushed struck more section section_is));
+            subst (λ (r : Row). IsOutcomeOf (begun (view_of job old) lease.thread progress.steps) r (outcome.Undone u)) (sym row_is)
+            (subst (λ (r : List Numbered). IsToldOf r m u.mark u.removed (numbers u.marks.items)) run_begun
+            (subst (λ (n : ℕ). IsToldOf run m u.mark n (numbers u.marks.items)) (sym count)
+            (subst (IsToldOf run m u.mark removed) (sym listed)
+            (told job mid kept lease.thread m removed lease.worker qs reach may_undo low out new is pushed struck more u.mark section))));
         done = subst (λ (r : Row). IsDoneBy (view_of job old) (view_of job new) lease progress r) (sym row_is) taken_back;
       }
 
       pub undo_kept : IsRead new.history new.rollback → IsKept job new
-      undo_kept read = kept_after job mid kept lease.thread m removed lease.worker ms reach may_undo low out new is pushed struck more read
+      undo_kept read = kept_after job mid kept lease.thread m removed lease.worker qs reach may_undo low out new is pushed struck more read

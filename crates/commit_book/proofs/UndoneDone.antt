@@ -26,7 +26,6 @@ use Rattle.thread_slots.specs.Slot.{Slot, restored}
 use Rattle.thread_slots.proofs.Counted.{numbers-same}
 use Rattle.rendezvous.specs.Line.{Line}
 use Rattle.ref_log.specs.Log.{Write, writes_of}
-use Rattle.reach_line.specs.MarkList.{MarkList}
 use Rattle.reach_line.specs.Reached as marks
 use Rattle.restore.specs.declared.line.Line as plan
 use Rattle.restore.specs.declared.line.Line.TheVariants.{From, Gone}
@@ -188,8 +187,8 @@ going_unfailed p (Some c) going = by (expr_of p c) going
 
 -- ---- the book
 
-module _ (job : JobParts) (old : Parts) (kept : IsKept job old) (t m removed worker : ℕ) (ms : MarkList) (reach : marks.AreReached old.graph.nodes m ms.nodes) (may : MayUndo job.program kept.shown.run kept.shown.state t m) (low : t < old.slots.next)
-    (out new : Parts) (is : IsTakenOut old out m removed ms.nodes) (pushed : new.history.events ≡ out.history.events ++ undo_of worker t m ∷ []) (struck : new.history.struck ≡ out.history.struck)
+module _ (job : JobParts) (old : Parts) (kept : IsKept job old) (t m removed worker : ℕ) (qs : List ℕ) (reach : marks.AreReached old.graph.nodes m qs) (may : MayUndo job.program kept.shown.run kept.shown.state t m) (low : t < old.slots.next)
+    (out new : Parts) (is : IsTakenOut old out m removed qs) (pushed : new.history.events ≡ out.history.events ++ undo_of worker t m ∷ []) (struck : new.history.struck ≡ out.history.struck)
     (more : new ≡ record out { history = new.history; rollback = new.rollback; tallies = record out.tallies { undos = out.tallies.undos + 1 } }) where
   abbrev p : ProgramParts
   p = job.program
@@ -284,8 +283,8 @@ module _ (job : JobParts) (old : Parts) (kept : IsKept job old) (t m removed wor
     printed = printed_after;
     next = ap (λ (x : Parts). (view_of job x).next) more ∙ next_same;
     thread = low;
-    saved = λ k u. ap (λ (x : Parts). saved_of x.store.controls k u) more ∙ is.saved k u ∙ saved_dropped (view_of job old) run s shown stood m may.revocable ms.nodes reach is.lines is.are k u;
-    nodes = ap (λ (x : Parts). x.graph.nodes) more ∙ is.nodes ∙ nodes_dropped (view_of job old) run s shown stood m may.revocable ms.nodes reach;
+    saved = λ k u. ap (λ (x : Parts). saved_of x.store.controls k u) more ∙ is.saved k u ∙ saved_dropped (view_of job old) run s shown stood m may.revocable qs reach is.lines is.are k u;
+    nodes = ap (λ (x : Parts). x.graph.nodes) more ∙ is.nodes ∙ nodes_dropped (view_of job old) run s shown stood m may.revocable qs reach;
   }
     where
       next_same : (view_of job out).next ≡ (view_of job old).next
@@ -304,10 +303,10 @@ module _ (job : JobParts) (old : Parts) (kept : IsKept job old) (t m removed wor
 
   -- the state in which what stays ends
   abbrev at : PlainState
-  at = (undone (view_of job old) (view_of job new) run s worker t m shown may is_undo_of ms.nodes reach is.lines is.are carried).at
+  at = (undone (view_of job old) (view_of job new) run s worker t m shown may is_undo_of qs reach is.lines is.are carried).at
 
   shows_after : ShowsRun (view_of job new) (without_reached m kept.shown.run) at
-  shows_after = undo_shows (view_of job old) (view_of job new) run s worker t m shown may is_undo_of ms.nodes reach is.lines is.are carried
+  shows_after = undo_shows (view_of job old) (view_of job new) run s worker t m shown may is_undo_of qs reach is.lines is.are carried
 
   pub survivors_after : survivors new.history ≡ without_reached m kept.shown.run
   survivors_after = shows_after.journal.history.left
@@ -376,20 +375,20 @@ module _ (job : JobParts) (old : Parts) (kept : IsKept job old) (t m removed wor
     | false ↦ λ is h. let k = node_at q ns h in (record { before = n ∷ k.0.before; n = k.0.n; after = k.0.after; is = ap (λ l. n ∷ l) k.0.is; number = k.0.number }, k.1, k.2)
   ] refl h
 
-  nodes_told : (q : ℕ) → marks.has q ms.nodes ≡ has (reached_nodes kept.shown.run m) q
-  nodes_told q = elim (has (reached_nodes run m) q) as (λ b. has (reached_nodes run m) q ≡ b → marks.has q ms.nodes ≡ b) [
+  nodes_told : (q : ℕ) → marks.has q qs ≡ has (reached_nodes kept.shown.run m) q
+  nodes_told q = elim (has (reached_nodes run m) q) as (λ b. has (reached_nodes run m) q ≡ b → marks.has q qs ≡ b) [
     | true ↦ λ told.
         let k = node_at q run told in
-        ap (λ j. marks.has j ms.nodes) (sym k.0.number) ∙ marks_are run old.graph.nodes stood.rises shown.journal.nodes m (uncut_of run m may.revocable) ms.nodes reach k.0.before k.0.n k.0.after k.0.is k.2 ∙ k.1
-    | false ↦ λ off. elim (marks.has q ms.nodes) as (λ b. marks.has q ms.nodes ≡ b → b ≡ false) [
+        ap (λ j. marks.has j qs) (sym k.0.number) ∙ marks_are run old.graph.nodes stood.rises shown.journal.nodes m (uncut_of run m may.revocable) qs reach k.0.before k.0.n k.0.after k.0.is k.2 ∙ k.1
+    | false ↦ λ off. elim (marks.has q qs) as (λ b. marks.has q qs ≡ b → b ≡ false) [
       | true ↦ λ marked.
-          let k = marked_at run old.graph.nodes stood.rises shown.journal.nodes m (uncut_of run m may.revocable) ms.nodes reach q marked in
+          let k = marked_at run old.graph.nodes stood.rises shown.journal.nodes m (uncut_of run m may.revocable) qs reach q marked in
           absurd (false≢true (sym off ∙ ap (has (reached_nodes run m)) (sym k.number) ∙ ap (λ l. has (each (λ (j : Numbered). j.seq.0) (filter (λ (j : Numbered). gone j.seq.0 && is_node j.label) l)) k.f.seq.0) k.is ∙ in_nodes q k.before k.f k.after k.lost k.node))
       | false ↦ λ no. refl
     ] refl
   ] refl
 
-  pub told : (mark : Seq) → mark.0 ≡ m → IsToldOf kept.shown.run m mark removed ms
+  pub told : (mark : Seq) → mark.0 ≡ m → IsToldOf kept.shown.run m mark removed qs
   told mark section = record {
     section = section;
     count = is.count ∙ as_many run m is.gone stood.rises is.once same;

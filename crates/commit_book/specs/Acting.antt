@@ -23,6 +23,7 @@ use Rattle.step_eval.specs.ControlView.{ControlView, Fits, expr_of}
 use Rattle.step_eval.specs.Operands.{HasOperands}
 use Rattle.step_eval.specs.Progress.{Advances, ProgressView}
 use Rattle.stab_base.specs.declared.numbers.Seq.{Seq}
+use Rattle.reach_line.specs.MarkList.{numbers}
 use Rattle.commit_book.specs.declared.done.Done.{Done}
 use Rattle.commit_book.specs.declared.done.Done.TheVariants.{Taken, Parked, Undone, Stale}
 use Rattle.commit_book.specs.declared.done.Outcome.{Outcome}
@@ -119,7 +120,7 @@ IsDone job old new lease progress row = IsMoved (view_of job old) (view_of job n
 
 -- what became of the thread, by the row, where the run is that after the pure steps
 abbrev pub IsOutcomeOf : List Numbered → Row → Outcome → Type 0
-IsOutcomeOf run (undoes m) (outcome.Undone u) = IsToldOf run m u.mark u.removed u.marks
+IsOutcomeOf run (undoes m) (outcome.Undone u) = IsToldOf run m u.mark u.removed (numbers u.marks.items)
 IsOutcomeOf run (undoes m) o = ⊥
 IsOutcomeOf run (waits offer) o = o ≡ outcome.Parked
 IsOutcomeOf run stays o = o ≡ outcome.Parked

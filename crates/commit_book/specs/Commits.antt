@@ -9,6 +9,7 @@ use Rattle.stab_journal.specs.Event.{weight_of}
 use Rattle.thread_slots.specs.declared.state.State.TheVariants.{Ended}
 use Rattle.thread_slots.specs.Slot.{Slot, is_in}
 use Rattle.rendezvous.specs.Line.{Line, joined, left}
+use Rattle.reach_line.specs.MarkList.{numbers}
 use Rattle.plain_language.specs.Plain.{look_in}
 use Rattle.step_eval.specs.ControlView.{ControlView, expr_of}
 use Rattle.step_eval.specs.Progress.{ProgressView}
@@ -80,7 +81,7 @@ IsLeftBy old new lease progress row = IsMoved old (record new { answered = old.a
 
 -- what is answered to a row: to an undo its section, how many steps it struck, and which of them are nodes
 abbrev pub IsAnsweredBy : BookView → LeaseView → ProgressView → Row → Done → Type 0
-IsAnsweredBy old lease progress (undoes m) (Undone first count mark removed marks) = (first.0 ≡ next_seq old) × (count ≡ pushed lease progress (undoes m) + 1) × IsToldOf (begun old lease.thread progress.steps) m mark removed marks
+IsAnsweredBy old lease progress (undoes m) (Undone first count mark removed marks) = (first.0 ≡ next_seq old) × (count ≡ pushed lease progress (undoes m) + 1) × IsToldOf (begun old lease.thread progress.steps) m mark removed (numbers marks.items)
 IsAnsweredBy old lease progress (undoes m) done = ⊥
 IsAnsweredBy old lease progress row done = done ≡ answer_of (next_seq old) (pushed lease progress row) row
 

@@ -1,8 +1,9 @@
 -- The writes that are kept, and what references hold.
-use Rattle.std.specs.Prelude.{◌≡◌, ℕ, List, [], Some, option_map, unwrap_or}
+use Rattle.std.specs.Prelude.{◌≡◌, ℕ, List, [], Option, Some, option_map, unwrap_or}
 use Rattle.std.specs.Ordering.{nat_cmp}
 use Rattle.std.specs.FinMap as map
 use Rattle.std.specs.FinMap.{FinMap}
+use Rattle.stab_base.specs.Datum.{Datum}
 use Rattle.stab_journal.specs.declared.event.Numbered.{Numbered}
 use Rattle.stab_journal.specs.Floor.{floor}
 use Rattle.ref_log.specs.Log.{Write, kept, last_of}
@@ -18,6 +19,10 @@ pub record AreWrites {E : Type 0} (effect : Table E) (last_cut : ℕ) (reference
   pub cut : last_cut ≡ floor run
   pub writes : (r : ℕ) → writes_at references r ≡ kept (floor run) (writes_in effect r (Some start) run)
 
+-- what the reference r holds, if it is there: the value of its last write
+abbrev pub value_at : FinMap nat_cmp (List Write) → ℕ → Option Datum
+value_at references r = option_map (λ (w : Write). w.value) (last_of (writes_at references r))
+
 -- the references are those of the state, and each one's last write left what it holds
 abbrev pub HoldValues : {E : Type 0} → FinMap nat_cmp (List Write) → State E → Type 0
-HoldValues references s = (r : ℕ) → option_map (λ (w : Write). w.value) (last_of (writes_at references r)) ≡ map.get s.references r
+HoldValues references s = (r : ℕ) → value_at references r ≡ map.get s.references r

@@ -10,7 +10,6 @@ use Rattle.stab_journal.specs.Names.{has}
 use Rattle.stab_journal.specs.Reached.{reached, without_reached}
 use Rattle.thread_slots.specs.Ready.{numbers}
 use Rattle.reach_line.specs.Reached as marks
-use Rattle.reach_line.specs.MarkList.{MarkList}
 use Rattle.restore.specs.Left.{others, without_all}
 use Rattle.plain_language.specs.Standing.{event}
 use Rattle.journal_laws.specs.Lines.{is_node}
@@ -51,12 +50,12 @@ pub record IsTakenBack (old new : BookView) (worker t n m : ℕ) (run : List Num
   pub answered : new.answered ≡ old.answered
 
 -- the marks are the reached nodes, each once
-pub record AreMarksOf (run : List Numbered) (m : ℕ) (ms : MarkList) : Type 0 where
-  pub nodes : (q : ℕ) → marks.has q ms.nodes ≡ has (reached_nodes run m) q
-  pub once : marks.IsOnce ms.nodes
+pub record AreMarksOf (run : List Numbered) (m : ℕ) (qs : List ℕ) : Type 0 where
+  pub nodes : (q : ℕ) → marks.has q qs ≡ has (reached_nodes run m) q
+  pub once : marks.IsOnce qs
 
 -- what is answered: how many steps were struck, and which of them are nodes
-pub record IsToldOf (run : List Numbered) (m : ℕ) (mark : Seq) (removed : ℕ) (ms : MarkList) : Type 0 where
+pub record IsToldOf (run : List Numbered) (m : ℕ) (mark : Seq) (removed : ℕ) (qs : List ℕ) : Type 0 where
   pub section : mark.0 ≡ m
   pub count : removed ≡ length (reached run m)
-  pub marks : AreMarksOf run m ms
+  pub marks : AreMarksOf run m qs

@@ -1,10 +1,11 @@
 //! The book itself.
-ghost use Rattle.std.specs.Prelude.{◌≡◌, ◌+◌, ◌≤◌, length, IfOk, OnErr};
+ghost use Rattle.std.specs.Prelude.{◌≡◌, ◌+◌, ◌≤◌, length, option_copied, IfOk, OnErr};
 ghost use Rattle.stab_journal.specs.Due.{due, released};
 ghost use Rattle.stab_journal.specs.Event.{IsWorker};
 ghost use Rattle.commit_book.specs.Book.{IsShown, IsAtStart, fault_at};
 ghost use Rattle.commit_book.specs.Counts.{AreCounts};
 ghost use Rattle.commit_book.specs.Layout.{without_spare};
+ghost use Rattle.commit_book.specs.References.{value_at};
 ghost use Rattle.commit_book.specs.Turns.{choice_of, IsTurn, IsWork, Lends, RestsIfQuiet, given_back, IsRecalled};
 ghost use Rattle.commit_book.specs.declared.turn.Choice.TheVariants as choice;
 
@@ -12,7 +13,7 @@ use crate::counts::Counts;
 use crate::lease::Lease;
 use crate::parts::Parts;
 use crate::turn::{Choice, Turn};
-use stab_base::{Fault, NoMemory, ThreadId, Value};
+use stab_base::{Fault, NoMemory, RefId, ThreadId, Value};
 use stab_code::Job;
 use stab_journal::History;
 use std::alloc::Global;
@@ -80,6 +81,15 @@ impl Book {
         ensures shown { IsShown self.now }
     {
         &self.parts.printed
+    }
+
+    /// What a reference holds, if it is there.
+    pub fn reference(&self, r: RefId) -> Option<&Value>
+        ensures reference { option_copied result ≡ value_at self.now.references r.0 }
+        ensures shown { IsShown self.now }
+    {
+        let (v, _number) = self.parts.log.read(r)?;
+        Some(v)
     }
 
     /// The greatest number that a thread ever had.

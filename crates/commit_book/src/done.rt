@@ -1,7 +1,6 @@
 //! What a commit answers.
 
 use crate::lease::Lease;
-use reach_line::Marks;
 use stab_base::{Generation, Seq};
 use step_eval::Progress;
 
@@ -20,13 +19,13 @@ pub enum Done {
         count: u32,
     },
     /// A section was taken back, with all that depends on it: the number of its entry, how many steps that were, and
-    /// which of them are nodes of the graph.
+    /// which of them are nodes of the graph, each once.
     Undone {
         first: Seq,
         count: u32,
         mark: Seq,
         removed: u64,
-        marks: Marks,
+        marks: Vec<Seq>,
     },
     /// The thread isn't as it was lent: its generation is another one, it is gone, or it stands elsewhere.
     Stale {
@@ -58,5 +57,5 @@ pub(crate) enum Outcome {
 pub(crate) struct Undone {
     pub(crate) mark: Seq,
     pub(crate) removed: u64,
-    pub(crate) marks: Marks,
+    pub(crate) marks: Vec<Seq>,
 }

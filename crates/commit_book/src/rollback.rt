@@ -8,7 +8,7 @@ ghost use Rattle.std.specs.List.{sum_by};
 ghost use Rattle.std.specs.Vec.{vec_capacity};
 ghost use Rattle.linked_lists.specs.Lists.{is_listed};
 ghost use Rattle.own_steps.specs.Own.{steps_of};
-ghost use Rattle.reach_line.specs.MarkList.{numbers};
+ghost use Rattle.reach_line.specs.MarkList.{HasSpare, numbers};
 ghost use Rattle.stab_journal.specs.Due.{is_print};
 ghost use Rattle.stab_journal.specs.Journal.{AreSurvivors, IsLive, label_at, survivors};
 ghost use Rattle.stab_journal.specs.Label.{actors};
@@ -16,7 +16,9 @@ ghost use Rattle.stab_journal.specs.Names.{has};
 ghost use Rattle.commit_book.specs.Numbers.{greatest, threads_by};
 ghost use Rattle.commit_book.specs.OwnSteps.{IsRead, IsGathered, IsGatheredFrom, IsLeft, IsTaken, IsUnread, HasRoomToRead, Rises, SaysTheSame, line_number};
 
+use comm_graph::Graph;
 use own_steps::OwnSteps;
+use reach_line::Marks;
 use restore::{Line, Plan};
 use stab_base::{NoMemory, Seq, ThreadId};
 use stab_journal::{History, Label, What};
@@ -32,6 +34,8 @@ pub(crate) struct Rollback {
     own: OwnSteps,
     /// The numbers of the prints.
     pub(crate) prints: Vec<Seq>,
+    /// The nodes that are reached from the section that was taken back last, and room for those of the next one.
+    pub(crate) marks: Marks,
     pub(crate) plan: Plan,
     /// The steps that are about to be struck.
     pub(crate) lost: Vec<Seq>,
@@ -47,23 +51,31 @@ impl Rollback {
             read: 0,
             own: OwnSteps::new(alloc),
             prints: Vec::new(alloc),
+            marks: Marks::new(alloc),
             plan: Plan::new(alloc),
             lost: Vec::new(alloc),
         }
     }
 
-    /// Makes room to read all events of a journal and one more, and to take all of them back. No thread has a greater
-    /// number than `last`.
-    pub(crate) fn reserve(&mut self, history: &History, last: ThreadId) -> Result<(), NoMemory>
+    /// Makes room to read all events of a journal and one more, to mark all nodes of a graph, and to take all steps back.
+    /// No thread has a greater number than `last`.
+    pub(crate) fn reserve(
+        &mut self,
+        history: &History,
+        graph: &Graph,
+        last: ThreadId,
+    ) -> Result<(), NoMemory>
         requires read { IsRead history.now self.old }
         requires few { length history.now.events ≤ 4294967294 }
         ensures room { OnOk result (HasRoomToRead self.new (length history.now.events + 1) last.0) }
+        ensures marks { OnOk result (HasSpare self.new.marks graph.now.nodes) }
         ensures same { SaysTheSame self.old self.new }
     {
         let more = (history.len() - self.read + 1) as usize;
         self.own.reserve(2 * more, last)?;
         self.prints.reserve(more)?;
         self.lost.reserve(self.own.len() + 2 * more)?;
+        self.marks.reserve(graph)?;
         self.plan.reserve(last.0)
     }
 
@@ -78,6 +90,7 @@ impl Rollback {
             → HasRoomToRead self.new (length history.now.events) last }
         ensures rising { (t : ℕ) → Rises (steps_of self.new.own t) }
         ensures plan { self.new.plan ≡ self.old.plan }
+        ensures marks { self.new.marks ≡ self.old.marks }
     {
         while self.read < history.len() {
             self.read_next(history, Seq(self.read + 1));
@@ -97,6 +110,7 @@ impl Rollback {
         ensures room { (last : ℕ) → HasRoomToRead self.old (length history.now.events) last
             → HasRoomToRead self.new (length history.now.events) last }
         ensures plan { self.new.plan ≡ self.old.plan }
+        ensures marks { self.new.marks ≡ self.old.marks }
     {
         match live_step(history, q) {
             Some(label) => self.read_step(q, label),

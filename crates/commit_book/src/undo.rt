@@ -113,12 +113,12 @@ impl Parts {
         let Ok(marks) = self.plan_undo(mark) else {
             return Err(progress);
         };
-        if self.holds_pin(&marks) {
+        if self.holds_pin() {
             return self.refuse(job, lease, progress);
         }
         let end = self.begin(lease, progress);
         self.go_on(lease.thread(), end);
-        let removed = self.undo(&marks, mark);
+        let removed = self.undo(mark);
         self.push_undo(lease, mark);
         Ok(Outcome::Undone(Undone {
             mark,
@@ -127,8 +127,8 @@ impl Parts {
         }))
     }
 
-    /// Room for all that an undo needs, and what is reached from the section.
-    fn plan_undo(&mut self, mark: Seq) -> Result<Marks, NoMemory>
+    /// Room for all that an undo needs. What is reached from the section is marked, and listed for the answer.
+    fn plan_undo(&mut self, mark: Seq) -> Result<Vec<Seq>, NoMemory>
         requires few { length self.old.history.events + 2 ≤ 4294967294 }
         requires next { 1 ≤ self.old.slots.next }
         requires there { IsSome (kind_of self.old.graph.nodes mark.0) }
@@ -137,37 +137,42 @@ impl Parts {
         ensures spare { OnOk result (2 ≤ self.new.history.spare) }
         ensures room { OnOk result
             (HasRoomToRead self.new.rollback (length self.new.history.events + 1) (self.new.slots.next - 1)) }
-        ensures reached { IfOk result (λ marks. AreReached self.new.graph.nodes mark.0 marks.nodes) }
+        ensures reached { OnOk result (AreReached self.new.graph.nodes mark.0 self.new.rollback.marks.nodes) }
+        ensures listed { IfOk result (λ marks. numbers marks.items ≡ self.new.rollback.marks.nodes) }
     {
         self.history.reserve(2)?;
         let last = ThreadId(self.slots.next_thread().0 - 1);
-        self.rollback.reserve(&self.history, last)?;
-        let mut marks = Marks::new(self.alloc());
-        marks.reserve(&self.graph)?;
-        reach_in::<Brand>(&self.graph, mark, &mut marks, Blank::new(1));
+        self.rollback.reserve(&self.history, &self.graph, last)?;
+        reach_in::<Brand>(&self.graph, mark, &mut self.rollback.marks, Blank::new(1));
+        let marks = self.rollback.marks.nodes().to_vec(self.alloc())?;
         Ok(marks)
     }
 
     /// Whether a pin is marked.
-    fn holds_pin(&self, marks: &Marks) -> bool
-        requires there { AreThere self.now.graph.nodes marks.now.nodes }
-        ensures some { result ≡ true → (q : ℕ) × IsMarkedAs self.now.graph.nodes marks.now.nodes is_pinned q }
-        ensures none { result ≡ false → (q : ℕ) → IsMarkedAs self.now.graph.nodes marks.now.nodes is_pinned q → ⊥ }
+    fn holds_pin(&self) -> bool
+        requires there { AreThere self.now.graph.nodes self.now.rollback.marks.nodes }
+        ensures some { result ≡ true → (q : ℕ) × IsMarkedAs self.now.graph.nodes self.now.rollback.marks.nodes is_pinned q }
+        ensures none { result ≡ false → (q : ℕ) → IsMarkedAs self.now.graph.nodes self.now.rollback.marks.nodes is_pinned q → ⊥ }
     {
-        holds_pin_in::<Brand>(&self.graph, marks, Blank::new(1))
+        holds_pin_in::<Brand>(&self.graph, &self.rollback.marks, Blank::new(1))
     }
 
     /// Takes back what is marked, with the steps of the same threads after it, and tells how many steps that are.
-    fn undo(&mut self, marks: &Marks, mark: Seq) -> u64
-        requires { IsUndoing self.old mark.0 marks.now.nodes }
-        ensures { IsTakenOut self.old self.new mark.0 result marks.now.nodes }
+    fn undo(&mut self, mark: Seq) -> u64
+        requires { IsUndoing self.old mark.0 self.old.rollback.marks.nodes }
+        ensures { IsTakenOut self.old self.new mark.0 result self.old.rollback.marks.nodes }
     {
         self.rollback.read_all(&self.history);
-        lines_in::<Brand>(&self.graph, marks, &mut self.rollback.plan, Blank::new(1));
+        lines_in::<Brand>(
+            &self.graph,
+            &self.rollback.marks,
+            &mut self.rollback.plan,
+            Blank::new(1),
+        );
         self.tallies.faulted -= failed_among(&self.rollback.plan, &self.slots);
         apply(
             &self.rollback.plan,
-            marks,
+            &self.rollback.marks,
             &mut self.slots,
             &mut self.offers,
             &mut self.store,

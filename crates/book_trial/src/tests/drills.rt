@@ -263,13 +263,7 @@ fn an_undo_tells_which_nodes_it_took_away(rt: HostRuntime) -> Result<(), Fail> {
                 marks,
             } = answer(&mut book, lease, progress)?
             {
-                told = Some((
-                    first.0,
-                    count,
-                    mark.0,
-                    removed,
-                    sorted(rt.alloc(), marks.nodes())?,
-                ));
+                told = Some((first.0, count, mark.0, removed, sorted(rt.alloc(), &marks)?));
             }
         }
     }

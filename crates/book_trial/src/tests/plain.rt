@@ -2,7 +2,7 @@
 
 use commit_book::Book;
 use plain_language::{Look, PlainState};
-use stab_base::{Fault, Seq, ThreadId};
+use stab_base::{Fault, RefId, Seq, ThreadId, Value};
 use std::alloc::Global;
 
 // The state to which the steps lead that weren't taken back, if each of them is a step.
@@ -14,9 +14,12 @@ pub(super) fn surviving(alloc: Global, book: &Book) -> Option<PlainState> {
     Some(state)
 }
 
-// Whether a book tells of its output and threads what the state says.
+// Whether a book tells of its output, threads and references what the state says.
 pub(super) fn agrees(state: &PlainState, book: &Book) -> bool {
-    has_printed(state, book) && has_counts(state, book) && has_faults(state, book)
+    has_printed(state, book)
+        && has_counts(state, book)
+        && has_faults(state, book)
+        && has_values(state, book)
 }
 
 fn has_printed(state: &PlainState, book: &Book) -> bool {
@@ -60,6 +63,27 @@ fn has_faults(state: &PlainState, book: &Book) -> bool {
 fn fault_of(state: &PlainState, t: ThreadId) -> Option<Fault> {
     match state.look(t) {
         Some(Look::Failed(fault)) => Some(fault),
+        _ => None,
+    }
+}
+
+// The references, of which there are no more than events, and what each of them holds.
+fn has_values(state: &PlainState, book: &Book) -> bool {
+    let last = book.history().len().min(1_000_000) as u32;
+    (0..=last).all(|r| holds_same(state, book, r)) && state.reference_after(last).is_none()
+}
+
+fn holds_same(state: &PlainState, book: &Book, r: u32) -> bool {
+    match (book.reference(RefId(r)), held(state, r)) {
+        (Some(v), Some(w)) => v.same(w),
+        (None, None) => true,
+        _ => false,
+    }
+}
+
+fn held(state: &PlainState, r: u32) -> Option<&Value> {
+    match state.reference_after(r.checked_sub(1)?) {
+        Some((next, v)) if next.0 == r => Some(v),
         _ => None,
     }
 }

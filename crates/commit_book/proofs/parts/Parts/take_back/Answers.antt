@@ -23,7 +23,7 @@ returns-in_default-clause-kept c =
     kept_same c.args.job.now c.args.self.now c.plan_undo.new.self c.plan_undo.ensures.before c.requires.may.kept
 
 pub holds_pin-requires : goal.holds_pin-requires
-holds_pin-requires c = record { there = marked_there c.args.job.now c.args.self.now c.args.lease.now c.args.progress c.requires.may c.plan_undo.new.self c.plan_undo.ensures.before c.args.mark.0 c.requires.mark c.requires.above c.in-Ok.marks.nodes c.in-Ok.ensures.reached }
+holds_pin-requires c = record { there = marked_there c.args.job.now c.args.self.now c.args.lease.now c.args.progress c.requires.may c.plan_undo.new.self c.plan_undo.ensures.before c.args.mark.0 c.requires.mark c.requires.above c.plan_undo.new.self.rollback.marks.nodes c.in-Ok.ensures.reached }
 
 pub refuse-requires-clause-may : goal.refuse-requires-clause-may
 refuse-requires-clause-may c = may_again c.args.job.now c.args.self.now c.args.lease.now c.args.progress c.requires.may c.plan_undo.new.self c.plan_undo.ensures.before
@@ -31,7 +31,7 @@ refuse-requires-clause-may c = may_again c.args.job.now c.args.self.now c.args.l
 pub refuse-requires-clause-held : goal.refuse-requires-clause-held
 refuse-requires-clause-held c =
     let pin = c.holds_pin.ensures.some c.if-holds_pin.true in
-    pinned_held c.args.job.now c.args.self.now c.args.lease.now c.args.progress c.requires.may c.plan_undo.new.self c.plan_undo.ensures.before c.args.mark.0 c.requires.mark c.requires.above c.in-Ok.marks.nodes c.in-Ok.ensures.reached pin.0 pin.1
+    pinned_held c.args.job.now c.args.self.now c.args.lease.now c.args.progress c.requires.may c.plan_undo.new.self c.plan_undo.ensures.before c.args.mark.0 c.requires.mark c.requires.above c.plan_undo.new.self.rollback.marks.nodes c.in-Ok.ensures.reached pin.0 pin.1
 
 pub returns-then-holds_pin-clause-done : goal.returns-then-holds_pin-clause-done
 returns-then-holds_pin-clause-done c = done_again c.args.job.now c.args.self.now c.args.lease.now c.args.progress c.requires.may c.plan_undo.new.self c.plan_undo.ensures.before c.refuse.new.self c.refuse.result c.refuse.ensures.done
@@ -51,44 +51,45 @@ go_on-requires-clause-few c = needs_few c.args.job.now c.args.self.now c.args.le
 pub undo-removed-requires : goal.undo-removed-requires
 undo-removed-requires c =
     undoing c.args.job.now c.args.self.now c.args.lease.now c.args.progress c.requires.may c.requires.at c.args.mark.0 c.requires.mark c.requires.above c.plan_undo.new.self c.plan_undo.ensures.before c.begin-end.new.self c.go_on.new.self c.begin-end.ensures.history c.begin-end.ensures.rest c.thread.result c.thread.ensures c.go_on.result c.begin-end.result c.begin-end.ensures.end c.go_on.ensures.before c.go_on.ensures.gone
-    c.in-Ok.marks c.in-Ok.ensures.reached (c.holds_pin.ensures.none c.if-holds_pin.false) c.in-Ok.ensures.room
+    c.in-Ok.ensures.reached (c.holds_pin.ensures.none c.if-holds_pin.false) c.in-Ok.ensures.room
 
 pub push_undo-requires-clause-spare : goal.push_undo-requires-clause-spare
 push_undo-requires-clause-spare c =
     spare_left c.args.job.now c.args.self.now c.args.lease.now c.args.progress c.requires.may c.requires.at c.args.mark.0 c.requires.mark c.requires.above c.plan_undo.new.self c.plan_undo.ensures.before c.begin-end.new.self c.go_on.new.self c.begin-end.ensures.history c.begin-end.ensures.rest c.thread.result c.thread.ensures c.go_on.result c.begin-end.result c.begin-end.ensures.end c.go_on.ensures.before c.go_on.ensures.gone
-    c.in-Ok.marks c.in-Ok.ensures.reached (c.holds_pin.ensures.none c.if-holds_pin.false) c.undo-removed.result c.undo-removed.new.self c.undo-removed.ensures c.begin-end.ensures.more
+    c.in-Ok.ensures.reached (c.holds_pin.ensures.none c.if-holds_pin.false) c.undo-removed.result c.undo-removed.new.self c.undo-removed.ensures c.begin-end.ensures.more
 
 pub push_undo-requires-clause-weight : goal.push_undo-requires-clause-weight
 push_undo-requires-clause-weight c =
     weight_left c.args.job.now c.args.self.now c.args.lease.now c.args.progress c.requires.may c.requires.at c.args.mark.0 c.requires.mark c.requires.above c.plan_undo.new.self c.plan_undo.ensures.before c.begin-end.new.self c.go_on.new.self c.begin-end.ensures.history c.begin-end.ensures.rest c.thread.result c.thread.ensures c.go_on.result c.begin-end.result c.begin-end.ensures.end c.go_on.ensures.before c.go_on.ensures.gone
-    c.in-Ok.marks c.in-Ok.ensures.reached (c.holds_pin.ensures.none c.if-holds_pin.false) c.undo-removed.result c.undo-removed.new.self c.undo-removed.ensures c.begin-end.ensures.more
+    c.in-Ok.ensures.reached (c.holds_pin.ensures.none c.if-holds_pin.false) c.undo-removed.result c.undo-removed.new.self c.undo-removed.ensures c.begin-end.ensures.more
 
 pub push_undo-requires-clause-thread : goal.push_undo-requires-clause-thread
 push_undo-requires-clause-thread c =
     thread_named c.args.job.now c.args.self.now c.args.lease.now c.args.progress c.requires.may c.requires.at c.args.mark.0 c.requires.mark c.requires.above c.plan_undo.new.self c.plan_undo.ensures.before c.begin-end.new.self c.go_on.new.self c.begin-end.ensures.history c.begin-end.ensures.rest c.thread.result c.thread.ensures c.go_on.result c.begin-end.result c.begin-end.ensures.end c.go_on.ensures.before c.go_on.ensures.gone
-    c.in-Ok.marks c.in-Ok.ensures.reached (c.holds_pin.ensures.none c.if-holds_pin.false) c.undo-removed.result c.undo-removed.new.self c.undo-removed.ensures
+    c.in-Ok.ensures.reached (c.holds_pin.ensures.none c.if-holds_pin.false) c.undo-removed.result c.undo-removed.new.self c.undo-removed.ensures
 
 pub push_undo-requires-clause-mark : goal.push_undo-requires-clause-mark
 push_undo-requires-clause-mark c =
     mark_within c.args.job.now c.args.self.now c.args.lease.now c.args.progress c.requires.may c.requires.at c.args.mark.0 c.requires.mark c.requires.above c.plan_undo.new.self c.plan_undo.ensures.before c.begin-end.new.self c.go_on.new.self c.begin-end.ensures.history c.begin-end.ensures.rest c.thread.result c.thread.ensures c.go_on.result c.begin-end.result c.begin-end.ensures.end c.go_on.ensures.before c.go_on.ensures.gone
-    c.in-Ok.marks c.in-Ok.ensures.reached (c.holds_pin.ensures.none c.if-holds_pin.false) c.undo-removed.result c.undo-removed.new.self c.undo-removed.ensures
+    c.in-Ok.ensures.reached (c.holds_pin.ensures.none c.if-holds_pin.false) c.undo-removed.result c.undo-removed.new.self c.undo-removed.ensures
 
 pub push_undo-requires-clause-read : goal.push_undo-requires-clause-read
 push_undo-requires-clause-read c =
     read_low c.args.job.now c.args.self.now c.args.lease.now c.args.progress c.requires.may c.requires.at c.args.mark.0 c.requires.mark c.requires.above c.plan_undo.new.self c.plan_undo.ensures.before c.begin-end.new.self c.go_on.new.self c.begin-end.ensures.history c.begin-end.ensures.rest c.thread.result c.thread.ensures c.go_on.result c.begin-end.result c.begin-end.ensures.end c.go_on.ensures.before c.go_on.ensures.gone
-    c.in-Ok.marks c.in-Ok.ensures.reached (c.holds_pin.ensures.none c.if-holds_pin.false) c.undo-removed.result c.undo-removed.new.self c.undo-removed.ensures
+    c.in-Ok.ensures.reached (c.holds_pin.ensures.none c.if-holds_pin.false) c.undo-removed.result c.undo-removed.new.self c.undo-removed.ensures
 
 pub push_undo-requires-clause-undos : goal.push_undo-requires-clause-undos
 push_undo-requires-clause-undos c =
     undos_low c.args.job.now c.args.self.now c.args.lease.now c.args.progress c.requires.may c.requires.at c.args.mark.0 c.requires.mark c.requires.above c.plan_undo.new.self c.plan_undo.ensures.before c.begin-end.new.self c.go_on.new.self c.begin-end.ensures.history c.begin-end.ensures.rest c.thread.result c.thread.ensures c.go_on.result c.begin-end.result c.begin-end.ensures.end c.go_on.ensures.before c.go_on.ensures.gone
-    c.in-Ok.marks c.in-Ok.ensures.reached (c.holds_pin.ensures.none c.if-holds_pin.false) c.undo-removed.result c.undo-removed.new.self c.undo-removed.ensures
+    c.in-Ok.ensures.reached (c.holds_pin.ensures.none c.if-holds_pin.false) c.undo-removed.result c.undo-removed.new.self c.undo-removed.ensures
 
 pub returns-clause-done : goal.returns-clause-done
 returns-clause-done c =
     taken c.args.job.now c.args.self.now c.args.lease.now c.args.progress c.requires.may c.requires.at c.args.mark.0 c.requires.mark c.requires.above c.plan_undo.new.self c.plan_undo.ensures.before c.begin-end.new.self c.go_on.new.self c.begin-end.ensures.history c.begin-end.ensures.rest c.thread.result c.thread.ensures c.go_on.result c.begin-end.result c.begin-end.ensures.end c.go_on.ensures.before c.go_on.ensures.gone
-    c.in-Ok.marks c.in-Ok.ensures.reached (c.holds_pin.ensures.none c.if-holds_pin.false) c.undo-removed.result c.undo-removed.new.self c.undo-removed.ensures c.push_undo.new.self c.push_undo.ensures.history c.push_undo.ensures.rest c.args.mark refl
+    c.in-Ok.ensures.reached (c.holds_pin.ensures.none c.if-holds_pin.false) c.undo-removed.result c.undo-removed.new.self c.undo-removed.ensures c.push_undo.new.self c.push_undo.ensures.history c.push_undo.ensures.rest
+    (record { mark = c.args.mark; removed = c.undo-removed.result; marks = c.in-Ok.marks }) refl refl c.in-Ok.ensures.listed
 
 pub returns-clause-kept : goal.returns-clause-kept
 returns-clause-kept c =
     taken_kept c.args.job.now c.args.self.now c.args.lease.now c.args.progress c.requires.may c.requires.at c.args.mark.0 c.requires.mark c.requires.above c.plan_undo.new.self c.plan_undo.ensures.before c.begin-end.new.self c.go_on.new.self c.begin-end.ensures.history c.begin-end.ensures.rest c.thread.result c.thread.ensures c.go_on.result c.begin-end.result c.begin-end.ensures.end c.go_on.ensures.before c.go_on.ensures.gone
-    c.in-Ok.marks c.in-Ok.ensures.reached (c.holds_pin.ensures.none c.if-holds_pin.false) c.undo-removed.result c.undo-removed.new.self c.undo-removed.ensures c.push_undo.new.self c.push_undo.ensures.history c.push_undo.ensures.rest
+    c.in-Ok.ensures.reached (c.holds_pin.ensures.none c.if-holds_pin.false) c.undo-removed.result c.undo-removed.new.self c.undo-removed.ensures c.push_undo.new.self c.push_undo.ensures.history c.push_undo.ensures.rest

@@ -8,6 +8,7 @@ invariant-loop-self l = record {
   read : IsRead l.history l.self;
   room : (last : ℕ) → HasRoomToRead l.initial.self (length l.history.events) last → HasRoomToRead l.self (length l.history.events) last;
   plan : l.self.plan ≡ l.initial.self.plan;
+  marks : l.self.marks ≡ l.initial.self.marks;
 }
 
 abbrev pub decreases-loop-self : goal.decreases-loop-self
