@@ -112,6 +112,7 @@ pub mod Granting
 pub mod StrikeCalls
 pub mod Uncounted
 pub mod PrintKeeping
+pub mod LostPrints
 pub mod UndoCalls
 pub mod TakeBack
 pub mod Releasing

@@ -169,7 +169,7 @@ numbers-append : (xs ys : List Seq) → numbers (xs ++ ys) ≡ numbers xs ++ num
 numbers-append [] ys = refl
 numbers-append (x ∷ xs) ys = ap (λ l. x.0 ∷ l) (numbers-append xs ys)
 
-has_end : (xs : List ℕ) (q k : ℕ) → has (xs ++ q ∷ []) k ≡ (has xs k || nat_eq k q)
+pub has_end : (xs : List ℕ) (q k : ℕ) → has (xs ++ q ∷ []) k ≡ (has xs k || nat_eq k q)
 has_end [] q k = cond_or (nat_eq k q)
 has_end (x ∷ xs) q k = elim (nat_eq k x) as (λ b. cond b true (has (xs ++ q ∷ []) k) ≡ (cond b true (has xs k) || nat_eq k q)) [ true ↦ refl | false ↦ has_end xs q k ]
 

@@ -6,16 +6,17 @@ use Rattle.std.specs.List.Sorted.{IsNonDecreasing}
 use Rattle.std.specs.FinMap as map
 use Rattle.std.specs.FinSet as set
 use Rattle.std.specs.Cmp.{nat_eq_equiv}
+use Rattle.std.specs.Option.{option_map_or}
 use Rattle.std.proofs.lemmas.Bool.{false≢true}
+use Rattle.std.proofs.lemmas.Bool.Decides.{nat_tests}
 use Rattle.stab_base.specs.declared.numbers.Seq.{Seq}
 use Rattle.stab_code.specs.Program.{ProgramParts}
 use Rattle.stab_code.specs.Valid.{IsValid}
 use Rattle.stab_journal.specs.declared.event.Event.{Event}
 use Rattle.stab_journal.specs.declared.event.Label.{Label}
-use Rattle.stab_journal.specs.declared.event.Label.TheVariants.{Enter}
 use Rattle.stab_journal.specs.declared.event.Numbered.{Numbered}
 use Rattle.stab_journal.specs.Due.{is_print}
-use Rattle.stab_journal.specs.Floor.{floor, is_enter}
+use Rattle.stab_journal.specs.Floor.{floor}
 use Rattle.stab_journal.specs.Journal.{IsLive, Journal, label_at, survivors, survivors_from}
 use Rattle.stab_journal.specs.Label.{actors}
 use Rattle.stab_journal.specs.Names.{has}
@@ -29,7 +30,6 @@ use Rattle.restore.specs.Left.{is_from, is_touched, put_back, requeued, unmarked
 use Rattle.plain_language.specs.Plain.{IsRun, start}
 use Rattle.step_eval.specs.ControlView.{Fits}
 use Rattle.journal_laws.proofs.Gone.{survivors-rest}
-use Rattle.journal_laws.proofs.Held.{entry_of, parts_of, reached_above}
 use Rattle.own_steps.specs.Own.{steps_of}
 use Rattle.commit_book.specs.declared.counts.Tallies.{Tallies}
 use Rattle.commit_book.specs.declared.parts.Parts.{Parts}
@@ -38,10 +38,10 @@ use Rattle.commit_book.specs.Counts.{faulted_in, is_faulted_at}
 use Rattle.commit_book.specs.Layout.{view_of}
 use Rattle.commit_book.specs.OwnSteps.{IsGathered, IsRead, Rises, stay_printed, stays, steps_within}
 use Rattle.commit_book.specs.Saved.{saved_of}
-use Rattle.commit_book.specs.Striking.{AllAreStruck, makes_any}
+use Rattle.commit_book.specs.Striking.{AllAreStruck, NonePrints, makes_any, prints_at}
 use Rattle.commit_book.specs.TakenOut.{IsTakenOut, IsUndoing}
 use Rattle.commit_book.specs.Threads.{AllControls}
-use Rattle.commit_book.proofs.LostSteps.{lost_are, own_left, prints_left, survivors_up_to, within_at}
+use Rattle.commit_book.proofs.LostSteps.{IsWithin, lost_are, own_left, prints_left, survivors_up_to, within_at}
 use Rattle.commit_book.proofs.PrintKeeping.{numbers_long}
 use Rattle.commit_book.proofs.ReadSteps.{within_rises}
 use Rattle.commit_book.proofs.StayPrinted.{AreUpTo, prints_fit}
@@ -70,14 +70,6 @@ filter_on f g [] same = refl
 filter_on f g (q ∷ qs) same =
     ap (λ b. cond b (q ∷ filter f qs) (filter f qs)) (same q (ap (λ b. cond b true (has qs q)) (nat_eq_equiv.refl q)))
     ∙ ap (λ l. cond (g q) (q ∷ l) l) (filter_on f g qs (λ k at. same k (elim (nat_eq k q) as (λ b. cond b true (has qs k) ≡ true) [ true ↦ refl | false ↦ at ])))
-
-same_label : (a b : Label) (o : Option Label) → o ≡ Some a → o ≡ Some b → a ≡ b
-same_label a b o first second = let is : Some a ≡ Some b = sym first ∙ second in cc
-
--- the entry of a section is no print
-no_print : (l : Label) → is_enter l ≡ true → is_print l ≡ true → ⊥
-no_print (Enter t) enter print = false≢true print
-no_print _ enter print = false≢true enter
 
 -- where only the plan changed
 pub read_planned : (j : Journal) (r s : Rollback) → IsRead j r → s ≡ record r { plan = s.plan } → IsRead j s
@@ -110,18 +102,6 @@ module _ (old : Parts) (m : ℕ) (qs : List ℕ) (u : IsUndoing old m qs) where
   -- a step of the run as the journal has it
   at_journal : (q : ℕ) (s : IsStepAt u.run q) → (label_at old.history.events q ≡ Some s.n.label) × IsLive old.history q
   at_journal q s = survivor_at old.history q (record { before = s.before; n = s.n; after = s.after; is = run_is old m qs u ∙ s.is; number = s.number })
-
-  -- no print up to the section's entry is reached
-  low_print : (q : ℕ) → q ≤ m → has since q ≡ true → has (reached u.run m) q ≡ false
-  low_print q low among = elim (has (reached u.run m) q) as (λ b. has (reached u.run m) q ≡ b → b ≡ false) [
-    | true ↦ λ goes.
-        let w = within_at (floor u.run) last is_print u.run q among in
-        let e = entry_of m u.run (parts_of u.run m u.may.revocable).entered in
-        let here : q ≡ m = let high : m ≤ q = reached_above u.run m 1 q runs.rises goes in omega (arith, high, low) in
-        let entry : IsStepAt u.run q = record { before = e.place.before; n = e.n; after = e.place.after; is = e.place.is; number = sym e.at ∙ sym here } in
-        absurd (no_print e.n.label e.enters (ap is_print (same_label e.n.label w.at.n.label (label_at old.history.events q) (at_journal q entry).0 (at_journal q w.at).0) ∙ w.passes))
-    | false ↦ λ off. refl
-  ] refl
 
   module _ (r4 r5 : Rollback) (read : IsRead old.history r4) (all : r4.read ≡ length old.history.events) (are : (t : ℕ) → IsLineOf old.graph.nodes qs t (map.get r4.plan.lines t)) (g : IsGathered r4 r5) where
     within_is : (p : Label → Bool) → steps_within r4.floor.0 r4.read p (survivors old.history) ≡ steps_within (floor u.run) (length old.history.events) p u.run
@@ -201,8 +181,22 @@ module _ (old : Parts) (m : ℕ) (qs : List ℕ) (u : IsUndoing old m qs) where
           let w = within_at (floor u.run) last is_print u.run q (among q at) in
           subst (λ (es : List Event). IsSome (label_at es q)) (sym events_now) (at_journal q w.at).1.step
 
-      pub prints_low : (q : ℕ) → q ≤ m → has (numbers struck.rollback.prints.items) q ≡ true → IsLive struck.history q
-      prints_low q low at = record { step = prints_steps q at; kept = struck_print q (among q at) ∙ low_print q low (among q at) }
+      -- a print is live whose number is no greater than one up to which no lost step prints
+      pub prints_low : (most : ℕ) → NonePrints old.history.events (numbers r5.lost.items) most → (q : ℕ) → q ≤ most → has (numbers struck.rollback.prints.items) q ≡ true → IsLive struck.history q
+      prints_low most none q low at = record { step = prints_steps q at; kept = struck_print q (among q at) ∙ unlost }
+        where
+          w : IsWithin (floor u.run) (length old.history.events) is_print u.run q
+          w = within_at (floor u.run) last is_print u.run q (among q at)
+
+          unlost : has (reached u.run m) q ≡ false
+          unlost = elim (has (reached u.run m) q) as (λ b. has (reached u.run m) q ≡ b → b ≡ false) [
+            | true ↦ λ goes.
+                let first : 1 ≤ q = let over = w.over in grind (arith, nat_tests) in
+                let prints : prints_at old.history.events q ≡ true = ap (λ o. option_map_or is_print o false) (at_journal q w.at).0 ∙ w.passes in
+                let high = none q first (lost_all q ∙ goes) prints in
+                absurd (omega (arith, high, low))
+            | false ↦ λ off. refl
+          ] refl
 
       -- ---- at the end
 

@@ -1,11 +1,12 @@
 -- Steps that are struck, with what they wrote and made.
-use Rattle.std.specs.Prelude.{◌≡◌, ℕ, ◌<◌, Bool, true, false, cond, not, ◌||◌, List, [], ◌∷◌, filter, length, nat_eq, Some, None}
+use Rattle.std.specs.Prelude.{◌≡◌, ℕ, ◌<◌, ◌≤◌, Bool, true, false, cond, not, ◌||◌, List, [], ◌∷◌, filter, length, nat_eq, Some, None}
 use Rattle.std.specs.List.{IsDistinct}
 use Rattle.std.specs.Option.{option_map_or}
 use Rattle.std.specs.FinMap as map
 use Rattle.std.specs.FinSet as set
 use Rattle.stab_journal.specs.declared.event.Event.{Event}
 use Rattle.stab_journal.specs.declared.event.Label.{Label}
+use Rattle.stab_journal.specs.Due.{is_print}
 use Rattle.stab_journal.specs.Journal.{IsLive, label_at}
 use Rattle.stab_journal.specs.Label.{written}
 use Rattle.stab_journal.specs.Names.{has, is_at, made}
@@ -19,6 +20,14 @@ makes_at events q c = option_map_or (λ (l : Label). is_at (made l) c) (label_at
 
 abbrev pub writes_at : List Event → ℕ → ℕ → Bool
 writes_at events q r = option_map_or (λ (l : Label). is_at (written l) r) (label_at events q) false
+
+-- whether the step numbered q prints
+abbrev pub prints_at : List Event → ℕ → Bool
+prints_at events q = option_map_or is_print (label_at events q) false
+
+-- no print among these steps is numbered up to `most`
+abbrev pub NonePrints : List Event → List ℕ → ℕ → Type 0
+NonePrints events qs most = (q : ℕ) → 1 ≤ q → has qs q ≡ true → prints_at events q ≡ true → most < q
 
 -- whether one of these steps makes the channel c
 abbrev pub makes_any : List Event → List ℕ → ℕ → Bool

@@ -26,7 +26,7 @@ ghost use Rattle.commit_book.specs.Counts.{is_faulted_at};
 ghost use Rattle.commit_book.specs.Graph.{is_pinned};
 ghost use Rattle.commit_book.specs.Layout.{IsKept};
 ghost use Rattle.commit_book.specs.OwnSteps.{HasRoomToRead, IsRead, stays, stay_printed};
-ghost use Rattle.commit_book.specs.Striking.{AreStruck, AllAreStruck, MayStrike, MayStrikeAll};
+ghost use Rattle.commit_book.specs.Striking.{AreStruck, AllAreStruck, MayStrike, MayStrikeAll, NonePrints, prints_at};
 ghost use Rattle.commit_book.specs.TakenOut.{IsUndoing, IsTakenOut};
 ghost use Rattle.commit_book.specs.Threads.{AllControls};
 ghost use Rattle.commit_book.specs.Undoing.{undo_by};
@@ -118,13 +118,9 @@ impl Parts {
         }
         let end = self.begin(lease, progress);
         self.go_on(lease.thread(), end);
-        let removed = self.undo(mark);
+        let undone = self.undo(mark, marks);
         self.push_undo(lease, mark);
-        Ok(Outcome::Undone(Undone {
-            mark,
-            removed,
-            marks,
-        }))
+        Ok(Outcome::Undone(undone))
     }
 
     /// Room for all that an undo needs. What is reached from the section is marked, and listed for the answer.
@@ -157,10 +153,11 @@ impl Parts {
         holds_pin_in::<Brand>(&self.graph, &self.rollback.marks, Blank::new(1))
     }
 
-    /// Takes back what is marked, with the steps of the same threads after it, and tells how many steps that are.
-    fn undo(&mut self, mark: Seq) -> u64
+    /// Takes back what is marked, with the steps of the same threads after it, and counts these steps.
+    fn undo(&mut self, mark: Seq, marks: Vec<Seq>) -> Undone
         requires { IsUndoing self.old mark.0 self.old.rollback.marks.nodes }
-        ensures { IsTakenOut self.old self.new mark.0 result self.old.rollback.marks.nodes }
+        ensures out { IsTakenOut self.old self.new mark.0 result.removed self.old.rollback.marks.nodes }
+        ensures told { (result.mark ≡ mark) × (result.marks ≡ marks) }
     {
         self.rollback.read_all(&self.history);
         lines_in::<Brand>(
@@ -179,9 +176,25 @@ impl Parts {
             &mut self.graph,
         );
         self.rollback.gather();
+        let unprinted = self.unprinted();
         let removed = self.strike_all();
-        self.drop_prints(mark);
-        removed
+        self.drop_prints(unprinted);
+        Undone {
+            mark,
+            removed,
+            marks,
+        }
+    }
+
+    /// A number up to which no gathered step prints.
+    fn unprinted(&self) -> Seq
+        ensures { NonePrints self.now.history.events (numbers self.now.rollback.lost.items) result.0 }
+    {
+        let mut up_to = u64::MAX;
+        for q in &self.rollback.lost {
+            up_to = up_to.min(unprinted_at(&self.history, *q));
+        }
+        Seq(up_to)
     }
 
     /// Strikes the gathered steps, the last one first, and tells how many there are.
@@ -231,11 +244,11 @@ impl Parts {
         }
     }
 
-    /// Drops the values whose prints were struck, which are numbered above the section's entry.
-    fn drop_prints(&mut self, mark: Seq)
+    /// Drops the values whose prints were struck, none of which is numbered up to this one.
+    fn drop_prints(&mut self, unprinted: Seq)
         requires printed { length self.old.rollback.prints.items ≤ length self.old.printed.items }
         requires rising { IsNonDecreasing (numbers self.old.rollback.prints.items) }
-        requires low { (q : ℕ) → q ≤ mark.0 → has (numbers self.old.rollback.prints.items) q ≡ true
+        requires low { (q : ℕ) → q ≤ unprinted.0 → has (numbers self.old.rollback.prints.items) q ≡ true
             → IsLive self.old.history q }
         requires steps { (q : ℕ) → has (numbers self.old.rollback.prints.items) q ≡ true
             → IsSome (label_at self.old.history.events q) }
@@ -248,7 +261,7 @@ impl Parts {
           rollback = record self.old.rollback { prints = self.new.rollback.prints };
         } }
     {
-        let first = first_above(&self.rollback.prints, mark);
+        let first = first_above(&self.rollback.prints, unprinted);
         let before = self.printed.len() - self.rollback.prints.len();
         let mut kept = first;
         for i in first..self.rollback.prints.len() {
@@ -299,6 +312,16 @@ fn first_above(steps: &[Seq], mark: Seq) -> usize
         first -= 1;
     }
     first
+}
+
+/// The number before a step that prints, and of any other step the greatest.
+fn unprinted_at(history: &History, q: Seq) -> u64
+    ensures { 1 ≤ q.0 → prints_at history.now.events q.0 ≡ true → result < q.0 }
+{
+    match label_at(history, q) {
+        Some(Label::Print(_)) => q.0.saturating_sub(1),
+        _ => u64::MAX,
+    }
 }
 
 /// The step with a number.

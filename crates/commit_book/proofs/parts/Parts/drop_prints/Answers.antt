@@ -19,8 +19,8 @@ loop-i-init c =
     record {
       keeping =
           keep_none (stays old.history) (c.len.result - c.len-2.result) old.rollback.prints.items old.printed.items sum c.first_above-first.result within
-          (first_stay old.history old.rollback.prints.items c.first_above-first.result c.args.mark.0 within
-          (λ i under. subst (λ (qs : List Seq). slice_index (numbers qs) i ≤ c.args.mark.0) c.deref.ensures.value (c.first_above-first.ensures.below i under)) c.requires.low);
+          (first_stay old.history old.rollback.prints.items c.first_above-first.result c.args.unprinted.0 within
+          (λ i under. subst (λ (qs : List Seq). slice_index (numbers qs) i ≤ c.args.unprinted.0) c.deref.ensures.value (c.first_above-first.ensures.below i under)) c.requires.low);
       same = refl;
       sum = sum;
     }

@@ -1,4 +1,6 @@
-use Rattle.std.proofs.Common.{refl}
+use Rattle.std.proofs.Common.{refl, ap, ◌∙◌}
+use Rattle.stab_base.specs.declared.numbers.Seq.{Seq}
+use Rattle.reach_line.specs.MarkList.{numbers}
 use Rattle.commit_book.proofs.Acted.{needs_few, needs_there}
 use Rattle.commit_book.proofs.Granting.{done_again, err_again, marked_there, may_again, node_there, pinned_held}
 use Rattle.commit_book.proofs.SeenAfter.{kept_same}
@@ -48,48 +50,48 @@ go_on-requires-clause-there c = needs_there c.args.job.now c.args.self.now c.arg
 pub go_on-requires-clause-few : goal.go_on-requires-clause-few
 go_on-requires-clause-few c = needs_few c.args.job.now c.args.self.now c.args.lease.now c.args.progress c.requires.may c.plan_undo.new.self c.begin-end.new.self c.begin-end.new.self c.plan_undo.ensures.before c.begin-end.ensures.rest refl refl
 
-pub undo-removed-requires : goal.undo-removed-requires
-undo-removed-requires c =
+pub undo-undone-requires : goal.undo-undone-requires
+undo-undone-requires c =
     undoing c.args.job.now c.args.self.now c.args.lease.now c.args.progress c.requires.may c.requires.at c.args.mark.0 c.requires.mark c.requires.above c.plan_undo.new.self c.plan_undo.ensures.before c.begin-end.new.self c.go_on.new.self c.begin-end.ensures.history c.begin-end.ensures.rest c.thread.result c.thread.ensures c.go_on.result c.begin-end.result c.begin-end.ensures.end c.go_on.ensures.before c.go_on.ensures.gone
     c.in-Ok.ensures.reached (c.holds_pin.ensures.none c.if-holds_pin.false) c.in-Ok.ensures.room
 
 pub push_undo-requires-clause-spare : goal.push_undo-requires-clause-spare
 push_undo-requires-clause-spare c =
     spare_left c.args.job.now c.args.self.now c.args.lease.now c.args.progress c.requires.may c.requires.at c.args.mark.0 c.requires.mark c.requires.above c.plan_undo.new.self c.plan_undo.ensures.before c.begin-end.new.self c.go_on.new.self c.begin-end.ensures.history c.begin-end.ensures.rest c.thread.result c.thread.ensures c.go_on.result c.begin-end.result c.begin-end.ensures.end c.go_on.ensures.before c.go_on.ensures.gone
-    c.in-Ok.ensures.reached (c.holds_pin.ensures.none c.if-holds_pin.false) c.undo-removed.result c.undo-removed.new.self c.undo-removed.ensures c.begin-end.ensures.more
+    c.in-Ok.ensures.reached (c.holds_pin.ensures.none c.if-holds_pin.false) c.undo-undone.result.removed c.undo-undone.new.self c.undo-undone.ensures.out c.begin-end.ensures.more
 
 pub push_undo-requires-clause-weight : goal.push_undo-requires-clause-weight
 push_undo-requires-clause-weight c =
     weight_left c.args.job.now c.args.self.now c.args.lease.now c.args.progress c.requires.may c.requires.at c.args.mark.0 c.requires.mark c.requires.above c.plan_undo.new.self c.plan_undo.ensures.before c.begin-end.new.self c.go_on.new.self c.begin-end.ensures.history c.begin-end.ensures.rest c.thread.result c.thread.ensures c.go_on.result c.begin-end.result c.begin-end.ensures.end c.go_on.ensures.before c.go_on.ensures.gone
-    c.in-Ok.ensures.reached (c.holds_pin.ensures.none c.if-holds_pin.false) c.undo-removed.result c.undo-removed.new.self c.undo-removed.ensures c.begin-end.ensures.more
+    c.in-Ok.ensures.reached (c.holds_pin.ensures.none c.if-holds_pin.false) c.undo-undone.result.removed c.undo-undone.new.self c.undo-undone.ensures.out c.begin-end.ensures.more
 
 pub push_undo-requires-clause-thread : goal.push_undo-requires-clause-thread
 push_undo-requires-clause-thread c =
     thread_named c.args.job.now c.args.self.now c.args.lease.now c.args.progress c.requires.may c.requires.at c.args.mark.0 c.requires.mark c.requires.above c.plan_undo.new.self c.plan_undo.ensures.before c.begin-end.new.self c.go_on.new.self c.begin-end.ensures.history c.begin-end.ensures.rest c.thread.result c.thread.ensures c.go_on.result c.begin-end.result c.begin-end.ensures.end c.go_on.ensures.before c.go_on.ensures.gone
-    c.in-Ok.ensures.reached (c.holds_pin.ensures.none c.if-holds_pin.false) c.undo-removed.result c.undo-removed.new.self c.undo-removed.ensures
+    c.in-Ok.ensures.reached (c.holds_pin.ensures.none c.if-holds_pin.false) c.undo-undone.result.removed c.undo-undone.new.self c.undo-undone.ensures.out
 
 pub push_undo-requires-clause-mark : goal.push_undo-requires-clause-mark
 push_undo-requires-clause-mark c =
     mark_within c.args.job.now c.args.self.now c.args.lease.now c.args.progress c.requires.may c.requires.at c.args.mark.0 c.requires.mark c.requires.above c.plan_undo.new.self c.plan_undo.ensures.before c.begin-end.new.self c.go_on.new.self c.begin-end.ensures.history c.begin-end.ensures.rest c.thread.result c.thread.ensures c.go_on.result c.begin-end.result c.begin-end.ensures.end c.go_on.ensures.before c.go_on.ensures.gone
-    c.in-Ok.ensures.reached (c.holds_pin.ensures.none c.if-holds_pin.false) c.undo-removed.result c.undo-removed.new.self c.undo-removed.ensures
+    c.in-Ok.ensures.reached (c.holds_pin.ensures.none c.if-holds_pin.false) c.undo-undone.result.removed c.undo-undone.new.self c.undo-undone.ensures.out
 
 pub push_undo-requires-clause-read : goal.push_undo-requires-clause-read
 push_undo-requires-clause-read c =
     read_low c.args.job.now c.args.self.now c.args.lease.now c.args.progress c.requires.may c.requires.at c.args.mark.0 c.requires.mark c.requires.above c.plan_undo.new.self c.plan_undo.ensures.before c.begin-end.new.self c.go_on.new.self c.begin-end.ensures.history c.begin-end.ensures.rest c.thread.result c.thread.ensures c.go_on.result c.begin-end.result c.begin-end.ensures.end c.go_on.ensures.before c.go_on.ensures.gone
-    c.in-Ok.ensures.reached (c.holds_pin.ensures.none c.if-holds_pin.false) c.undo-removed.result c.undo-removed.new.self c.undo-removed.ensures
+    c.in-Ok.ensures.reached (c.holds_pin.ensures.none c.if-holds_pin.false) c.undo-undone.result.removed c.undo-undone.new.self c.undo-undone.ensures.out
 
 pub push_undo-requires-clause-undos : goal.push_undo-requires-clause-undos
 push_undo-requires-clause-undos c =
     undos_low c.args.job.now c.args.self.now c.args.lease.now c.args.progress c.requires.may c.requires.at c.args.mark.0 c.requires.mark c.requires.above c.plan_undo.new.self c.plan_undo.ensures.before c.begin-end.new.self c.go_on.new.self c.begin-end.ensures.history c.begin-end.ensures.rest c.thread.result c.thread.ensures c.go_on.result c.begin-end.result c.begin-end.ensures.end c.go_on.ensures.before c.go_on.ensures.gone
-    c.in-Ok.ensures.reached (c.holds_pin.ensures.none c.if-holds_pin.false) c.undo-removed.result c.undo-removed.new.self c.undo-removed.ensures
+    c.in-Ok.ensures.reached (c.holds_pin.ensures.none c.if-holds_pin.false) c.undo-undone.result.removed c.undo-undone.new.self c.undo-undone.ensures.out
 
 pub returns-clause-done : goal.returns-clause-done
 returns-clause-done c =
     taken c.args.job.now c.args.self.now c.args.lease.now c.args.progress c.requires.may c.requires.at c.args.mark.0 c.requires.mark c.requires.above c.plan_undo.new.self c.plan_undo.ensures.before c.begin-end.new.self c.go_on.new.self c.begin-end.ensures.history c.begin-end.ensures.rest c.thread.result c.thread.ensures c.go_on.result c.begin-end.result c.begin-end.ensures.end c.go_on.ensures.before c.go_on.ensures.gone
-    c.in-Ok.ensures.reached (c.holds_pin.ensures.none c.if-holds_pin.false) c.undo-removed.result c.undo-removed.new.self c.undo-removed.ensures c.push_undo.new.self c.push_undo.ensures.history c.push_undo.ensures.rest
-    (record { mark = c.args.mark; removed = c.undo-removed.result; marks = c.in-Ok.marks }) refl refl c.in-Ok.ensures.listed
+    c.in-Ok.ensures.reached (c.holds_pin.ensures.none c.if-holds_pin.false) c.undo-undone.result.removed c.undo-undone.new.self c.undo-undone.ensures.out c.push_undo.new.self c.push_undo.ensures.history c.push_undo.ensures.rest
+    c.undo-undone.result (ap (λ (q : Seq). q.0) c.undo-undone.ensures.told.0) refl (ap (λ v. numbers v.items) c.undo-undone.ensures.told.1 ∙ c.in-Ok.ensures.listed)
 
 pub returns-clause-kept : goal.returns-clause-kept
 returns-clause-kept c =
     taken_kept c.args.job.now c.args.self.now c.args.lease.now c.args.progress c.requires.may c.requires.at c.args.mark.0 c.requires.mark c.requires.above c.plan_undo.new.self c.plan_undo.ensures.before c.begin-end.new.self c.go_on.new.self c.begin-end.ensures.history c.begin-end.ensures.rest c.thread.result c.thread.ensures c.go_on.result c.begin-end.result c.begin-end.ensures.end c.go_on.ensures.before c.go_on.ensures.gone
-    c.in-Ok.ensures.reached (c.holds_pin.ensures.none c.if-holds_pin.false) c.undo-removed.result c.undo-removed.new.self c.undo-removed.ensures c.push_undo.new.self c.push_undo.ensures.history c.push_undo.ensures.rest
+    c.in-Ok.ensures.reached (c.holds_pin.ensures.none c.if-holds_pin.false) c.undo-undone.result.removed c.undo-undone.new.self c.undo-undone.ensures.out c.push_undo.new.self c.push_undo.ensures.history c.push_undo.ensures.rest

@@ -76,6 +76,7 @@ drop_prints-requires-clause-low c =
     prints_low c.args.self.now c.args.mark.0 c.read_all.new.self.marks.nodes (still c.args.self.now c.args.mark.0 c.read_all.new.self c.read_all.ensures.marks c.requires) (record c.read_all.new.self { plan = c.lines_in.new.plan }) c.gather.new.self (read_planned c.args.self.now.history c.read_all.new.self (record c.read_all.new.self { plan = c.lines_in.new.plan }) c.read_all.ensures.read refl) c.read_all.ensures.all c.lines_in.ensures.lines c.gather.ensures.gathered
     (record c.args.self.now { slots = c.apply.new.slots; offers = c.apply.new.offers; store = c.apply.new.store; graph = c.apply.new.graph; tallies = record c.args.self.now.tallies { faulted = c.args.self.now.tallies.faulted - c.failed_among.result }; rollback = c.gather.new.self })
     c.strike_all-removed.new.self c.strike_all-removed.result refl c.strike_all-removed.ensures.struck
+    c.unprinted-unprinted.result.0 c.unprinted-unprinted.ensures
 
 pub drop_prints-requires-clause-steps : goal.drop_prints-requires-clause-steps
 drop_prints-requires-clause-steps c =
@@ -83,8 +84,8 @@ drop_prints-requires-clause-steps c =
     (record c.args.self.now { slots = c.apply.new.slots; offers = c.apply.new.offers; store = c.apply.new.store; graph = c.apply.new.graph; tallies = record c.args.self.now.tallies { faulted = c.args.self.now.tallies.faulted - c.failed_among.result }; rollback = c.gather.new.self })
     c.strike_all-removed.new.self c.strike_all-removed.result refl c.strike_all-removed.ensures.struck
 
-pub returns : goal.returns
-returns c =
+pub returns-clause-out : goal.returns-clause-out
+returns-clause-out c =
     subst (λ (ms : MarkList). IsTakenOut c.args.self.now c.drop_prints.new.self c.args.mark.0 c.strike_all-removed.result ms.nodes) c.read_all.ensures.marks
     (taken_out c.args.self.now c.args.mark.0 c.read_all.new.self.marks.nodes (still c.args.self.now c.args.mark.0 c.read_all.new.self c.read_all.ensures.marks c.requires) (record c.read_all.new.self { plan = c.lines_in.new.plan }) c.gather.new.self (read_planned c.args.self.now.history c.read_all.new.self (record c.read_all.new.self { plan = c.lines_in.new.plan }) c.read_all.ensures.read refl) c.read_all.ensures.all c.lines_in.ensures.lines c.gather.ensures.gathered
     (record c.args.self.now { slots = c.apply.new.slots; offers = c.apply.new.offers; store = c.apply.new.store; graph = c.apply.new.graph; tallies = record c.args.self.now.tallies { faulted = c.args.self.now.tallies.faulted - c.failed_among.result }; rollback = c.gather.new.self })
