@@ -1,5 +1,6 @@
 pub mod Outs
 pub mod Jobs
+pub mod JobKept
 pub mod Under
 pub mod Playing
 pub mod Desks

@@ -30,6 +30,7 @@ pub struct DrillEnd {
 /// and the script determine what is written, and the desk of the book.
 pub fn drill(alloc: Global, job: Job, script: &[u8]) -> Result<DrillEnd, DrillFault>
     ensures drilled { IfOk result (λ end. IsDrilled job (script_of script.now) end.lines.items end.book) }
+    ensures of_job { IfOk result (λ end. end.book.job ≡ job) }
     ensures refused { IfErr result (IsRefused job (script_of script.now)) }
     ensures shown { IfOk result (λ end. IsShown end.book) }
 {

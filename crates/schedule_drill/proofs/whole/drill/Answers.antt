@@ -7,6 +7,7 @@ use Rattle.drill_text.specs.Order.{HasLease}
 use Rattle.drill_text.specs.Script.{script_of}
 use Rattle.schedule_drill.specs.Drilled.{ArePlayed, IsNew, IsStopped}
 use Rattle.schedule_drill.specs.Played.{Stand, stand}
+use Rattle.schedule_drill.proofs.JobKept.{drilled_job}
 use Rattle.schedule_drill.proofs.Playing.{all_numbered, refuses}
 use Rattle.schedule_drill.proofs.Under.{none_under}
 use Rattle.schedule_drill.proofs.whole.drill.Goals as goal
@@ -26,8 +27,8 @@ returns-in_err-played-clause-refused c =
     rw (p.1, p.2) (refuses c.args.job (script_of c.args.script.now) first new c.in_err-played.field-0.0
     (subst (λ (lines : List Line). IsStopped first lines c.in_err-played.field-0.0) (c.deref.ensures.value ∙ c.in_ok-script.ensures) c.in_err-played.ensures.stopped))
 
-pub returns-clause-drilled : goal.returns-clause-drilled
-returns-clause-drilled c =
+drilled : goal.returns-clause-drilled
+drilled c =
     let first : Stand = stand c.in_ok-book.book c.new-leases.result in
     let last : Stand = stand c.play_all-played.new.book c.play_all-played.new.leases in
     record {
@@ -37,3 +38,9 @@ returns-clause-drilled c =
       played = subst (λ (lines : List Line). ArePlayed lines first c.in_ok-played.field-0.items last) (c.deref.ensures.value ∙ c.in_ok-script.ensures) c.in_ok-played.ensures.played;
       left = c.give_back.ensures.given;
     }
+
+pub returns-clause-drilled : goal.returns-clause-drilled
+returns-clause-drilled c = drilled c
+
+pub returns-clause-of_job : goal.returns-clause-of_job
+returns-clause-of_job c = drilled_job c.args.job (script_of c.args.script.now) _ _ (drilled c)
