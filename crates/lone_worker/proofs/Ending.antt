@@ -118,7 +118,7 @@ module _ (lent new : BookView) (lease : LeaseView) (progress : ProgressView) whe
   abbrev moved_as : Row → Type 0
   moved_as row = IsMoved lent (record new { answered = lent.answered }) lease.worker lease.thread progress.steps row
 
-  left_by : (row : Row) → row_at lent lease progress ≡ row → IsLeftBy lent new lease progress row → Moved ⊎ TookBack
+  pub left_by : (row : Row) → row_at lent lease progress ≡ row → IsLeftBy lent new lease progress row → Moved ⊎ TookBack
   left_by (alone l) at left = inl (record { moved = subst moved_as (sym at) left.0; undoes_nothing = λ m is. let other = sym at ∙ is in absurd (cc) })
   left_by (starts u) at left = inl (record { moved = subst moved_as (sym at) left.0; undoes_nothing = λ m is. let other = sym at ∙ is in absurd (cc) })
   left_by (meets u l) at left = inl (record { moved = subst moved_as (sym at) left.0; undoes_nothing = λ m is. let other = sym at ∙ is in absurd (cc) })

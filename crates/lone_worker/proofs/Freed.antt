@@ -1,6 +1,6 @@
--- After a commit of what was lent nobody has a lease.
+-- After a commit that moved threads those have no lease, and the others have what they had.
 use Rattle.std.proofs.Common.{◌≡◌, ℕ, Bool, true, false, cond, not, ◌||◌, nat_eq, List, [], ◌∷◌, ◌++◌, Option, Some, None, refl, sym, ap, subst, ◌∙◌}
-use Rattle.std.specs.Prelude.{IfSome, IsSome, is_some, option_and_then, option_map, if◌then◌else◌}
+use Rattle.std.specs.Prelude.{IfSome, IsSome, IsSomeAnd, is_some, option_and_then, option_map, if◌then◌else◌}
 use Rattle.std.specs.List.{filter, list_any}
 use Rattle.std.specs.Option.{option_map_or}
 use Rattle.std.specs.Cmp.{nat_eq_equiv}
@@ -25,7 +25,7 @@ use Rattle.plain_language.specs.Plain.{look_in, standing}
 use Rattle.plain_language.specs.Table.{Look, act, sends, receives, picks}
 use Rattle.journal_laws.proofs.Surviving.{some_is, some_none}
 use Rattle.step_eval.specs.ControlView.{ControlView, expr_of}
-use Rattle.step_eval.specs.Progress.{ProgressView}
+use Rattle.step_eval.specs.Progress.{Advances, ProgressView}
 use Rattle.commit_book.specs.Book.{BookView, IsShown, offered}
 use Rattle.commit_book.specs.Commits.{IsMoved, line_after, row_at}
 use Rattle.commit_book.specs.Counts.{in_state}
@@ -37,7 +37,7 @@ use Rattle.commit_book.proofs.EffectsHeld.{known_at}
 use Rattle.commit_book.proofs.EffectsLocal.{act_there}
 use Rattle.commit_book.proofs.Partners.{IsThere, there_of}
 use Rattle.commit_book.proofs.RoomHere.{pick_there, receive_there, send_there}
-use Rattle.lone_worker.specs.Turn.{IsAdvanced, IsHeldAs, IsLentAlone}
+use Rattle.lone_worker.specs.Turn.{IsHeldAs, IsLentAlone}
 use Rattle.commit_book.proofs.Holding.{ended_not_leased, isnt_changed, none_counted, parked_not_leased, ready_not_leased}
 use Rattle.lone_worker.proofs.Moving.{Says, row_says}
 
@@ -79,7 +79,8 @@ joined_here t xs = list_any-append (nat_eq t) xs (t ∷ []) ∙ ap (λ b. list_a
     or_true true = refl
     or_true false = refl
 
-module _ (lent new : BookView) (lease : LeaseView) (control : ControlView) (progress : ProgressView) (shown : IsShown lent) (shown_new : IsShown new) (is : IsLentAlone lent lease control) (advanced : IsAdvanced lent.job control progress)
+module _ (lent new : BookView) (lease : LeaseView) (progress : ProgressView) (shown : IsShown lent) (shown_new : IsShown new)
+    (held : IsSomeAnd (map.get lent.threads lease.thread) (IsHeldAs lease progress.origin)) (advances : Advances lent.job.program progress.origin progress.steps progress.end)
     (row : Row) (at : row ≡ row_at lent lease progress) (undoes_nothing : (m : ℕ) → row ≡ undoes m → ⊥) (moved : IsMoved lent (record new { answered = lent.answered }) lease.worker lease.thread progress.steps row) where
   abbrev t : ℕ
   t = lease.thread
@@ -90,8 +91,8 @@ module _ (lent new : BookView) (lease : LeaseView) (control : ControlView) (prog
   abbrev e : Expr
   e = expr_of p progress.end
 
-  here : IsThere (map.get lent.threads t) (IsHeldAs lease control)
-  here = there_of (map.get lent.threads t) (IsHeldAs lease control) is.held
+  here : IsThere (map.get lent.threads t) (IsHeldAs lease progress.origin)
+  here = there_of (map.get lent.threads t) (IsHeldAs lease progress.origin) held
 
   says : Says (is_some (map.get lent.offers.offers t)) (look_in p e) (row_at lent lease progress)
   says = row_says lent t e (look_in p e)
@@ -117,21 +118,21 @@ module _ (lent new : BookView) (lease : LeaseView) (control : ControlView) (prog
   stands =
       sym (shown.shows.threads.threads t)
       ∙ ap (option_map (λ (k : Slot ControlView). expr_of p k.control)) here.found
-      ∙ ap (λ c. Some (expr_of p c)) (here.is.control ∙ sym advanced.origin)
+      ∙ ap (λ c. Some (expr_of p c)) here.is.control
 
   there_by : (o : Offer) (k : Look Expr) → look_in p e ≡ k → offer_at k ≡ Some o → AreThere lent.offers.lines o
   there_by o (act (sends c v)) looks says =
       subst (AreThere lent.offers.lines) (some_is says)
       (send_there lent shown.run shown.state shown.shows.journal (record { 0 = c })
-      (act_there p shown.state 0 (record { 0 = t }) progress.steps progress.origin progress.end stands advanced.made
+      (act_there p shown.state 0 (record { 0 = t }) progress.steps progress.origin progress.end stands advances
       (known_at p lent.history.events shown.run shown.state shown.shows.journal.history.stands) (sends c v) looks).0)
   there_by o (act (receives c)) looks says =
       subst (AreThere lent.offers.lines) (some_is says)
       (receive_there lent shown.run shown.state shown.shows.journal (record { 0 = c })
-      (act_there p shown.state 0 (record { 0 = t }) progress.steps progress.origin progress.end stands advanced.made
+      (act_there p shown.state 0 (record { 0 = t }) progress.steps progress.origin progress.end stands advances
       (known_at p lent.history.events shown.run shown.state shown.shows.journal.history.stands) (receives c) looks))
   there_by o (act (picks c d)) looks says =
-      let both = act_there p shown.state 0 (record { 0 = t }) progress.steps progress.origin progress.end stands advanced.made
+      let both = act_there p shown.state 0 (record { 0 = t }) progress.steps progress.origin progress.end stands advances
       (known_at p lent.history.events shown.run shown.state shown.shows.journal.history.stands) (picks c d) looks in
       subst (AreThere lent.offers.lines) (some_is says)
       (pick_there lent shown.run shown.state shown.shows.journal (record { 0 = c }) (record { 0 = d }) both.0 both.1)
@@ -204,18 +205,25 @@ module _ (lent new : BookView) (lease : LeaseView) (control : ControlView) (prog
   itself_free stays is_row = absurd (not_waiting (says.stays (sym at ∙ is_row)))
   itself_free (undoes m) is_row = absurd (undoes_nothing m is_row)
 
-  pub each_free : (u : ℕ) → is_in Leased new.threads u ≡ false
-  each_free u = by (is_listed u (t ∷ movers t row)) refl
+  -- whom the commit may change has no lease
+  pub changed_free : (u : ℕ) → is_listed u (t ∷ movers t row) ≡ true → is_in Leased new.threads u ≡ false
+  changed_free u listed = by (nat_eq u t) refl listed
     where
-      other : (b : Bool) → nat_eq u t ≡ b → (b || is_listed u (movers t row)) ≡ true → is_in Leased new.threads u ≡ false
-      other true same is_one = ap (is_in Leased new.threads) (eqb-true u t same) ∙ itself_free row refl
-      other false apart is_one = moved_free u is_one
+      by : (b : Bool) → nat_eq u t ≡ b → (b || is_listed u (movers t row)) ≡ true → is_in Leased new.threads u ≡ false
+      by true same is_one = ap (is_in Leased new.threads) (eqb-true u t same) ∙ itself_free row refl
+      by false apart is_one = moved_free u is_one
 
+  -- the others have what they had
+  pub kept_lent : (u : ℕ) → is_listed u (t ∷ movers t row) ≡ false → is_in Leased new.threads u ≡ is_in Leased lent.threads u
+  kept_lent u unlisted = ap (λ o. option_map_or (λ (slot : Slot ControlView). same_state Leased slot.state) o false) (moved.others u (isnt_changed t u row unlisted))
+
+  -- so nobody has one where that thread alone had
+  each_free : IsLentAlone lent lease progress.origin → (u : ℕ) → is_in Leased new.threads u ≡ false
+  each_free is u = by (is_listed u (t ∷ movers t row)) refl
+    where
       by : (b : Bool) → is_listed u (t ∷ movers t row) ≡ b → is_in Leased new.threads u ≡ false
-      by true listed = other (nat_eq u t) refl listed
-      by false unlisted =
-          ap (λ o. option_map_or (λ (slot : Slot ControlView). same_state Leased slot.state) o false) (moved.others u (isnt_changed t u row unlisted))
-          ∙ is.alone u ∙ (neither (nat_eq u t) (is_listed u (movers t row)) unlisted).0
+      by true listed = changed_free u listed
+      by false unlisted = kept_lent u unlisted ∙ is.alone u ∙ (neither (nat_eq u t) (is_listed u (movers t row)) unlisted).0
 
-  pub free : in_state Leased new ≡ 0
-  free = none_counted (is_in Leased new.threads) new.next.thread each_free
+  pub free : IsLentAlone lent lease progress.origin → in_state Leased new ≡ 0
+  free is = none_counted (is_in Leased new.threads) new.next.thread (each_free is)

@@ -1,22 +1,17 @@
 -- What a turn leaves of a book in which nobody has a lease.
-use Rattle.std.proofs.Common.{◌≡◌, ◌⊎◌, inl, inr, ℕ, Bool, true, false, cond, not, ◌&&◌, ◌||◌, nat_eq, List, [], ◌∷◌, ◌++◌, filter, append_assoc, Option, Some, None, refl, sym, ap, subst, ◌∙◌}
+use Rattle.std.proofs.Common.{◌≡◌, ◌⊎◌, inl, inr, ℕ, false, cond, not, ◌&&◌, nat_eq, List, [], ◌∷◌, ◌++◌, filter, append_assoc, Option, Some, None, sym, ap, subst, ◌∙◌}
 use Rattle.std.specs.Prelude.{IfSome, option_and_then, option_map, slice_get}
-use Rattle.std.specs.List.{IsDistinct}
-use Rattle.std.specs.Option.{option_map_or}
 use Rattle.std.specs.FinMap as map
-use Rattle.std.proofs.lemmas.Bool.{false≢true}
-use Rattle.linked_lists.specs.Lists.{is_listed, without}
+use Rattle.linked_lists.specs.Lists.{without}
 use Rattle.stab_code.specs.Program.{ProgramParts}
 use Rattle.stab_journal.specs.declared.event.Event.{Event}
 use Rattle.stab_journal.specs.declared.event.Numbered.{Numbered}
 use Rattle.stab_journal.specs.Names.{has}
 use Rattle.stab_journal.specs.Reached.{reached}
-use Rattle.thread_slots.specs.declared.state.State.TheVariants.{Ready, Leased, Parked, Ended}
-use Rattle.thread_slots.specs.Slot.{Slot, same_state, is_in}
+use Rattle.thread_slots.specs.declared.state.State.TheVariants.{Leased, Ended}
+use Rattle.thread_slots.specs.Slot.{Slot, is_in}
 use Rattle.thread_slots.specs.Ready.{numbers}
-use Rattle.rendezvous.specs.declared.offer.Offer.{Offer}
-use Rattle.rendezvous.specs.Line.{Line, LineBacked, offered as passes}
-use Rattle.rendezvous.specs.Offer.{receives_on, sends_on}
+use Rattle.rendezvous.specs.Line.{Line}
 use Rattle.restore.specs.Left.{others, without_all}
 use Rattle.plain_language.specs.Expression.{Expr}
 use Rattle.plain_language.specs.Plain.{language_of}
@@ -30,26 +25,15 @@ use Rattle.commit_book.specs.Doing.{waits_with}
 use Rattle.commit_book.specs.Rows.{Row, events_by, local_of, movers, steps_of}
 use Rattle.commit_book.specs.Turns.{IsLeaseOf, leased}
 use Rattle.commit_book.specs.Undoing.{begun, loses_a_step, undo_by}
-use Rattle.commit_book.proofs.Choosing.{chosen_front, found_in}
+use Rattle.commit_book.proofs.Choosing.{chosen_front}
 use Rattle.commit_book.proofs.Lending.{get-changed}
-use Rattle.commit_book.proofs.Partners.{IsThere, parked_not_ended, parked_not_ready, there_of}
-use Rattle.commit_book.proofs.Holding.{isnt_changed}
+use Rattle.commit_book.proofs.Partners.{IsThere, there_of}
 use Rattle.lone_worker.specs.Desk.{IsUnlent, seat_of}
 use Rattle.lone_worker.specs.Solo.{BeginsWith}
 use Rattle.lone_worker.specs.Turn.{IsTurnOf, IsWorked, worker}
 use Rattle.lone_worker.proofs.Ending.{Moved, TookBack, left_of}
-use Rattle.lone_worker.proofs.Freed.{comes_last}
-use Rattle.lone_worker.proofs.OneAtMost.{HasOnly}
+use Rattle.lone_worker.proofs.NewLine.{IsNewLine, joins}
 use Rattle.lone_worker.proofs.PureSteps.{MakesAll}
-
--- who isn't parked waits with nothing
-unparked : {C : Type 0} (offer_of : C → Option Offer) (o : Option (Slot C)) → (option_map_or (λ (slot : Slot C). same_state Parked slot.state) o false ≡ true → ⊥) → option_and_then (waits_with offer_of) o ≡ None
-unparked offer_of None not_so = refl
-unparked {C} offer_of (Some slot) not_so = by (same_state Parked slot.state) refl
-  where
-    by : (b : Bool) → same_state Parked slot.state ≡ b → cond b (offer_of slot.control) None ≡ None
-    by true at = absurd (not_so at)
-    by false at = refl
 
 module _ (a x : BookView) (unlent : IsUnlent a) (after : IsUnlent x) (turn : IsTurnOf a x) where
   abbrev pub t : ℕ
@@ -136,66 +120,15 @@ module _ (a x : BookView) (unlent : IsUnlent a) (after : IsUnlent x) (turn : IsT
 
     -- ---- who waits on a channel that wasn't there
 
-    -- who moves doesn't wait
-    not_parked : (u : ℕ) → is_listed u (movers t row) ≡ true → is_in Parked x.threads u ≡ true → ⊥
-    not_parked u mover parked =
-        let f = found_in x.threads u Parked parked in
-        let alive : is_in Ended x.threads u ≡ false = ap (λ o. option_map_or (λ (slot : Slot ControlView). same_state Ended slot.state) o false) f.found ∙ parked_not_ended f.slot.state f.is in
-        let ready : is_in Ready x.threads u ≡ true =
-        sym (after.shown.shows.threads.queue.ready u) ∙ ap (is_listed u) queue_left
-        ∙ comes_last (without t (without t a.queue)) (λ k. not (is_in Ended x.threads k)) (movers t row) u mover (ap not alive)
-        in
-        let unready : is_in Ready x.threads u ≡ false = ap (λ o. option_map_or (λ (slot : Slot ControlView). same_state Ready slot.state) o false) f.found ∙ parked_not_ready f.slot.state f.is in
-        false≢true (sym unready ∙ ready)
+    -- who isn't lent offers what it did
+    same_offer : (u : ℕ) → nat_eq u t ≡ false → map.get (leased a t).offers.offers u ≡ option_and_then (waits_with (offered p)) (map.get (leased a t).threads u)
+    same_offer u apart =
+        unlent.shown.shows.threads.offers.each u
+        ∙ sym (ap (option_and_then (waits_with (offered p))) (get-changed a.threads t u (λ (slot : Slot ControlView). record slot { state = Leased })
+        ∙ ap (λ b. cond b (option_map (λ (slot : Slot ControlView). record slot { state = Leased }) (map.get a.threads t)) (map.get a.threads u)) apart))
 
-    no_offer : (u : ℕ) → is_listed u (movers t row) ≡ true → map.get x.offers.offers u ≡ None
-    no_offer u mover = after.shown.shows.threads.offers.each u ∙ unparked (offered x.job.program) (map.get x.threads u) (not_parked u mover)
-
-    -- who doesn't move offers what it did
-    same_offer : (u : ℕ) → nat_eq u t ≡ false → is_listed u (movers t row) ≡ false → map.get x.offers.offers u ≡ map.get a.offers.offers u
-    same_offer u apart unlisted =
-        let waiting = λ (q : ProgramParts) (o : Option (Slot ControlView)). option_and_then (waits_with (offered q)) o in
-        after.shown.shows.threads.offers.each u
-        ∙ ap (waiting x.job.program)
-        (moved.others u (isnt_changed t u row (ap (λ b. b || is_listed u (movers t row)) apart ∙ unlisted))
-        ∙ get-changed a.threads t u (λ (slot : Slot ControlView). record slot { state = Leased })
-        ∙ ap (λ b. cond b (option_map (λ (slot : Slot ControlView). record slot { state = Leased }) (map.get a.threads t)) (map.get a.threads u)) apart)
-        ∙ ap (λ j. waiting j.program (map.get a.threads u)) job_left
-        ∙ sym (unlent.shown.shows.threads.offers.each u)
-
-    -- so another thread than t offers nothing on such a channel
-    pub record OffersNothing (c u : ℕ) : Type 0 where
-      pub sends : passes (sends_on c) (map.get x.offers.offers u) ≡ false
-      pub receives : passes (receives_on c) (map.get x.offers.offers u) ≡ false
-
-    unoffered : (c u : ℕ) → map.get a.offers.lines c ≡ None → nat_eq u t ≡ false → OffersNothing c u
-    unoffered c u none apart = by (is_listed u (movers t row)) refl
-      where
-        by : (b : Bool) → is_listed u (movers t row) ≡ b → OffersNothing c u
-        by true mover = record { sends = ap (passes (sends_on c)) (no_offer u mover); receives = ap (passes (receives_on c)) (no_offer u mover) }
-        by false unlisted =
-            let backed : LineBacked c u (map.get a.offers.offers u) None = subst (LineBacked c u (map.get a.offers.offers u)) none (unlent.shown.shows.threads.offers.lines.backed c u) in
-            record { sends = ap (passes (sends_on c)) (same_offer u apart unlisted) ∙ backed.0; receives = ap (passes (receives_on c)) (same_offer u apart unlisted) ∙ backed.1 }
-
-    -- the line of such a channel has t alone, if anybody
-    pub record IsNewLine (c : ℕ) (l : Line) : Type 0 where
-      pub sends : HasOnly t l.sends
-      pub receives : HasOnly t l.receives
-      pub sender : is_listed t l.sends ≡ passes (sends_on c) (map.get x.offers.offers t)
-      pub receiver : is_listed t l.receives ≡ passes (receives_on c) (map.get x.offers.offers t)
-
-    pub new_line : (c : ℕ) (l : Line) → map.get a.offers.lines c ≡ None → map.get x.offers.lines c ≡ Some l → IsNewLine c l
-    new_line c l none found =
-        let once : IsDistinct nat_eq l.sends × IsDistinct nat_eq l.receives = subst (λ (o : Option Line). IfSome o (λ (k : Line). IsDistinct nat_eq k.sends × IsDistinct nat_eq k.receives)) found (after.shown.shows.threads.offers.lines.once c) in
-        record {
-          sends = record { once = once.0; others = λ u apart. (backed u).0 ∙ (unoffered c u none apart).sends };
-          receives = record { once = once.1; others = λ u apart. (backed u).1 ∙ (unoffered c u none apart).receives };
-          sender = (backed t).0;
-          receiver = (backed t).1;
-        }
-      where
-        backed : (u : ℕ) → LineBacked c u (map.get x.offers.offers u) (Some l)
-        backed u = subst (LineBacked c u (map.get x.offers.offers u)) found (after.shown.shows.threads.offers.lines.backed c u)
+    pub new_line : (c : ℕ) (l : Line) → map.get a.offers.lines c ≡ None → map.get x.offers.lines c ≡ Some l → IsNewLine x t c l
+    new_line = joins (leased a t) x turn.lease.worker t progress.steps row moved after.shown same_offer unlent.shown.shows.threads.offers.lines.backed
 
   -- in each case what happened before stays as it was
   pub begins : BeginsWith x.history.events a.history.events

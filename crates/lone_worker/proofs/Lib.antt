@@ -10,6 +10,7 @@ pub mod Turning
 pub mod PureSteps
 pub mod OneAtMost
 pub mod OneDesk
+pub mod NewLine
 pub mod LeftByTurn
 pub mod OneTurn
 pub mod OneStart

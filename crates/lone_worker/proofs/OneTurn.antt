@@ -1,12 +1,12 @@
 -- From one desk a turn leaves one desk.
-use Rattle.std.proofs.Common.{◌≡◌, ◌⊎◌, inl, inr, ℕ, ◌+◌, cond, not, ◌&&◌, List, [], ◌∷◌, ◌++◌, filter, length, Option, Some, None, refl, sym, ap, subst, ◌∙◌}
+use Rattle.std.proofs.Common.{◌≡◌, ◌⊎◌, inl, inr, ℕ, ◌+◌, cond, not, ◌&&◌, [], ◌∷◌, ◌++◌, filter, length, Option, Some, None, refl, sym, ap, subst, ◌∙◌}
 use Rattle.std.specs.Prelude.{is_some, option_map, slice_get}
 use Rattle.std.specs.Cmp.{nat_cmp_total}
 use Rattle.std.specs.FinMap as map
 use Rattle.std.specs.FinMap.{same_map, nat_cmp-IsAntisymmetric}
 use Rattle.std.specs.FinSet as set
 use Rattle.std.proofs.lemmas.Bool.{false≢true}
-use Rattle.linked_lists.specs.Lists.{is_listed, without}
+use Rattle.linked_lists.specs.Lists.{without}
 use Rattle.stab_code.specs.JobParts.{JobParts}
 use Rattle.stab_journal.specs.Journal.{survivors}
 use Rattle.stab_journal.specs.Names.{has}
@@ -15,8 +15,7 @@ use Rattle.stab_journal.specs.Surviving.{run_of}
 use Rattle.thread_slots.specs.declared.state.State.TheVariants.{Ended}
 use Rattle.thread_slots.specs.Ready.{numbers}
 use Rattle.thread_slots.specs.Slot.{Slot, is_in}
-use Rattle.rendezvous.specs.Line.{Line, offered as passes}
-use Rattle.rendezvous.specs.Offer.{receives_on, sends_on}
+use Rattle.rendezvous.specs.Line.{Line}
 use Rattle.restore.specs.Left.{others, without_all}
 use Rattle.plain_language.specs.Expression.{Expr}
 use Rattle.plain_language.specs.Plain.{language_of, look_in}
@@ -34,7 +33,7 @@ use Rattle.commit_book.specs.Undoing.{loses_a_step, undo_by}
 use Rattle.lone_worker.specs.Desk.{Desk, Seat, IsUnlent, desk_of, seat_of}
 use Rattle.lone_worker.specs.Turn.{IsTurnOf, worker}
 use Rattle.lone_worker.proofs.LeftByTurn as left
-use Rattle.lone_worker.proofs.OneAtMost.{HasOnly, one_list}
+use Rattle.lone_worker.proofs.NewLine.{IsNewLine, one_new}
 use Rattle.lone_worker.proofs.Ending.{Moved, TookBack}
 use Rattle.lone_worker.proofs.OneDesk.{each_free, one_desk, one_end, one_ended, one_next, one_offer, one_stand}
 use Rattle.lone_worker.proofs.PureSteps.{AreSame, MakesAll, same_steps}
@@ -194,14 +193,7 @@ module _ (a b x y : BookView) (unlent_a : IsUnlent a) (unlent_b : IsUnlent b) (u
     new_by c none (Some l) (Some m) here there both =
         let one = left.new_line a x unlent_a unlent_x turn_a moved_a c l none here in
         let two = left.new_line b y unlent_b unlent_y turn_b moved_b c m (sym (line_at c) ∙ none) there in
-        let back = λ (ks : List ℕ) (h : HasOnly u ks). subst (λ k. HasOnly k ks) (sym thread) h in
-        let sends = one_list t l.sends m.sends one.sends (back m.sends two.sends)
-        (one.sender ∙ ap (passes (sends_on c)) (offer t) ∙ ap (λ k. passes (sends_on c) (map.get y.offers.offers k)) thread ∙ sym two.sender ∙ ap (λ k. is_listed k m.sends) (sym thread))
-        in
-        let receives = one_list t l.receives m.receives one.receives (back m.receives two.receives)
-        (one.receiver ∙ ap (passes (receives_on c)) (offer t) ∙ ap (λ k. passes (receives_on c) (map.get y.offers.offers k)) thread ∙ sym two.receiver ∙ ap (λ k. is_listed k m.receives) (sym thread))
-        in
-        λ i. Some (record { sends = sends i; receives = receives i })
+        ap Some (one_new x y t c l m (offer t) one (subst (λ k. IsNewLine y k c m) (sym thread) two))
 
     line_by : (c : ℕ) (o : Option Line) → map.get a.offers.lines c ≡ o → map.get x.offers.lines c ≡ map.get y.offers.lines c
     line_by c None none = new_by c none (map.get x.offers.lines c) (map.get y.offers.lines c) refl refl (channel c)

@@ -74,10 +74,10 @@ after_last : (q : ℕ) (run : List Numbered) (es : List Event) (e : Event) → a
 after_last q run [] e = ap (λ k. after_event k e.what run) (omega arith)
 after_last q run (f ∷ es) e = after_last (suc q) (after_event q f.what run) es e ∙ ap (λ k. after_event k e.what (after_events (suc q) (after_event q f.what run) es)) (omega arith)
 
-abbrev locals : ℕ → ℕ → ℕ → List Event
+abbrev pub locals : ℕ → ℕ → ℕ → List Event
 locals w t n = events_by w (local_of t n)
 
-run_begun : (b : BookView) (w t n : ℕ) → survivors b.history ≡ run_of b.history.events → begun b t n ≡ run_of (b.history.events ++ locals w t n)
+pub run_begun : (b : BookView) (w t n : ℕ) → survivors b.history ≡ run_of b.history.events → begun b t n ≡ run_of (b.history.events ++ locals w t n)
 run_begun b w t n left = by (nat_eq n 0)
   where
     by : (z : Bool) → survivors b.history ++ numbered_from (next_seq b) (cond z [] (Local (thread t) n ∷ [])) ≡ run_of (b.history.events ++ events_by w (cond z [] (Local (thread t) n ∷ [])))
@@ -112,11 +112,11 @@ module _ (lent new : BookView) (worker t n m : ℕ) (shown : IsShown lent) (show
   abbrev run : List Numbered
   run = begun lent t n
 
-  may : IsUndoable new.job.program (lent.history.events ++ locals worker t n) t m
+  pub may : IsUndoable new.job.program (lent.history.events ++ locals worker t n) t m
   may =
       undo_last new.job.program new.history.events shown_new.run shown_new.state shown_new.shows.journal.history.stands (lent.history.events ++ locals worker t n) (undo_by worker t m) taken.events
 
-  left : survivors lent.history ≡ run_of lent.history.events
+  pub left : survivors lent.history ≡ run_of lent.history.events
   left = shown.shows.journal.history.left ∙ (stands_run lent.job.program lent.history.events shown.run shown.state shown.shows.journal.history.stands).0
 
   entry : IsEntry t m (begun lent t n)

@@ -37,7 +37,7 @@ module _ (lent new : BookView) (lease : LeaseView) (progress : ProgressView) (is
     moved_commit : IsValid lent.job.program → 1 ≤ lent.job.quantum → Moved lent new lease progress → IsGoodCommit
     moved_commit valid some m = record {
       later = left_later lent new lease progress is.by_one (inl m);
-      free = free lent new lease progress.origin progress shown shown_new is advanced _ refl m.undoes_nothing m.moved;
+      free = free lent new lease progress shown shown_new is.held advanced.made _ refl m.undoes_nothing m.moved is;
       worked = worked;
       nearer = nearer lent lease progress.origin progress valid some is advanced new m.moved;
     }

@@ -9,7 +9,14 @@ pub mod OneStep
 pub mod OneEnd
 pub mod OneFault
 pub mod OneCommit
+pub mod Growing
 pub mod Truth
 pub mod OneAnswer
 pub mod OneSeat
 pub mod OneUndone
+pub mod Moved
+pub mod Raised
+pub mod TrueCommits
+pub mod OneMoved
+pub mod OneMade
+pub mod OneDrill

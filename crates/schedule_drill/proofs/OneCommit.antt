@@ -37,7 +37,8 @@ module _ (p q : ProgramParts) where
       at true = tt
       at false = are
 
-alike_less : (a b x y : Stand) (k : ℕ) → AreAlike a b → desk_of x.book ≡ desk_of y.book → x.book.job ≡ a.book.job → y.book.job ≡ b.book.job → x.out ≡ map.remove a.out k → y.out ≡ map.remove b.out k → AreAlike x y
+-- the same leases are out, and one less
+pub alike_less : (a b x y : Stand) (k : ℕ) → AreAlike a b → desk_of x.book ≡ desk_of y.book → x.book.job ≡ a.book.job → y.book.job ≡ b.book.job → x.out ≡ map.remove a.out k → y.out ≡ map.remove b.out k → AreAlike x y
 alike_less a b x y k alike desk job_x job_y out_x out_y = record {
   desk = desk;
   out = λ u. subst₂ (λ (p q : ProgramParts). AreOne p q (map.get x.out u) (map.get y.out u)) (sym (ap (λ (j : JobParts). j.program) job_x)) (sym (ap (λ (j : JobParts). j.program) job_y))
@@ -110,19 +111,19 @@ module _ (a b x y : Stand) (k : ℕ) (s t : List ℕ) (h i : Held) (alike : AreA
       (told_a ∙ ap (λ n. codes "over " ++ decimal n) weight ∙ sym told_b)
 
   by : (d e : Done) → IsCommitted a.book x.book h.lease ca.progress d → IsCommitted b.book y.book i.lease cb.progress e → s ≡ done_text d → t ≡ done_text e → (IsMadeBy a x s h × IsMadeBy b y t i) ⊎ ((s ≡ t) × AreAlike x y)
-  by (Taken f n) (Taken g o) ia ib told_a told_b = inl (record { progress = ca.progress; done = Taken f n; stepped = ca.stepped; made = ia.2; told = told_a }, record { progress = cb.progress; done = Taken g o; stepped = cb.stepped; made = ib.2; told = told_b })
-  by (Taken f n) (Parked g o) ia ib told_a told_b = inl (record { progress = ca.progress; done = Taken f n; stepped = ca.stepped; made = ia.2; told = told_a }, record { progress = cb.progress; done = Parked g o; stepped = cb.stepped; made = ib.2; told = told_b })
-  by (Taken f n) (Undone g o p q ns) ia ib told_a told_b = inl (record { progress = ca.progress; done = Taken f n; stepped = ca.stepped; made = ia.2; told = told_a }, record { progress = cb.progress; done = Undone g o p q ns; stepped = cb.stepped; made = ib.2; told = told_b })
+  by (Taken f n) (Taken g o) ia ib told_a told_b = inl (record { progress = ca.progress; done = Taken f n; stepped = ca.stepped; current = ia.0; made = ia.2; told = told_a }, record { progress = cb.progress; done = Taken g o; stepped = cb.stepped; current = ib.0; made = ib.2; told = told_b })
+  by (Taken f n) (Parked g o) ia ib told_a told_b = inl (record { progress = ca.progress; done = Taken f n; stepped = ca.stepped; current = ia.0; made = ia.2; told = told_a }, record { progress = cb.progress; done = Parked g o; stepped = cb.stepped; current = ib.0; made = ib.2; told = told_b })
+  by (Taken f n) (Undone g o p q ns) ia ib told_a told_b = inl (record { progress = ca.progress; done = Taken f n; stepped = ca.stepped; current = ia.0; made = ia.2; told = told_a }, record { progress = cb.progress; done = Undone g o p q ns; stepped = cb.stepped; current = ib.0; made = ib.2; told = told_b })
   by (Taken f n) (Stale v z) ia ib told_a told_b = absurd (ib.0 (there ia.0))
   by (Taken f n) (Over z) ia ib told_a told_b = absurd (ia.1 (one_over b.book a.book (sym alike.desk) ib.1))
-  by (Parked f n) (Taken g o) ia ib told_a told_b = inl (record { progress = ca.progress; done = Parked f n; stepped = ca.stepped; made = ia.2; told = told_a }, record { progress = cb.progress; done = Taken g o; stepped = cb.stepped; made = ib.2; told = told_b })
-  by (Parked f n) (Parked g o) ia ib told_a told_b = inl (record { progress = ca.progress; done = Parked f n; stepped = ca.stepped; made = ia.2; told = told_a }, record { progress = cb.progress; done = Parked g o; stepped = cb.stepped; made = ib.2; told = told_b })
-  by (Parked f n) (Undone g o p q ns) ia ib told_a told_b = inl (record { progress = ca.progress; done = Parked f n; stepped = ca.stepped; made = ia.2; told = told_a }, record { progress = cb.progress; done = Undone g o p q ns; stepped = cb.stepped; made = ib.2; told = told_b })
+  by (Parked f n) (Taken g o) ia ib told_a told_b = inl (record { progress = ca.progress; done = Parked f n; stepped = ca.stepped; current = ia.0; made = ia.2; told = told_a }, record { progress = cb.progress; done = Taken g o; stepped = cb.stepped; current = ib.0; made = ib.2; told = told_b })
+  by (Parked f n) (Parked g o) ia ib told_a told_b = inl (record { progress = ca.progress; done = Parked f n; stepped = ca.stepped; current = ia.0; made = ia.2; told = told_a }, record { progress = cb.progress; done = Parked g o; stepped = cb.stepped; current = ib.0; made = ib.2; told = told_b })
+  by (Parked f n) (Undone g o p q ns) ia ib told_a told_b = inl (record { progress = ca.progress; done = Parked f n; stepped = ca.stepped; current = ia.0; made = ia.2; told = told_a }, record { progress = cb.progress; done = Undone g o p q ns; stepped = cb.stepped; current = ib.0; made = ib.2; told = told_b })
   by (Parked f n) (Stale v z) ia ib told_a told_b = absurd (ib.0 (there ia.0))
   by (Parked f n) (Over z) ia ib told_a told_b = absurd (ia.1 (one_over b.book a.book (sym alike.desk) ib.1))
-  by (Undone f n m r ms) (Taken g o) ia ib told_a told_b = inl (record { progress = ca.progress; done = Undone f n m r ms; stepped = ca.stepped; made = ia.2; told = told_a }, record { progress = cb.progress; done = Taken g o; stepped = cb.stepped; made = ib.2; told = told_b })
-  by (Undone f n m r ms) (Parked g o) ia ib told_a told_b = inl (record { progress = ca.progress; done = Undone f n m r ms; stepped = ca.stepped; made = ia.2; told = told_a }, record { progress = cb.progress; done = Parked g o; stepped = cb.stepped; made = ib.2; told = told_b })
-  by (Undone f n m r ms) (Undone g o p q ns) ia ib told_a told_b = inl (record { progress = ca.progress; done = Undone f n m r ms; stepped = ca.stepped; made = ia.2; told = told_a }, record { progress = cb.progress; done = Undone g o p q ns; stepped = cb.stepped; made = ib.2; told = told_b })
+  by (Undone f n m r ms) (Taken g o) ia ib told_a told_b = inl (record { progress = ca.progress; done = Undone f n m r ms; stepped = ca.stepped; current = ia.0; made = ia.2; told = told_a }, record { progress = cb.progress; done = Taken g o; stepped = cb.stepped; current = ib.0; made = ib.2; told = told_b })
+  by (Undone f n m r ms) (Parked g o) ia ib told_a told_b = inl (record { progress = ca.progress; done = Undone f n m r ms; stepped = ca.stepped; current = ia.0; made = ia.2; told = told_a }, record { progress = cb.progress; done = Parked g o; stepped = cb.stepped; current = ib.0; made = ib.2; told = told_b })
+  by (Undone f n m r ms) (Undone g o p q ns) ia ib told_a told_b = inl (record { progress = ca.progress; done = Undone f n m r ms; stepped = ca.stepped; current = ia.0; made = ia.2; told = told_a }, record { progress = cb.progress; done = Undone g o p q ns; stepped = cb.stepped; current = ib.0; made = ib.2; told = told_b })
   by (Undone f n m r ms) (Stale v z) ia ib told_a told_b = absurd (ib.0 (there ia.0))
   by (Undone f n m r ms) (Over z) ia ib told_a told_b = absurd (ia.1 (one_over b.book a.book (sym alike.desk) ib.1))
   by (Stale l w) (Taken g o) ia ib told_a told_b = absurd (ia.0 (here ib.0))

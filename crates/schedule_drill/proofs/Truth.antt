@@ -1,5 +1,5 @@
 -- What stays true of the leases that are out in a drill: a thread that wasn't put back since it was lent is as it was lent.
-use Rattle.std.proofs.Common.{◌≡◌, ℕ, ◌<◌, ◌≤◌, Bool, true, false, cond, nat_eq, List, Option, Some, None, refl, sym, ap, subst, ◌∙◌, arith}
+use Rattle.std.proofs.Common.{◌≡◌, ℕ, ◌<◌, ◌≤◌, Bool, true, false, cond, nat_eq, List, [], ◌∷◌, ◌++◌, Option, Some, None, refl, sym, ap, subst, subst₂, ◌∙◌, arith}
 use Rattle.std.specs.Prelude.{IfSome, option_map}
 use Rattle.std.specs.FinMap as map
 use Rattle.std.specs.FinMap.{get-empty}
@@ -7,15 +7,21 @@ use Rattle.std.specs.Cmp.{nat_eq_equiv}
 use Rattle.std.specs.Ordering.{nat_cmp}
 use Rattle.std.specs.Option.{option_map_or}
 use Rattle.std.proofs.lemmas.Bool.{false≢true, eqb-true}
+use Rattle.stab_code.specs.JobParts.{JobParts}
+use Rattle.stab_journal.specs.declared.event.What.TheVariants as what
+use Rattle.stab_journal.specs.Generation.{generation}
 use Rattle.thread_slots.specs.declared.state.State.TheVariants.{Ready, Leased}
 use Rattle.thread_slots.specs.Slot.{Slot, same_state}
+use Rattle.plain_language.specs.Standing.{event}
 use Rattle.plain_language.proofs.Applying.{get_inserted}
 use Rattle.journal_laws.proofs.Surviving.{some_is, some_none}
 use Rattle.step_eval.specs.ControlView.{ControlView}
+use Rattle.step_eval.specs.Progress.{Advances, ProgressView}
 use Rattle.commit_book.specs.declared.turn.Turn.{Turn}
 use Rattle.commit_book.specs.declared.turn.Turn.TheVariants.{Work, Idle, Quiet, Spent, Release}
 use Rattle.commit_book.specs.Book.{BookView, IsShown}
 use Rattle.commit_book.specs.Leases.{LeaseView}
+use Rattle.commit_book.specs.Releases.{IsReleased, finals}
 use Rattle.commit_book.specs.Turns.{IsLeaseOf}
 use Rattle.commit_book.proofs.Choosing.{chosen_front}
 use Rattle.commit_book.proofs.Holding.{low}
@@ -25,16 +31,17 @@ use Rattle.commit_book.proofs.Partners.{IsThere, there_of}
 use Rattle.schedule_drill.specs.declared.held.At.{At}
 use Rattle.schedule_drill.specs.declared.held.At.TheVariants.{Lent, Stepped}
 use Rattle.schedule_drill.specs.declared.held.Held.{Held}
-use Rattle.schedule_drill.specs.Alike.{AreTrue, IsHeldTruly, IsStillLent, origin_of}
-use Rattle.schedule_drill.specs.Out.{Out}
-use Rattle.schedule_drill.specs.Played.{IsLeased, IsStep, IsTaken, Stand}
+use Rattle.schedule_drill.specs.Alike.{AreTrue, HasMade, IsHeldTruly, IsStillLent, origin_of}
+use Rattle.schedule_drill.specs.Out.{IsStepped, Out}
+use Rattle.schedule_drill.specs.Played.{IsLeased, IsStep, IsTaken, Stand, stand}
+use Rattle.schedule_drill.proofs.Growing.{generation_grows}
 use Rattle.schedule_drill.proofs.OneStep.{stepped_origin}
 
-if_some : {X : Type 0} (o : Option X) (P Q : X → Type 0) → ((x : X) → P x → Q x) → IfSome o P → IfSome o Q
+pub if_some : {X : Type 0} (o : Option X) (P Q : X → Type 0) → ((x : X) → P x → Q x) → IfSome o P → IfSome o Q
 if_some None P Q f h = tt
 if_some (Some x) P Q f h = f x h
 
-of_found : {X : Type 0} (o : Option X) (x : X) (P : X → Type 0) → o ≡ Some x → IfSome o P → P x
+pub of_found : {X : Type 0} (o : Option X) (x : X) (P : X → Type 0) → o ≡ Some x → IfSome o P → P x
 of_found o x P is h = subst (λ r. IfSome r P) is h
 
 -- none is out
@@ -47,23 +54,31 @@ none_true s none = record {
     nothing : (k : ℕ) → map.get s.out k ≡ None
     nothing k = ap (λ (o : Out). map.get o k) none ∙ get-empty nat_cmp k
 
--- where the threads stay and the same leases are out
-kept_true : (old new : Stand) → new.book.threads ≡ old.book.threads → new.book.next ≡ old.book.next → new.out ≡ old.out → AreTrue old → AreTrue new
-kept_true old new threads next out is = record {
-  held = λ k. subst (λ (o : Out). IfSome (map.get o k) (IsHeldTruly new.book)) (sym out) (if_some (map.get old.out k) (IsHeldTruly old.book) (IsHeldTruly new.book) as_before (is.held k));
-  apart = λ j k h i e f. is.apart j k h i (ap (λ (o : Out). map.get o j) (sym out) ∙ e) (ap (λ (o : Out). map.get o k) (sym out) ∙ f);
+-- where nothing changes
+same_true : (old new : Stand) → new.book ≡ old.book → new.out ≡ old.out → AreTrue old → AreTrue new
+same_true old new book out is = subst₂ (λ (b : BookView) (o : Out). AreTrue (stand b o)) (sym book) (sym out) is
+
+-- where values are released
+abbrev after : BookView → ℕ → BookView
+after b w = record b { history = record b.history { events = b.history.events ++ event w (what.Release (finals b)) ∷ [] } }
+
+released_true : (old new : Stand) (k : ℕ) → IsReleased old.book new.book k → new.out ≡ old.out → AreTrue old → AreTrue new
+released_true old new k released out is = record {
+  held = λ u. subst₂ (λ (b : BookView) (o : Out). IfSome (map.get o u) (IsHeldTruly b)) (sym released) (sym out) (if_some (map.get old.out u) (IsHeldTruly old.book) (IsHeldTruly (after old.book k)) as_before (is.held u));
+  apart = λ j u h i e f. is.apart j u h i (ap (λ (o : Out). map.get o j) (sym out) ∙ e) (ap (λ (o : Out). map.get o u) (sym out) ∙ f);
 }
   where
-    as_before : (h : Held) → IsHeldTruly old.book h → IsHeldTruly new.book h
-    as_before h true_h = record {
-      known = subst (λ n. h.lease.thread < n) (ap (λ n. n.thread) (sym next)) true_h.known;
-      older = subst (λ m. IfSome (map.get m h.lease.thread) (λ slot. h.lease.generation ≤ slot.generation)) (sym threads) true_h.older;
-      still = subst (λ m. IfSome (map.get m h.lease.thread) (IsStillLent h)) (sym threads) true_h.still;
+    as_before : (h : Held) → IsHeldTruly old.book h → IsHeldTruly (after old.book k) h
+    as_before h was = record {
+      known = was.known;
+      older = let o = was.older in let g = generation_grows h.lease.thread old.book.history.events (event k (what.Release (finals old.book)) ∷ []) in omega (arith, o, g);
+      still = was.still;
+      made = was.made;
     }
 
 -- ---- one lease stands elsewhere
 
-module _ (old new : Stand) (k : ℕ) (h : Held) (at : At) (found : map.get old.out k ≡ Some h) (same : origin_of at ≡ origin_of h.at) (book : new.book ≡ old.book) (out : new.out ≡ map.insert old.out k (record h { at = at })) (is : AreTrue old) where
+module _ (old new : Stand) (k : ℕ) (h : Held) (at : At) (found : map.get old.out k ≡ Some h) (same : origin_of at ≡ origin_of h.at) (made : HasMade old.book.job.program at) (book : new.book ≡ old.book) (out : new.out ≡ map.insert old.out k (record h { at = at })) (is : AreTrue old) where
   there : (u : ℕ) → map.get new.out u ≡ cond (nat_eq u k) (Some (record h { at = at })) (map.get old.out u)
   there u = ap (λ (o : Out). map.get o u) out ∙ get_inserted old.out k (record h { at = at }) u
 
@@ -91,6 +106,7 @@ module _ (old new : Stand) (k : ℕ) (h : Held) (at : At) (found : map.get old.o
         known = before.known;
         older = before.older;
         still = if_some (map.get old.book.threads h.lease.thread) (IsStillLent h) (IsStillLent (record h { at = at })) (λ slot still now. ((still now).0, (still now).1 ∙ sym same)) before.still;
+        made = made;
       }
   truly u false other = is.held u
 
@@ -105,8 +121,15 @@ module _ (old new : Stand) (k : ℕ) (h : Held) (at : At) (found : map.get old.o
         (ap (λ (l : LeaseView). l.generation) a.lease ∙ generation ∙ sym (ap (λ (l : LeaseView). l.generation) b.lease));
   }
 
+-- the steps of a lease were made
+pub stepped_made : (job : JobParts) (at : At) (f : ProgressView) → HasMade job.program at → IsStepped job at f → Advances job.program f.origin f.steps f.end
+stepped_made job (Lent control) f made is = is.made
+stepped_made job (Stepped m) f made is = subst (λ (g : ProgressView). Advances job.program g.origin g.steps g.end) (sym is) made
+
 pub step_true : (old new : Stand) (k : ℕ) (what : List ℕ) (h : Held) → map.get old.out k ≡ Some h → IsStep old new k what h → AreTrue old → AreTrue new
-step_true old new k what h found step is = still_true old new k h (Stepped step.progress) found (stepped_origin old.book.job h.at step.progress step.stepped) step.book step.out is
+step_true old new k what h found step is =
+    let before = of_found (map.get old.out k) h (IsHeldTruly old.book) found (is.held k) in
+    still_true old new k h (Stepped step.progress) found (stepped_origin old.book.job h.at step.progress step.stepped) (stepped_made old.book.job h.at step.progress before.made step.stepped) step.book step.out is
 
 -- ---- a thread is lent
 
@@ -138,20 +161,21 @@ module _ (old new : Stand) (k : ℕ) (l : LeaseView) (c : ControlView) (shown : 
   next : new.book.next.thread ≡ old.book.next.thread
   next = ap (λ (b : BookView). b.next.thread) taken.0.2
 
+  events : new.book.history.events ≡ old.book.history.events
+  events = ap (λ (b : BookView). b.history.events) taken.0.2
+
+  program : new.book.job.program ≡ old.book.job.program
+  program = ap (λ (b : BookView). b.job.program) taken.0.2
+
   -- the others stay true
   other_true : (h : Held) → IsHeldTruly old.book h → IsHeldTruly new.book h
   other_true h was = record {
     known = subst (λ n. h.lease.thread < n) (sym next) was.known;
-    older = subst (λ o. IfSome o (λ (slot : Slot ControlView). h.lease.generation ≤ slot.generation)) (sym (slot_in h.lease.thread)) (older (nat_eq h.lease.thread l.thread) refl);
+    older = subst (λ es. h.lease.generation ≤ generation h.lease.thread es) (sym events) was.older;
     still = subst (λ o. IfSome o (IsStillLent h)) (sym (slot_in h.lease.thread)) (still (nat_eq h.lease.thread l.thread) refl);
+    made = subst (λ p. HasMade p h.at) (sym program) was.made;
   }
     where
-      older : (b : Bool) → nat_eq h.lease.thread l.thread ≡ b → IfSome (cond b (option_map to_leased (map.get old.book.threads l.thread)) (map.get old.book.threads h.lease.thread)) (λ (slot : Slot ControlView). h.lease.generation ≤ slot.generation)
-      older true same =
-          subst (λ o. IfSome (option_map to_leased o) (λ (slot : Slot ControlView). h.lease.generation ≤ slot.generation)) (sym here.found)
-          (of_found (map.get old.book.threads h.lease.thread) here.value (λ (slot : Slot ControlView). h.lease.generation ≤ slot.generation) (ap (map.get old.book.threads) (eqb-true h.lease.thread l.thread same) ∙ here.found) was.older)
-      older false apart = was.older
-
       still : (b : Bool) → nat_eq h.lease.thread l.thread ≡ b → IfSome (cond b (option_map to_leased (map.get old.book.threads l.thread)) (map.get old.book.threads h.lease.thread)) (IsStillLent h)
       still true same =
           subst (λ o. IfSome (option_map to_leased o) (IsStillLent h)) (sym here.found)
@@ -162,10 +186,14 @@ module _ (old new : Stand) (k : ℕ) (l : LeaseView) (c : ControlView) (shown : 
   lent_true : IsHeldTruly new.book lent
   lent_true = record {
     known = subst (λ n. l.thread < n) (sym next) (low old.book shown l.thread here.value here.found);
-    older = subst (λ o. IfSome o (λ (slot : Slot ControlView). l.generation ≤ slot.generation)) (sym at_lent) (let g = here.is.generation in omega (arith, g));
+    older = subst (λ es. l.generation ≤ generation l.thread es) (sym events) (let g = here.is.generation in omega (arith, g, now));
     still = subst (λ o. IfSome o (IsStillLent lent)) (sym at_lent) (λ now. (refl, sym here.is.control));
+    made = tt;
   }
     where
+      now : here.value.generation ≡ generation l.thread old.book.history.events
+      now = of_found (map.get old.book.threads l.thread) here.value (λ (slot : Slot ControlView). slot.generation ≡ generation l.thread old.book.history.events) here.found (shown.shows.threads.generations l.thread)
+
       at_lent : map.get new.book.threads l.thread ≡ Some (to_leased here.value)
       at_lent = slot_in l.thread ∙ ap (λ b. cond b (option_map to_leased (map.get old.book.threads l.thread)) (map.get old.book.threads l.thread)) (nat_eq_equiv.refl l.thread) ∙ ap (option_map to_leased) here.found
 
@@ -196,10 +224,10 @@ module _ (old new : Stand) (k : ℕ) (l : LeaseView) (c : ControlView) (shown : 
 
 taken_true : (old new : Stand) (k : ℕ) (turn : Turn) → IsShown old.book → IsTaken old new k turn → AreTrue old → AreTrue new
 taken_true old new k (Work l c) shown taken is = work_true old new k l c shown taken is
-taken_true old new k Idle shown taken is = kept_true old new (ap (λ (b : BookView). b.threads) taken.0.1) (ap (λ (b : BookView). b.next) taken.0.1) taken.1 is
-taken_true old new k Quiet shown taken is = kept_true old new (ap (λ (b : BookView). b.threads) taken.0.1) (ap (λ (b : BookView). b.next) taken.0.1) taken.1 is
-taken_true old new k Spent shown taken is = kept_true old new (ap (λ (b : BookView). b.threads) taken.0.1) (ap (λ (b : BookView). b.next) taken.0.1) taken.1 is
-taken_true old new k Release shown taken is = kept_true old new (ap (λ (b : BookView). b.threads) taken.1) (ap (λ (b : BookView). b.next) taken.1) taken.2 is
+taken_true old new k Idle shown taken is = same_true old new taken.0.1 taken.1 is
+taken_true old new k Quiet shown taken is = same_true old new taken.0.1 taken.1 is
+taken_true old new k Spent shown taken is = same_true old new taken.0.1 taken.1 is
+taken_true old new k Release shown taken is = released_true old new k taken.1 taken.2 is
 
 pub lease_true : (old new : Stand) (k : ℕ) (what : List ℕ) → IsShown old.book → IsLeased old new k what → AreTrue old → AreTrue new
 lease_true old new k what shown leased is = taken_true old new k leased.turn shown leased.taken is

@@ -2,13 +2,14 @@
 use Rattle.std.specs.Prelude.{◌≡◌, ℕ, ◌<◌, ◌≤◌, List, Option, Some, None, IfSome}
 use Rattle.std.specs.FinMap as map
 use Rattle.stab_code.specs.Program.{ProgramParts}
+use Rattle.stab_journal.specs.Generation.{generation}
 use Rattle.thread_slots.specs.declared.state.State.TheVariants.{Leased}
 use Rattle.thread_slots.specs.Slot.{Slot}
 use Rattle.step_eval.specs.ControlView.{ControlView, expr_of}
-use Rattle.step_eval.specs.Progress.{ProgressView}
+use Rattle.step_eval.specs.Progress.{Advances, ProgressView}
 use Rattle.commit_book.specs.declared.done.Done.{Done}
 use Rattle.commit_book.specs.Book.{BookView}
-use Rattle.commit_book.specs.Commits.{IsMade, row_at}
+use Rattle.commit_book.specs.Commits.{IsCurrent, IsMade, row_at}
 use Rattle.lone_worker.specs.Desk.{desk_of}
 use Rattle.schedule_drill.specs.declared.held.At.{At}
 use Rattle.schedule_drill.specs.declared.held.At.TheVariants.{Lent, Stepped}
@@ -43,11 +44,17 @@ origin_of (Stepped progress) = progress.origin
 abbrev pub IsStillLent : Held → Slot ControlView → Type 0
 IsStillLent h slot = slot.generation ≡ h.lease.generation → (slot.state ≡ Leased) × (slot.control ≡ origin_of h.at)
 
+-- a thread that is said to have made its pure steps made them
+abbrev pub HasMade : ProgramParts → At → Type 0
+HasMade p (Lent control) = Unit {0}
+HasMade p (Stepped progress) = Advances p progress.origin progress.steps progress.end
+
 -- the commit of a lease that is out was made
 pub record IsMadeBy (old new : Stand) (what : List ℕ) (h : Held) : Type 0 where
   pub progress : ProgressView
   pub done : Done
   pub stepped : IsStepped old.book.job h.at progress
+  pub current : IsCurrent old.book.threads h.lease progress.origin
   pub made : IsMade old.book new.book h.lease progress (row_at old.book h.lease progress) done
   pub told : what ≡ done_text done
 
@@ -56,11 +63,12 @@ pub record AreAlike (a b : Stand) : Type 0 where
   pub desk : desk_of a.book ≡ desk_of b.book
   pub out : (k : ℕ) → AreOne a.book.job.program b.book.job.program (map.get a.out k) (map.get b.out k)
 
--- what is true of a lease that is out: its thread was there, and was put back as often as then, or more often; in the one case it is as it was lent
+-- what is true of a lease that is out: its thread has a number, and was put back as often as then, or more often; if it is there and was put back as often, it is as it was lent; and it made the steps that it is said to have made
 pub record IsHeldTruly (b : BookView) (h : Held) : Type 0 where
   pub known : h.lease.thread < b.next.thread
-  pub older : IfSome (map.get b.threads h.lease.thread) (λ slot. h.lease.generation ≤ slot.generation)
+  pub older : h.lease.generation ≤ generation h.lease.thread b.history.events
   pub still : IfSome (map.get b.threads h.lease.thread) (IsStillLent h)
+  pub made : HasMade b.job.program h.at
 
 -- the same of all leases that are out; no two are of one thread that was put back as often
 pub record AreTrue (s : Stand) : Type 0 where

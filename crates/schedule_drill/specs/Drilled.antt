@@ -46,6 +46,11 @@ abbrev pub IsFaultOf : Out → Line → DrillFault → Type 0
 IsFaultOf out line NoMemory = Unit {0}
 IsFaultOf out line fault = fault_at out line ≡ Some fault
 
+-- the script can't be played, however much memory there is
+abbrev pub IsOfScript : DrillFault → Type 0
+IsOfScript NoMemory = ⊥
+IsOfScript fault = Unit {0}
+
 -- the lines before one that can't be played were played
 pub record StopsAt (old : Stand) (script : List Line) (fault : DrillFault) : Type 0 where
   pub before : List Line

@@ -3,15 +3,15 @@
 
 ghost use Rattle.std.specs.Prelude.{◌≡◌, ◌⊎◌, ℕ, List, IfSome, Some};
 ghost use Rattle.std.specs.FinMap as map;
-ghost use Rattle.commit_book.specs.Book.{IsShown};
-ghost use Rattle.commit_book.specs.Commits.{row_at};
-ghost use Rattle.commit_book.specs.Rows.{undoes};
+ghost use Rattle.stab_code.specs.JobParts.{JobParts};
+ghost use Rattle.commit_book.specs.Book.{BookView, IsShown};
 ghost use Rattle.lone_worker.specs.Desk.{desk_of};
 ghost use Rattle.drill_text.specs.declared.script.Line.{Line};
-ghost use Rattle.schedule_drill.specs.Alike.{AreAlike, AreTrue, IsMadeBy, IsOneHeld, IsStillLent};
-ghost use Rattle.schedule_drill.specs.Drilled.{fault_at};
+ghost use Rattle.schedule_drill.specs.Alike.{AreAlike, AreTrue, IsHeldTruly, IsMadeBy, IsOneHeld, IsStillLent};
+ghost use Rattle.schedule_drill.specs.Drilled.{IsDrilled, IsOfScript, IsRefused, fault_at};
 ghost use Rattle.schedule_drill.specs.Out.{all_given_back};
 ghost use Rattle.schedule_drill.specs.Played.{IsCommit, IsLeased, IsStep, Stand};
+ghost use Rattle.schedule_drill.specs.declared.fault.DrillFault.{DrillFault};
 ghost use Rattle.schedule_drill.specs.declared.held.Held.{Held};
 
 /// At alike stands a lease tells the same, and leaves alike stands.
@@ -43,12 +43,11 @@ pub fn one_answer()
         → IsOneHeld a.book.job.program b.book.job.program h i → IsMadeBy a x s h → IsMadeBy b y t i → s ≡ t }
 {}
 
-/// Where one of these takes a section back, the books are left with one desk.
-pub fn one_undo()
-    ensures { (a b x y : Stand) (s t : List ℕ) (h i : Held) (m : ℕ) → AreAlike a b
-        → IsShown a.book → IsShown b.book → IsShown x.book → IsShown y.book
-        → IsOneHeld a.book.job.program b.book.job.program h i → (made : IsMadeBy a x s h) → IsMadeBy b y t i
-        → row_at a.book h.lease made.progress ≡ undoes m → desk_of x.book ≡ desk_of y.book }
+/// Where what is true of leases that are out is true of both, these leave the books with one desk.
+pub fn one_made()
+    ensures { (a b x y : Stand) (s t : List ℕ) (h i : Held) → AreAlike a b
+        → IsShown a.book → IsShown b.book → IsShown x.book → IsShown y.book → IsHeldTruly a.book h → IsHeldTruly b.book i
+        → IsOneHeld a.book.job.program b.book.job.program h i → IsMadeBy a x s h → IsMadeBy b y t i → desk_of x.book ≡ desk_of y.book }
 {}
 
 /// At alike stands the same lines can't be played, for the same reasons.
@@ -56,15 +55,31 @@ pub fn one_fault()
     ensures { (a b : Stand) (line : Line) → AreAlike a b → fault_at a.out line ≡ fault_at b.out line }
 {}
 
-/// A thread that wasn't put back since it was lent is as it was lent: that is true at first, and stays so over leases and steps.
+/// A thread that wasn't put back since it was lent is as it was lent: that is true at first, and stays so over leases, steps and
+/// commits.
 pub fn leases_stay_true()
     ensures first { (s : Stand) → s.out ≡ map.empty → AreTrue s }
     ensures lease { (a x : Stand) (k : ℕ) (s : List ℕ) → IsShown a.book → IsLeased a x k s → AreTrue a → AreTrue x }
     ensures step { (a x : Stand) (k : ℕ) (s : List ℕ) (h : Held) → map.get a.out k ≡ Some h → IsStep a x k s h → AreTrue a → AreTrue x }
+    ensures commit { (a x : Stand) (k : ℕ) (s : List ℕ) (h : Held) → IsShown a.book → IsShown x.book
+        → map.get a.out k ≡ Some h → IsCommit a x k s h → AreTrue a → AreTrue x }
 {}
 
 /// Once all leases that are out at alike stands were given back, the books have one desk.
 pub fn one_end()
     ensures { (a b : Stand) → AreAlike a b
         → desk_of (all_given_back a.book (map.values a.out)) ≡ desk_of (all_given_back b.book (map.values b.out)) }
+{}
+
+/// So a drill is a function of its job and of the lines of its script: what is written, and the desk of the book at the end, or
+/// else why the script can't be played. Only memory may be wanted beside that.
+pub fn one_drill()
+    ensures text { (job : JobParts) (script : List Line) (s t : List ℕ) (a b : BookView)
+        → IsDrilled job script s a → IsDrilled job script t b → s ≡ t }
+    ensures desk { (job : JobParts) (script : List Line) (s t : List ℕ) (a b : BookView)
+        → IsDrilled job script s a → IsDrilled job script t b → desk_of a ≡ desk_of b }
+    ensures reason { (job : JobParts) (script : List Line) (f g : DrillFault) → IsOfScript f → IsOfScript g
+        → IsRefused job script f → IsRefused job script g → f ≡ g }
+    ensures apart { (job : JobParts) (script : List Line) (text : List ℕ) (book : BookView) (f : DrillFault) → IsOfScript f
+        → IsDrilled job script text book → IsRefused job script f → ⊥ }
 {}

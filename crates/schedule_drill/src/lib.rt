@@ -11,7 +11,8 @@ mod whole;
 
 pub use fault::DrillFault;
 pub use laws::{
-    leases_stay_true, one_answer, one_end, one_fault, one_late, one_lease, one_step, one_undo,
+    leases_stay_true, one_answer, one_drill, one_end, one_fault, one_late, one_lease, one_made,
+    one_step,
 };
 pub use whole::{DrillEnd, drill};
 
