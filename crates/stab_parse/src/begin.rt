@@ -1,12 +1,12 @@
 //! What a token does where a form may begin, and behind the first token of a form.
 ghost use Rattle.std.specs.Prelude.{◌≡◌, ◌<◌, ◌≤◌, ◌^◌, [], neg_ℤ, pos, IfOk, IfErr};
-ghost use Rattle.stab_parse.specs.Moves.{begins, bracket, call_open, complete, else_read, ends, in_items, is_close_brace, is_close_paren, is_else, is_let, is_open_paren, let_named, let_read, named, negative_of, opened, outcome, owed_in, paren, paren_end, paren_in, pushed, settled_outcome, signed, signed_by, then_read, word_read};
+ghost use Rattle.stab_parse.specs.Moves.{begins, call_open, complete, else_read, ends, in_items, is_close_brace, is_close_paren, is_else, is_let, is_open_paren, let_named, let_read, named, negative_of, opened, outcome, owed_in, pushed, settled_outcome, signed, signed_by, then_read};
 ghost use Rattle.stab_parse.specs.Symbols.{IsSmall};
 
 use crate::fault::ParseFault;
 use crate::frame::{BlockPlace, Callee, Frame, Phase, Seen};
 use crate::reader::{Reader, Step};
-use crate::symbol::{CallWord, Span, Symbol};
+use crate::symbol::{Span, Symbol};
 use crate::tree::{Head, Lets};
 use std::alloc::Global;
 
@@ -61,6 +61,7 @@ fn negative(symbol: Symbol) -> Option<i64>
 
 impl Reader {
     /// Pushes a frame.
+    #[inline(never)]
     pub(crate) fn push(&mut self, frame: Frame) -> Result<(), ParseFault>
         ensures ok { IfOk result (λ _. self.new ≡ pushed frame self.old) }
         ensures fault { IfErr result (λ fault. fault ≡ ParseFault.NoMemory) }
@@ -69,7 +70,7 @@ impl Reader {
     }
 
     /// A form that isn't an operation is complete, and may go on.
-    fn leaf(&mut self, head: Head, at: u32) -> Result<Step, ParseFault>
+    pub(crate) fn leaf(&mut self, head: Head, at: u32) -> Result<Step, ParseFault>
         ensures ok { IfOk result (λ step. outcome step self.new
             ≡ settled_outcome (complete head 0 at 0 self.old)) }
         ensures fault { IfErr result (λ fault. fault ≡ ParseFault.NoMemory) }
@@ -243,79 +244,6 @@ impl Reader {
                 self.push(Frame::Condition(span.start))?;
                 Ok(Step::Opens(Phase::Owes))
             }
-            _ => Ok(Step::Refused),
-        }
-    }
-
-    /// The bracket behind a word, with the frame that it opens.
-    #[inline(never)]
-    pub(crate) fn bracket(&mut self, frame: Frame, symbol: Symbol) -> Result<Step, ParseFault>
-        ensures ok { IfOk result (λ step. outcome step self.new ≡ bracket frame symbol self.old) }
-        ensures fault { IfErr result (λ fault. fault ≡ ParseFault.NoMemory) }
-    {
-        match symbol {
-            Symbol::OpenBracket => {
-                self.push(frame)?;
-                Ok(Step::Opens(Phase::OwesType))
-            }
-            _ => Ok(Step::Refused),
-        }
-    }
-
-    #[inline(never)]
-    pub(crate) fn paren(&mut self, next: Phase, symbol: Symbol) -> Result<Step, ParseFault>
-        ensures ok { IfOk result (λ step. outcome step self.new ≡ paren next symbol self.old) }
-        ensures fault { IfErr result (λ fault. fault ≡ ParseFault.NoMemory) }
-    {
-        match symbol {
-            Symbol::OpenParen => Ok(Step::Opens(next)),
-            _ => Ok(Step::Refused),
-        }
-    }
-
-    #[inline(never)]
-    pub(crate) fn paren_in(&mut self, frame: Frame, symbol: Symbol) -> Result<Step, ParseFault>
-        ensures ok { IfOk result (λ step. outcome step self.new ≡ paren_in frame symbol self.old) }
-        ensures fault { IfErr result (λ fault. fault ≡ ParseFault.NoMemory) }
-    {
-        match symbol {
-            Symbol::OpenParen => {
-                self.push(frame)?;
-                Ok(Step::Opens(Phase::Owes))
-            }
-            _ => Ok(Step::Refused),
-        }
-    }
-
-    #[inline(never)]
-    pub(crate) fn paren_end(
-        &mut self,
-        head: Head,
-        at: u32,
-        symbol: Symbol,
-    ) -> Result<Step, ParseFault>
-        ensures ok { IfOk result (λ step. outcome step self.new ≡ paren_end head at symbol self.old) }
-        ensures fault { IfErr result (λ fault. fault ≡ ParseFault.NoMemory) }
-    {
-        match symbol {
-            Symbol::CloseParen => self.leaf(head, at),
-            _ => Ok(Step::Refused),
-        }
-    }
-
-    #[inline(never)]
-    pub(crate) fn word_read(
-        &mut self,
-        word: CallWord,
-        at: u32,
-        symbol: Symbol,
-        span: Span,
-    ) -> Result<Step, ParseFault>
-        ensures ok { IfOk result (λ step. outcome step self.new ≡ word_read word at symbol span self.old) }
-        ensures fault { IfErr result (λ fault. fault ≡ ParseFault.NoMemory) }
-    {
-        match symbol {
-            Symbol::Name => Ok(Step::Goes(Phase::WordNamed(word, at, span))),
             _ => Ok(Step::Refused),
         }
     }

@@ -2,7 +2,7 @@
 //! locals of all.
 ghost use Rattle.std.specs.Prelude.{◌≡◌, List, Option, IfOk, IfErr};
 ghost use Rattle.stab_parse.specs.Frames.{top_of};
-ghost use Rattle.stab_parse.specs.Moves.{behind, behind_top, block_done, block_in, call_done, close_brace, close_paren, comma, end_items, ends, first_of_call, head_of_call, item, item_in, open_brace, operator, outcome, owed_in, popped, relation_top, semicolon, settled, settled_outcome, whole_and, whole_expr, whole_sum};
+ghost use Rattle.stab_parse.specs.Moves.{behind, behind_top, block_done, block_in, call_done, close_brace, close_paren, closes, comma, end_items, ends, first_of_call, head_of_call, item, item_in, open_brace, operator, outcome, owed_in, popped, relation, relation_top, semicolon, settled, settled_outcome, whole_and, whole_expr, whole_sum};
 
 use crate::fault::ParseFault;
 use crate::frame::{BlockPlace, Callee, Frame, Level, Phase, Seen};
@@ -38,6 +38,7 @@ fn call_place(callee: Callee) -> u32
 
 impl Reader {
     /// Pushes a frame in which a form is owed.
+    #[inline(always)]
     pub(crate) fn owed_in(&mut self, frame: Frame) -> Result<Step, ParseFault>
         ensures ok { IfOk result (λ step. outcome step self.new ≡ owed_in frame self.old) }
         ensures fault { IfErr result (λ fault. fault ≡ ParseFault.NoMemory) }
@@ -309,6 +310,7 @@ impl Reader {
         self.join(Level::Or, and)
     }
 
+    #[inline(always)]
     fn operator(&mut self, level: Level, op: Op, left: Seen) -> Result<Step, ParseFault>
         ensures ok { IfOk result (λ step. outcome step self.new ≡ operator level op (settled left self.old)) }
         ensures fault { IfErr result (λ fault. fault ≡ ParseFault.NoMemory) }
@@ -333,6 +335,58 @@ impl Reader {
         self.operator(Level::Relation, op, left)
     }
 
+    #[inline(always)]
+    fn sum(&mut self, op: Op, seen: Seen) -> Result<Step, ParseFault>
+        ensures ok { IfOk result (λ step. outcome step self.new ≡ operator Level.Sum op (whole_sum seen self.old)) }
+        ensures fault { IfErr result (λ fault. fault ≡ ParseFault.NoMemory) }
+    {
+        let left = self.whole_sum(seen)?;
+        self.operator(Level::Sum, op, left)
+    }
+
+    #[inline(never)]
+    fn compared(&mut self, op: Op, seen: Seen) -> Result<Step, ParseFault>
+        ensures ok { IfOk result (λ step. outcome step self.new ≡ relation op (whole_sum seen self.old)) }
+        ensures fault { IfErr result (λ fault. fault ≡ ParseFault.NoMemory) }
+    {
+        let left = self.whole_sum(seen)?;
+        self.relation(op, left)
+    }
+
+    #[inline(never)]
+    fn and(&mut self, seen: Seen) -> Result<Step, ParseFault>
+        ensures ok { IfOk result (λ step. outcome step self.new ≡ operator Level.And Op.And (whole_and seen self.old)) }
+        ensures fault { IfErr result (λ fault. fault ≡ ParseFault.NoMemory) }
+    {
+        let left = self.whole_and(seen)?;
+        self.operator(Level::And, Op::And, left)
+    }
+
+    #[inline(never)]
+    fn or(&mut self, seen: Seen) -> Result<Step, ParseFault>
+        ensures ok { IfOk result (λ step. outcome step self.new ≡ operator Level.Or Op.Or (whole_expr seen self.old)) }
+        ensures fault { IfErr result (λ fault. fault ≡ ParseFault.NoMemory) }
+    {
+        let left = self.whole_expr(seen)?;
+        self.operator(Level::Or, Op::Or, left)
+    }
+
+    /// A token behind a whole expression.
+    #[inline(never)]
+    fn closes(
+        &mut self,
+        alloc: Global,
+        symbol: Symbol,
+        span: Span,
+        seen: Seen,
+    ) -> Result<Step, ParseFault>
+        ensures ok { IfOk result (λ step. outcome step self.new ≡ closes symbol span (whole_expr seen self.old)) }
+        ensures fault { IfErr result (λ fault. fault ≡ ParseFault.NoMemory) }
+    {
+        let whole = self.whole_expr(seen)?;
+        self.behind_top(alloc, symbol, span, whole)
+    }
+
     /// A token behind a term.
     #[inline(never)]
     pub(crate) fn ends(
@@ -347,34 +401,16 @@ impl Reader {
     {
         match symbol {
             Symbol::Product(op) => self.operator(Level::Product, op, seen),
-            Symbol::Plus => {
-                let left = self.whole_sum(seen)?;
-                self.operator(Level::Sum, Op::Add, left)
-            }
-            Symbol::Minus => {
-                let left = self.whole_sum(seen)?;
-                self.operator(Level::Sum, Op::Sub, left)
-            }
-            Symbol::Relation(op) => {
-                let left = self.whole_sum(seen)?;
-                self.relation(op, left)
-            }
-            Symbol::AndAnd => {
-                let left = self.whole_and(seen)?;
-                self.operator(Level::And, Op::And, left)
-            }
-            Symbol::OrOr => {
-                let left = self.whole_expr(seen)?;
-                self.operator(Level::Or, Op::Or, left)
-            }
+            Symbol::Plus => self.sum(Op::Add, seen),
+            Symbol::Minus => self.sum(Op::Sub, seen),
+            Symbol::Relation(op) => self.compared(op, seen),
+            Symbol::AndAnd => self.and(seen),
+            Symbol::OrOr => self.or(seen),
             Symbol::CloseParen
             | Symbol::Comma
             | Symbol::Semicolon
             | Symbol::CloseBrace
-            | Symbol::OpenBrace => {
-                let whole = self.whole_expr(seen)?;
-                self.behind_top(alloc, symbol, span, whole)
-            }
+            | Symbol::OpenBrace => self.closes(alloc, symbol, span, seen),
             _ => Ok(Step::Refused),
         }
     }

@@ -27,6 +27,21 @@ pub enum Level {
     Or,
 }
 
+/// An operator with what stands left of it.
+#[derive(Clone, Copy)]
+pub struct Left {
+    pub op: Op,
+    pub seen: Seen,
+}
+
+/// What an operand goes into as soon as it is complete: a prefix operator by its place, or a product.
+#[derive(Clone, Copy)]
+pub enum Taker {
+    Not(u32),
+    Negate(u32),
+    Product(Left),
+}
+
 /// What a call begins with: a name, or a word, its place and a name.
 #[derive(Clone, Copy)]
 pub enum Callee {
@@ -154,6 +169,7 @@ impl Stack {
         self.open
     }
 
+    #[inline(always)]
     pub(crate) fn push(&mut self, frame: Frame) -> Result<(), ParseFault>
         ensures ok { OnOk result (self.new ≡ frame ∷ self.old) }
         ensures fault { IfErr result (λ fault. fault ≡ ParseFault.NoMemory) }

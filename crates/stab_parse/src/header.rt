@@ -48,6 +48,17 @@ impl Reader {
     }
 
     #[inline(never)]
+    pub(crate) fn fn_named(&mut self, name: Span, symbol: Symbol) -> Result<Step, ParseFault>
+        ensures ok { IfOk result (λ step. outcome step self.new ≡ fn_named name symbol self.old) }
+        ensures fault { IfErr result (λ fault. fault ≡ ParseFault.NoMemory) }
+    {
+        match symbol {
+            Symbol::OpenParen => Ok(Step::Opens(Phase::ParamsOpen(name))),
+            _ => Ok(Step::Refused),
+        }
+    }
+
+    #[inline(never)]
     pub(crate) fn params_open(
         &mut self,
         alloc: Global,

@@ -12,6 +12,7 @@ mod reader;
 mod step;
 mod symbol;
 mod tree;
+mod word;
 
 pub use fault::ParseFault;
 pub use laws::{not_both, one_fault, one_syntax, program_or_fault};

@@ -20,9 +20,10 @@ pub fn parse(alloc: Global, tokens: &[Token], _bytes: &[u8]) -> Result<Tree, Par
     ensures parsed { IfOk result (λ tree. (program : Program) × IsParsed tokens.now program × IsTreeOf tree program) }
     ensures fault { IfErr result (λ fault. (fault ≡ ParseFault.NoMemory) ⊎ HasFault tokens.now fault) }
 {
+    let forms = Forms::with_capacity(alloc, tokens.len())?;
     let mut reader = Reader {
         frames: Stack::new(alloc),
-        forms: Forms::new(alloc),
+        forms,
         functions: Functions::new(alloc),
     };
     let mut phase = Phase::Between;

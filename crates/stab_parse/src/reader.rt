@@ -2,11 +2,11 @@
 ghost use Rattle.std.specs.Prelude.{◌≡◌, IfOk, IfErr};
 ghost use Rattle.stab_parse.specs.Frames.{top_of};
 ghost use Rattle.std.specs.Option.{option_copied};
-ghost use Rattle.stab_parse.specs.Takes.{is_operator, takes_if, takes_operand, takes_right};
-ghost use Rattle.stab_parse.specs.Moves.{alone, both, complete, deeper, else_frame, else_top, formed, if_step, join_frame, join_top, joined, more, popped, seen_at, settle, settle_frame, settle_if, settle_step, settle_top, settled};
+ghost use Rattle.stab_parse.specs.Takes.{is_operator, left_of, taken, taker_of, takes_if, takes_right};
+ghost use Rattle.stab_parse.specs.Moves.{alone, both, complete, deeper, else_frame, else_top, formed, if_step, join_top, joined, more, popped, seen_at, settle, settle_if, settle_step, settle_top, settled};
 
 use crate::fault::ParseFault;
-use crate::frame::{Frame, Level, Phase, Seen, Stack};
+use crate::frame::{Frame, Left, Level, Phase, Seen, Stack, Taker};
 use crate::tree::{FormNode, Forms, Functions, Head};
 use stab_code::Op;
 
@@ -55,14 +55,46 @@ pub(crate) fn one_more(parts: usize) -> usize
     parts.saturating_add(1)
 }
 
-/// Whether the frame is a prefix operator or a product, which an operand joins as soon as it is complete.
-fn takes_operand(top: Option<&Frame>) -> bool
-    ensures { result ≡ takes_operand (option_copied top.entry) }
+/// What an operand goes into as soon as it is complete: a prefix operator or a product.
+fn taker_of(top: Option<&Frame>) -> Option<Taker>
+    ensures { result ≡ taker_of (option_copied top.entry) }
 {
-    matches!(
-        top,
-        Some(Frame::Not(_) | Frame::Negate(_) | Frame::Operator(Level::Product, _, _))
-    )
+    match top {
+        Some(Frame::Not(at)) => Some(Taker::Not(*at)),
+        Some(Frame::Negate(at)) => Some(Taker::Negate(*at)),
+        Some(Frame::Operator(Level::Product, op, left)) => {
+            Some(Taker::Product(Left {
+                op: *op,
+                seen: *left,
+            }))
+        }
+        _ => None,
+    }
+}
+
+/// The operator that the frame is, with what stands left of it, where it is of this level, below products.
+fn left_of(level: Level, top: Option<&Frame>) -> Option<Left>
+    ensures { result ≡ left_of level (option_copied top.entry) }
+{
+    match (level, top) {
+        (Level::Sum, Some(Frame::Operator(Level::Sum, op, left))) => Some(Left {
+            op: *op,
+            seen: *left,
+        }),
+        (Level::Relation, Some(Frame::Operator(Level::Relation, op, left))) => Some(Left {
+            op: *op,
+            seen: *left,
+        }),
+        (Level::And, Some(Frame::Operator(Level::And, op, left))) => Some(Left {
+            op: *op,
+            seen: *left,
+        }),
+        (Level::Or, Some(Frame::Operator(Level::Or, op, left))) => Some(Left {
+            op: *op,
+            seen: *left,
+        }),
+        _ => None,
+    }
 }
 
 /// Whether the frame is an operator with what stands left of it.
@@ -94,6 +126,7 @@ fn takes_if(top: Option<&Frame>) -> bool
 
 impl Reader {
     /// A form is complete: how many parts it has, its first byte, and the depth of its parts.
+    #[inline(always)]
     pub(crate) fn form(
         &mut self,
         head: Head,
@@ -116,6 +149,7 @@ impl Reader {
     }
 
     /// An operator has both sides.
+    #[inline(always)]
     pub(crate) fn two(&mut self, op: Op, left: Seen, right: Seen) -> Result<Seen, ParseFault>
         ensures ok { IfOk result (λ seen. settled seen self.new ≡ joined op left right self.old) }
         ensures fault { IfErr result (λ fault. fault ≡ ParseFault.NoMemory) }
@@ -128,37 +162,35 @@ impl Reader {
         )
     }
 
+    /// An operand is complete, and what it goes into was popped.
     #[inline(never)]
-    fn settle_frame(&mut self, top: Frame, seen: Seen) -> Result<Option<Seen>, ParseFault>
-        ensures ok { IfOk result (λ next. settle_step next self.new ≡ settle_frame top seen self.old) }
+    fn take(&mut self, taker: Taker, seen: Seen) -> Result<Seen, ParseFault>
+        ensures ok { IfOk result (λ whole. settled whole self.new ≡ taken taker seen self.old) }
         ensures fault { IfErr result (λ fault. fault ≡ ParseFault.NoMemory) }
     {
-        match top {
-            Frame::Not(at) => Ok(Some(self.form(Head::Not, 1, at, only(seen.depth))?)),
-            Frame::Negate(at) => Ok(Some(self.form(Head::Neg, 1, at, only(seen.depth))?)),
-            Frame::Operator(Level::Product, op, left) => Ok(Some(self.two(op, left, seen)?)),
-            other => {
-                self.frames.push(other)?;
-                Ok(None)
-            }
+        match taker {
+            Taker::Not(at) => self.form(Head::Not, 1, at, only(seen.depth)),
+            Taker::Negate(at) => self.form(Head::Neg, 1, at, only(seen.depth)),
+            Taker::Product(left) => self.two(left.op, left.seen, seen),
         }
     }
 
+    #[tactic(auto, using(crate::proofs::Settling::takes, crate::proofs::Settling::takes_none))]
     fn settle_top(&mut self, seen: Seen) -> Result<Option<Seen>, ParseFault>
         ensures ok { IfOk result (λ next. settle_step next self.new
             ≡ settle_top (top_of self.old.frames) seen (popped self.old)) }
         ensures fault { IfErr result (λ fault. fault ≡ ParseFault.NoMemory) }
     {
-        if !takes_operand(self.frames.top()) {
+        let Some(taker) = taker_of(self.frames.top()) else {
             return Ok(None);
-        }
-        match self.frames.pop() {
-            Some(top) => self.settle_frame(top, seen),
-            None => Ok(None),
-        }
+        };
+        let _taker = self.frames.pop();
+        let operand = self.take(taker, seen)?;
+        Ok(Some(operand))
     }
 
     /// An operand is complete: it joins the prefix operators and the product before it.
+    #[inline(always)]
     pub(crate) fn settle(&mut self, seen: Seen) -> Result<Seen, ParseFault>
         ensures ok { IfOk result (λ whole. settled whole self.new ≡ settle seen self.old) }
         ensures fault { IfErr result (λ fault. fault ≡ ParseFault.NoMemory) }
@@ -185,38 +217,20 @@ impl Reader {
         self.settle(seen)
     }
 
-    #[inline(never)]
-    fn join_frame(&mut self, level: Level, top: Frame, seen: Seen) -> Result<Seen, ParseFault>
-        ensures ok { IfOk result (λ whole. settled whole self.new ≡ join_frame level top seen self.old) }
-        ensures fault { IfErr result (λ fault. fault ≡ ParseFault.NoMemory) }
-    {
-        match (level, top) {
-            (Level::Sum, Frame::Operator(Level::Sum, op, left)) => self.two(op, left, seen),
-            (Level::Relation, Frame::Operator(Level::Relation, op, left)) => {
-                self.two(op, left, seen)
-            }
-            (Level::And, Frame::Operator(Level::And, op, left)) => self.two(op, left, seen),
-            (Level::Or, Frame::Operator(Level::Or, op, left)) => self.two(op, left, seen),
-            (_, other) => {
-                self.frames.push(other)?;
-                Ok(seen)
-            }
-        }
-    }
-
     /// A form joins the operator of this level that stands next.
+    #[inline(always)]
+    #[tactic(auto, using(crate::proofs::Settling::joins, crate::proofs::Settling::joins_none))]
     pub(crate) fn join(&mut self, level: Level, seen: Seen) -> Result<Seen, ParseFault>
         ensures ok { IfOk result (λ whole. settled whole self.new
             ≡ join_top level (top_of self.old.frames) seen (popped self.old)) }
         ensures fault { IfErr result (λ fault. fault ≡ ParseFault.NoMemory) }
     {
-        if !takes_right(level, self.frames.top()) {
+        let Some(left) = left_of(level, self.frames.top()) else {
             return Ok(seen);
-        }
-        match self.frames.pop() {
-            Some(top) => self.join_frame(level, top, seen),
-            None => Ok(seen),
-        }
+        };
+        let _operator = self.frames.pop();
+        let whole = self.two(left.op, left.seen, seen)?;
+        Ok(whole)
     }
 
     fn else_frame(&mut self, top: Frame, at: u32, depth: u8) -> Result<Option<Seen>, ParseFault>

@@ -4,10 +4,9 @@ ghost use Rattle.stab_parse.specs.Moves.{advance, move, open_at, open_total, out
 ghost use Rattle.stab_parse.specs.Symbols.{IsSmall};
 
 use crate::fault::ParseFault;
-use crate::frame::{Callee, Frame, Phase};
+use crate::frame::Phase;
 use crate::reader::{Reader, Step};
 use crate::symbol::{Span, Symbol, kind_symbol, token_span};
-use crate::tree::Head;
 use stab_lex::Token;
 use std::alloc::Global;
 
@@ -50,7 +49,7 @@ impl Reader {
         match phase {
             Phase::Between => self.between(symbol),
             Phase::FnRead => self.fn_read(symbol, span),
-            Phase::FnNamed(name) => self.paren(Phase::ParamsOpen(name), symbol),
+            Phase::FnNamed(name) => self.fn_named(name, symbol),
             Phase::ParamsOpen(name) => self.params_open(alloc, name, symbol, span),
             Phase::ParamOwed(name, before) => self.param_owed(name, before, symbol, span),
             Phase::ParamNamed(name, before, param) => {
@@ -58,8 +57,8 @@ impl Reader {
             }
             Phase::ParamsClosed(name, params) => self.params_closed(name, params, symbol),
             Phase::OwesType => self.owes_type(alloc, symbol),
-            Phase::ChanTypeRead => self.bracket(Frame::ChanType, symbol),
-            Phase::RefTypeRead => self.bracket(Frame::RefType, symbol),
+            Phase::ChanTypeRead => self.chan_type_read(symbol),
+            Phase::RefTypeRead => self.ref_type_read(symbol),
             Phase::HasType(ty) => self.has_type(alloc, ty, symbol, span.start),
             Phase::Owes => self.begins(symbol, span),
             Phase::Signed(at) => self.signed(at, symbol, span),
@@ -67,16 +66,14 @@ impl Reader {
             Phase::Named(name) => self.named(alloc, name, symbol, span),
             Phase::CallOpen(callee) => self.call_open(callee, symbol, span),
             Phase::WordRead(word, at) => self.word_read(word, at, symbol, span),
-            Phase::WordNamed(word, at, name) => {
-                self.paren(Phase::CallOpen(Callee::Started(word, at, name)), symbol)
-            }
-            Phase::AloneRead(word, at) => self.paren(Phase::AloneOpen(word, at), symbol),
-            Phase::AloneOpen(word, at) => self.paren_end(Head::Act(word), at, symbol),
-            Phase::OneRead(word, at) => self.paren_in(Frame::One(word, at), symbol),
-            Phase::TwoRead(word, at) => self.paren_in(Frame::TwoLeft(word, at), symbol),
-            Phase::ChanRead(at) => self.bracket(Frame::NewChan(at), symbol),
-            Phase::ChanTyped(at, ty) => self.paren(Phase::ChanOpen(at, ty), symbol),
-            Phase::ChanOpen(at, ty) => self.paren_end(Head::NewChan(ty), at, symbol),
+            Phase::WordNamed(word, at, name) => self.word_named(word, at, name, symbol),
+            Phase::AloneRead(word, at) => self.alone_read(word, at, symbol),
+            Phase::AloneOpen(word, at) => self.alone_open(word, at, symbol),
+            Phase::OneRead(word, at) => self.one_read(word, at, symbol),
+            Phase::TwoRead(word, at) => self.two_read(word, at, symbol),
+            Phase::ChanRead(at) => self.chan_read(at, symbol),
+            Phase::ChanTyped(at, ty) => self.chan_typed_read(at, ty, symbol),
+            Phase::ChanOpen(at, ty) => self.chan_open(at, ty, symbol),
             Phase::InItems => self.in_items(symbol, span),
             Phase::LetRead => self.let_read(symbol, span),
             Phase::LetNamed(name) => self.let_named(name, symbol),

@@ -247,12 +247,13 @@ impl Model for Forms {
 }
 
 impl Forms {
-    pub(crate) fn new(alloc: Global) -> Forms
-        ensures { result ≡ [] }
+    /// No forms yet, with room for so many.
+    pub(crate) fn with_capacity(alloc: Global, forms: usize) -> Result<Forms, ParseFault>
+        ensures ok { IfOk result (λ made. made ≡ []) }
+        ensures fault { IfErr result (λ fault. fault ≡ ParseFault.NoMemory) }
     {
-        Forms {
-            forms: Vec::new(alloc),
-        }
+        let forms = Vec::with_capacity(alloc, forms)?;
+        Ok(Forms { forms })
     }
 
     pub(crate) fn push(&mut self, form: FormNode) -> Result<(), ParseFault>

@@ -6,7 +6,7 @@ use Rattle.stab_parse.proofs.parser.parse.Goals as goal
 
 pub loop-token-init : goal.loop-token-init
 loop-token-init c =
-    reaches_new (record { frames = c.new.result; forms = c.new-2.result; functions = c.new-3.result }) c.new.ensures c.new-2.ensures c.new-3.ensures
+    reaches_new (record { frames = c.new.result; forms = c.in_ok-forms.forms; functions = c.new-2.result }) c.new.ensures c.in_ok-forms.ensures.ok c.new-2.ensures
 
 pub loop-token-preserved : goal.loop-token-preserved
 loop-token-preserved c =
@@ -15,7 +15,7 @@ loop-token-preserved c =
 
 pub returns-in_err-phase-clause-fault : goal.returns-in_err-phase-clause-fault
 returns-in_err-phase-clause-fault c =
-    let p = err_from_is_err_and c.from_residual.result c.from_residual.ensures.1 in
+    let p = err_from_is_err_and c.from_residual-in_err-phase.result c.from_residual-in_err-phase.ensures.1 in
     rw (p.1, p.2) (fault_or_memory c.args.tokens.now c.loop-token.token-index _ c.loop-token.phase c.loop-token.reader c.in_err-phase.field-0.0
     c.loop-token-test.true c.loop-token.invariant c.in_err-phase.ensures.fault)
 

@@ -1,0 +1,191 @@
+//! What a token does behind the words that acts, calls by a word and the types of channels and references begin with.
+ghost use Rattle.std.specs.Prelude.{◌≡◌, IfOk, IfErr};
+ghost use Rattle.stab_parse.specs.Moves.{bracket, outcome, paren, paren_end, paren_in, word_read};
+
+use crate::fault::ParseFault;
+use crate::frame::{Callee, Frame, Phase};
+use crate::reader::{Reader, Step};
+use crate::symbol::{ActWord, CallWord, Span, Symbol};
+use crate::tree::{Head, ParsedType};
+
+impl Reader {
+    /// The bracket behind a word, with the frame that it opens.
+    fn bracket(&mut self, frame: Frame, symbol: Symbol) -> Result<Step, ParseFault>
+        ensures ok { IfOk result (λ step. outcome step self.new ≡ bracket frame symbol self.old) }
+        ensures fault { IfErr result (λ fault. fault ≡ ParseFault.NoMemory) }
+    {
+        match symbol {
+            Symbol::OpenBracket => {
+                self.push(frame)?;
+                Ok(Step::Opens(Phase::OwesType))
+            }
+            _ => Ok(Step::Refused),
+        }
+    }
+
+    fn paren(&mut self, next: Phase, symbol: Symbol) -> Result<Step, ParseFault>
+        ensures ok { IfOk result (λ step. outcome step self.new ≡ paren next symbol self.old) }
+        ensures fault { IfErr result (λ fault. fault ≡ ParseFault.NoMemory) }
+    {
+        match symbol {
+            Symbol::OpenParen => Ok(Step::Opens(next)),
+            _ => Ok(Step::Refused),
+        }
+    }
+
+    fn paren_in(&mut self, frame: Frame, symbol: Symbol) -> Result<Step, ParseFault>
+        ensures ok { IfOk result (λ step. outcome step self.new ≡ paren_in frame symbol self.old) }
+        ensures fault { IfErr result (λ fault. fault ≡ ParseFault.NoMemory) }
+    {
+        match symbol {
+            Symbol::OpenParen => {
+                self.push(frame)?;
+                Ok(Step::Opens(Phase::Owes))
+            }
+            _ => Ok(Step::Refused),
+        }
+    }
+
+    fn paren_end(&mut self, head: Head, at: u32, symbol: Symbol) -> Result<Step, ParseFault>
+        ensures ok { IfOk result (λ step. outcome step self.new ≡ paren_end head at symbol self.old) }
+        ensures fault { IfErr result (λ fault. fault ≡ ParseFault.NoMemory) }
+    {
+        match symbol {
+            Symbol::CloseParen => self.leaf(head, at),
+            _ => Ok(Step::Refused),
+        }
+    }
+
+    #[inline(never)]
+    pub(crate) fn word_read(
+        &mut self,
+        word: CallWord,
+        at: u32,
+        symbol: Symbol,
+        span: Span,
+    ) -> Result<Step, ParseFault>
+        ensures ok { IfOk result (λ step. outcome step self.new ≡ word_read word at symbol span self.old) }
+        ensures fault { IfErr result (λ fault. fault ≡ ParseFault.NoMemory) }
+    {
+        match symbol {
+            Symbol::Name => Ok(Step::Goes(Phase::WordNamed(word, at, span))),
+            _ => Ok(Step::Refused),
+        }
+    }
+
+    #[inline(never)]
+    pub(crate) fn word_named(
+        &mut self,
+        word: CallWord,
+        at: u32,
+        name: Span,
+        symbol: Symbol,
+    ) -> Result<Step, ParseFault>
+        ensures ok { IfOk result (λ step. outcome step self.new ≡ paren (Phase.CallOpen (Callee.Started word at name)) symbol self.old) }
+        ensures fault { IfErr result (λ fault. fault ≡ ParseFault.NoMemory) }
+    {
+        self.paren(Phase::CallOpen(Callee::Started(word, at, name)), symbol)
+    }
+
+    #[inline(never)]
+    pub(crate) fn alone_read(
+        &mut self,
+        word: ActWord,
+        at: u32,
+        symbol: Symbol,
+    ) -> Result<Step, ParseFault>
+        ensures ok { IfOk result (λ step. outcome step self.new ≡ paren (Phase.AloneOpen word at) symbol self.old) }
+        ensures fault { IfErr result (λ fault. fault ≡ ParseFault.NoMemory) }
+    {
+        self.paren(Phase::AloneOpen(word, at), symbol)
+    }
+
+    #[inline(never)]
+    pub(crate) fn alone_open(
+        &mut self,
+        word: ActWord,
+        at: u32,
+        symbol: Symbol,
+    ) -> Result<Step, ParseFault>
+        ensures ok { IfOk result (λ step. outcome step self.new ≡ paren_end (Head.Act word) at symbol self.old) }
+        ensures fault { IfErr result (λ fault. fault ≡ ParseFault.NoMemory) }
+    {
+        self.paren_end(Head::Act(word), at, symbol)
+    }
+
+    #[inline(never)]
+    pub(crate) fn one_read(
+        &mut self,
+        word: ActWord,
+        at: u32,
+        symbol: Symbol,
+    ) -> Result<Step, ParseFault>
+        ensures ok { IfOk result (λ step. outcome step self.new ≡ paren_in (Frame.One word at) symbol self.old) }
+        ensures fault { IfErr result (λ fault. fault ≡ ParseFault.NoMemory) }
+    {
+        self.paren_in(Frame::One(word, at), symbol)
+    }
+
+    #[inline(never)]
+    pub(crate) fn two_read(
+        &mut self,
+        word: ActWord,
+        at: u32,
+        symbol: Symbol,
+    ) -> Result<Step, ParseFault>
+        ensures ok { IfOk result (λ step. outcome step self.new ≡ paren_in (Frame.TwoLeft word at) symbol self.old) }
+        ensures fault { IfErr result (λ fault. fault ≡ ParseFault.NoMemory) }
+    {
+        self.paren_in(Frame::TwoLeft(word, at), symbol)
+    }
+
+    #[inline(never)]
+    pub(crate) fn chan_read(&mut self, at: u32, symbol: Symbol) -> Result<Step, ParseFault>
+        ensures ok { IfOk result (λ step. outcome step self.new ≡ bracket (Frame.NewChan at) symbol self.old) }
+        ensures fault { IfErr result (λ fault. fault ≡ ParseFault.NoMemory) }
+    {
+        self.bracket(Frame::NewChan(at), symbol)
+    }
+
+    #[inline(never)]
+    pub(crate) fn chan_typed_read(
+        &mut self,
+        at: u32,
+        ty: ParsedType,
+        symbol: Symbol,
+    ) -> Result<Step, ParseFault>
+        ensures ok { IfOk result (λ step. outcome step self.new ≡ paren (Phase.ChanOpen at ty) symbol self.old) }
+        ensures fault { IfErr result (λ fault. fault ≡ ParseFault.NoMemory) }
+    {
+        self.paren(Phase::ChanOpen(at, ty), symbol)
+    }
+
+    #[inline(never)]
+    pub(crate) fn chan_open(
+        &mut self,
+        at: u32,
+        ty: ParsedType,
+        symbol: Symbol,
+    ) -> Result<Step, ParseFault>
+        ensures ok { IfOk result (λ step. outcome step self.new ≡ paren_end (Head.NewChan ty) at symbol self.old) }
+        ensures fault { IfErr result (λ fault. fault ≡ ParseFault.NoMemory) }
+    {
+        self.paren_end(Head::NewChan(ty), at, symbol)
+    }
+
+    #[inline(never)]
+    pub(crate) fn chan_type_read(&mut self, symbol: Symbol) -> Result<Step, ParseFault>
+        ensures ok { IfOk result (λ step. outcome step self.new ≡ bracket Frame.ChanType symbol self.old) }
+        ensures fault { IfErr result (λ fault. fault ≡ ParseFault.NoMemory) }
+    {
+        self.bracket(Frame::ChanType, symbol)
+    }
+
+    #[inline(never)]
+    pub(crate) fn ref_type_read(&mut self, symbol: Symbol) -> Result<Step, ParseFault>
+        ensures ok { IfOk result (λ step. outcome step self.new ≡ bracket Frame.RefType symbol self.old) }
+        ensures fault { IfErr result (λ fault. fault ≡ ParseFault.NoMemory) }
+    {
+        self.bracket(Frame::RefType, symbol)
+    }
+}
