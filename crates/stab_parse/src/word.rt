@@ -81,7 +81,8 @@ impl Reader {
         name: Span,
         symbol: Symbol,
     ) -> Result<Step, ParseFault>
-        ensures ok { IfOk result (λ step. outcome step self.new ≡ paren (Phase.CallOpen (Callee.Started word at name)) symbol self.old) }
+        ensures ok { IfOk result (λ step. outcome step self.new
+            ≡ paren (Phase.CallOpen (Callee.Started word at name)) symbol self.old) }
         ensures fault { IfErr result (λ fault. fault ≡ ParseFault.NoMemory) }
     {
         self.paren(Phase::CallOpen(Callee::Started(word, at, name)), symbol)
