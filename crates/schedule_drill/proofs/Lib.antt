@@ -20,3 +20,4 @@ pub mod TrueCommits
 pub mod OneMoved
 pub mod OneMade
 pub mod OneDrill
+pub mod OneWorker

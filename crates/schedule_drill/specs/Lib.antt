@@ -3,3 +3,4 @@ pub mod Text
 pub mod Played
 pub mod Drilled
 pub mod Alike
+pub mod Solo

@@ -4,13 +4,17 @@
 ghost use Rattle.std.specs.Prelude.{◌≡◌, ◌⊎◌, ℕ, List, IfSome, Some};
 ghost use Rattle.std.specs.FinMap as map;
 ghost use Rattle.stab_code.specs.JobParts.{JobParts};
-ghost use Rattle.commit_book.specs.Book.{BookView, IsShown};
+ghost use Rattle.commit_book.specs.Book.{BookView, IsAtStart, IsShown};
+ghost use Rattle.lone_worker.specs.declared.worker.RunEnd.{RunEnd as End};
 ghost use Rattle.lone_worker.specs.Desk.{desk_of};
+ghost use Rattle.lone_worker.specs.Rounds.{IsPlayed as IsRunOut};
+ghost use Rattle.lone_worker.specs.Solo.{IsWhole};
 ghost use Rattle.drill_text.specs.declared.script.Line.{Line};
 ghost use Rattle.schedule_drill.specs.Alike.{AreAlike, AreTrue, IsHeldTruly, IsMadeBy, IsOneHeld, IsStillLent};
 ghost use Rattle.schedule_drill.specs.Drilled.{IsDrilled, IsOfScript, IsRefused, fault_at};
 ghost use Rattle.schedule_drill.specs.Out.{all_given_back};
 ghost use Rattle.schedule_drill.specs.Played.{IsCommit, IsLeased, IsStep, Stand};
+ghost use Rattle.schedule_drill.specs.Solo.{IsDrilledByOne};
 ghost use Rattle.schedule_drill.specs.declared.fault.DrillFault.{DrillFault};
 ghost use Rattle.schedule_drill.specs.declared.held.Held.{Held};
 
@@ -82,4 +86,9 @@ pub fn one_drill()
         → IsRefused job script f → IsRefused job script g → f ≡ g }
     ensures apart { (job : JobParts) (script : List Line) (text : List ℕ) (book : BookView) (f : DrillFault) → IsOfScript f
         → IsDrilled job script text book → IsRefused job script f → ⊥ }
+{}
+
+/// A run by one worker that comes to its end is a drill of lines `lease 1` and `commit 1`, and ends with the book of that drill.
+pub fn one_worker()
+    ensures { (end : End) (old new : BookView) → IsAtStart old → IsRunOut end old new → IsWhole end → IsDrilledByOne old.job new }
 {}

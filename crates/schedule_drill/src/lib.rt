@@ -12,7 +12,7 @@ mod whole;
 pub use fault::DrillFault;
 pub use laws::{
     leases_stay_true, one_answer, one_drill, one_end, one_fault, one_late, one_lease, one_made,
-    one_step,
+    one_step, one_worker,
 };
 pub use whole::{DrillEnd, drill};
 
