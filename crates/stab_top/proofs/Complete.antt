@@ -1,7 +1,12 @@
 -- What the statuses say leaves no way round a good program or a trace, nor round a text that is none.
-use Rattle.std.proofs.Common.{arith, ◌≡◌, ◌⊎◌, inl, inr, ℕ, ℤ, ◌<◌, true, List, [], length, Option, Some, None, Result, Ok, Err, IfSome, IsSomeAnd, refl, ap, sym, subst, ◌∙◌}
+use Rattle.std.proofs.Common.{arith, ◌≡◌, ◌⊎◌, inl, inr, ℕ, ℤ, ◌<◌, true, List, [], ◌∷◌, ◌++◌, length, Option, Some, None, Result, Ok, Err, IfSome, IsSomeAnd, refl, ap, sym, subst, ◌∙◌}
 use Rattle.plain_language.specs.Plain.{PlainState}
 use Rattle.commit_book.specs.Book.{BookView}
+use Rattle.drill_text.specs.declared.order.Order.{Order}
+use Rattle.drill_text.specs.declared.script.Line.{Line}
+use Rattle.drill_text.specs.Script.{script_of}
+use Rattle.schedule_drill.specs.Drilled.{ArePlayed}
+use Rattle.schedule_drill.specs.Played.{IsAnswered, Stand}
 use Rattle.mill_text.specs.Mill.{mill_script, mill_text}
 use Rattle.probe_text.specs.declared.fault.ProbesFault.{ProbesFault}
 use Rattle.probe_text.specs.Probes as probes
@@ -13,6 +18,7 @@ use Rattle.stab_text.specs.declared.fault.TextFault.{TextFault}
 use Rattle.stab_text.specs.Text.{HasFault, IsTextOf}
 use Rattle.stab_text.proofs.Reading.{not_both, one_fault, one_program}
 use Rattle.stab_words.specs.Asked.{asked}
+use Rattle.stab_words.specs.declared.request.DrillArgs.{DrillArgs}
 use Rattle.stab_words.specs.declared.request.MillArgs.{MillArgs}
 use Rattle.stab_words.specs.declared.request.Request.{Request}
 use Rattle.stab_words.specs.declared.request.Request.TheVariants.{Run, Trace, Verify, Drill, Check, Mill, Types, Save, Resume, Watch}
@@ -30,11 +36,12 @@ use Rattle.stab_top.specs.declared.report.Status.TheVariants.{Done, Held, BadWor
 use Rattle.stab_top.specs.Words.{is_built}
 use Rattle.stab_top.specs.Device.{Device}
 use Rattle.stab_top.specs.Ending.{AsReleased, AtTheEnd, CheckEnds, IsJudged, IsTold, RunEnds, VerdictEnds, milled_by, shown_by}
+use Rattle.stab_top.specs.Drilling.{DrillEnds, PlayEnds}
 use Rattle.stab_top.specs.Milling.{MillEnds}
 use Rattle.stab_top.specs.Loading.{Finds, LoadRefused, Loads, max_bytes}
 use Rattle.stab_top.specs.Reading.{Blames, Form, HaveFault, Holds, ReadRefused, probes_form, program_form, trace_form}
-use Rattle.stab_top.specs.Call.{BuiltSays, Call, CheckSays, CountedFault, LastSays, ReadSays, RequestSays, RunSaysBy, Says, ScriptSays, TraceSays, VerifySays, WordsSay, Writing, status_of}
-use Rattle.stab_top.specs.Complete.{Checked, IsHeld, IsHeldFor, IsRefused, IsScriptFor, Ran, WasJudged}
+use Rattle.stab_top.specs.Call.{BuiltSays, Call, CheckSays, CountedFault, DrillSays, LastSays, OrdersSay, ReadSays, RequestSays, RunSaysBy, Says, ScriptSays, TraceSays, VerifySays, WordsSay, Writing, status_of}
+use Rattle.stab_top.specs.Complete.{Checked, IsHeld, IsHeldFor, IsRefused, IsScriptFor, Ran, WasDrilled, WasJudged, WasStuck}
 
 -- what is found, where the files tell
 found_there : (files : Device (List Entry)) (name : List ℕ) (P : Option (List ℕ) → Type 0) (held : List Entry) → Finds files name P → files.told ≡ Some held → P (contents_of held name)
@@ -304,17 +311,16 @@ of_script : (c : Call) (name : Option (List ℕ)) (script : List ℤ) (Said : Li
 of_script c None script Said is says = inr (subst Said (sym is) says)
 of_script c (Some name) script Said is says = script_said c name is.0 script is.1 is.2 c.files.faults Said says
 
-behind_program : (c : Call) (args : VerifyArgs) (program : ProgramParts) (script : List ℤ) → IsScriptFor c args.probes script → Failed (status_of c) c ⊎ ScriptSays c args.probes (λ s. TraceSays c args.trace program s)
-    → Failed (status_of c) c ⊎ TraceSays c args.trace program script
-behind_program c args program script is (inl failed) = inl failed
-behind_program c args program script is (inr says) = of_script c args.probes script (λ s. TraceSays c args.trace program s) is says
+behind_program : (c : Call) (named : Option (List ℕ)) (script : List ℤ) (Said : List ℤ → Type 0) → IsScriptFor c named script → Failed (status_of c) c ⊎ ScriptSays c named Said → Failed (status_of c) c ⊎ Said script
+behind_program c named script Said is (inl failed) = inl failed
+behind_program c named script Said is (inr says) = of_script c named script Said is says
 
 -- a program and a script that are held are read before the trace
 trace_said : (words : List (List ℕ)) (c : Call) (args : VerifyArgs) (text : List ℕ) (program : ProgramParts) (script : List ℤ) → Says words c → asked words ≡ Ok (Verify args)
     → IsHeld roles.Program c args.file text → IsTextOf text program → IsScriptFor c args.probes script → Failed (status_of c) c ⊎ TraceSays c args.trace program script
 trace_said words c args text program script says is held of for_script =
     let verify : VerifySays c args = request_said words c (Verify args) says is refl in
-    behind_program c args program script for_script (program_said c args.file text program held of c.files.faults (λ p. ScriptSays c args.probes (λ s. TraceSays c args.trace p s)) verify)
+    behind_program c args.probes script (λ s. TraceSays c args.trace program s) for_script (program_said c args.file text program held of c.files.faults (λ p. ScriptSays c args.probes (λ s. TraceSays c args.trace p s)) verify)
 
 pub trace_is_judged : (words : List (List ℕ)) (c : Call) (args : VerifyArgs) (text bytes : List ℕ) (program : ProgramParts) (script : List ℤ) (history : Journal) → Says words c → asked words ≡ Ok (Verify args)
     → IsHeld roles.Program c args.file text → IsTextOf text program → IsScriptFor c args.probes script → IsHeld roles.Trace c args.trace bytes → trace_form.IsOf bytes history → WasJudged c program script bytes ⊎ CountedFault c
@@ -326,18 +332,94 @@ pub bad_trace_refused : (words : List (List ℕ)) (c : Call) (args : VerifyArgs)
 bad_trace_refused words c args text bytes program script fault says is held of for_script trace has =
     trace_refused c program script bytes args.trace fault trace has (trace_said words c args text program script says is held of for_script)
 
-probes_refused : (c : Call) (args : VerifyArgs) (program : ProgramParts) (name bytes : List ℕ) (fault : ProbesFault) → args.probes ≡ Some name → IsHeld roles.Probes c name bytes → probes.reading bytes ≡ Err fault
-    → Failed (status_of c) c ⊎ ScriptSays c args.probes (λ s. TraceSays c args.trace program s) → IsRefused probes_form c fault ⊎ CountedFault c
-probes_refused c args program name bytes fault named held has (inl failed) = failed_refused probes_form c name bytes held fault failed
-probes_refused c args program name bytes fault named held has (inr says) =
-    fault_refused probes_form c name bytes held fault (λ s is. not_ok s fault (sym is ∙ has)) (λ other is. err_is other fault (sym is ∙ has)) c.files.faults (λ s. TraceSays c args.trace program s)
-    (subst (λ o. ScriptSays c o (λ s. TraceSays c args.trace program s)) named says)
+probes_refused : (c : Call) (named : Option (List ℕ)) (Said : List ℤ → Type 0) (name bytes : List ℕ) (fault : ProbesFault) → named ≡ Some name → IsHeld roles.Probes c name bytes → probes.reading bytes ≡ Err fault
+    → Failed (status_of c) c ⊎ ScriptSays c named Said → IsRefused probes_form c fault ⊎ CountedFault c
+probes_refused c named Said name bytes fault is held has (inl failed) = failed_refused probes_form c name bytes held fault failed
+probes_refused c named Said name bytes fault is held has (inr says) =
+    fault_refused probes_form c name bytes held fault (λ s reads. not_ok s fault (sym reads ∙ has)) (λ other reads. err_is other fault (sym reads ∙ has)) c.files.faults Said (subst (λ o. ScriptSays c o Said) is says)
 
 pub bad_probes_refused : (words : List (List ℕ)) (c : Call) (args : VerifyArgs) (text name bytes : List ℕ) (program : ProgramParts) (fault : ProbesFault) → Says words c → asked words ≡ Ok (Verify args)
     → IsHeld roles.Program c args.file text → IsTextOf text program → args.probes ≡ Some name → IsHeld roles.Probes c name bytes → probes_form.HasFault bytes fault → IsRefused probes_form c fault ⊎ CountedFault c
 bad_probes_refused words c args text name bytes program fault says is held of named probes has =
     let verify : VerifySays c args = request_said words c (Verify args) says is refl in
-    probes_refused c args program name bytes fault named probes has (program_said c args.file text program held of c.files.faults (λ p. ScriptSays c args.probes (λ s. TraceSays c args.trace p s)) verify)
+    probes_refused c args.probes (λ s. TraceSays c args.trace program s) name bytes fault named probes has (program_said c args.file text program held of c.files.faults (λ p. ScriptSays c args.probes (λ s. TraceSays c args.trace p s)) verify)
+
+-- ---- drills
+
+-- a program and a script of probes that are held are read before the script of the drill
+orders_said : (words : List (List ℕ)) (c : Call) (args : DrillArgs) (text : List ℕ) (program : ProgramParts) (script : List ℤ) → Says words c → asked words ≡ Ok (Drill args)
+    → IsHeld roles.Program c args.file text → IsTextOf text program → IsScriptFor c args.probes script → Failed (status_of c) c ⊎ OrdersSay c args program script
+orders_said words c args text program script says is held of for_script =
+    let drill : DrillSays c args = request_said words c (Drill args) says is refl in
+    behind_program c args.probes script (λ s. OrdersSay c args program s) for_script (program_said c args.file text program held of c.files.faults (λ p. ScriptSays c args.probes (λ s. OrdersSay c args p s)) drill)
+
+pub bad_probes_undrilled : (words : List (List ℕ)) (c : Call) (args : DrillArgs) (text name bytes : List ℕ) (program : ProgramParts) (fault : ProbesFault) → Says words c → asked words ≡ Ok (Drill args)
+    → IsHeld roles.Program c args.file text → IsTextOf text program → args.probes ≡ Some name → IsHeld roles.Probes c name bytes → probes_form.HasFault bytes fault → IsRefused probes_form c fault ⊎ CountedFault c
+bad_probes_undrilled words c args text name bytes program fault says is held of named probes has =
+    let drill : DrillSays c args = request_said words c (Drill args) says is refl in
+    probes_refused c args.probes (λ s. OrdersSay c args program s) name bytes fault named probes has (program_said c args.file text program held of c.files.faults (λ p. ScriptSays c args.probes (λ s. OrdersSay c args p s)) drill)
+
+module _ (c : Call) (job : JobParts) where
+  played : (script : List Line) (status : Status) → status_of c ≡ status → PlayEnds status job script c.outcome → WasDrilled c job script ⊎ CountedFault c
+  played script Done is ends = inl (inl (record { status = is; end = ends.0; gains = ends.1 }))
+  played script SinkFault is ends = inr (inr ends.1.1)
+  played script BadScript is ends = inl (inr (inl (record { status = is; stuck = ends })))
+  played script NoMemory is ends = inl (inr (inr is))
+  played script Held is ends = elim ends [ ]
+  played script BadWords is ends = elim ends [ ]
+  played script BadText is ends = elim ends [ ]
+  played script NoFile is ends = elim ends [ ]
+  played script TooBig is ends = elim ends [ ]
+  played script FileFault is ends = elim ends [ ]
+  played script Spent is ends = elim ends [ ]
+  played script BadProbes is ends = elim ends [ ]
+  played script BadTrace is ends = elim ends [ ]
+  played script No is ends = elim ends [ ]
+  played script NotBuilt is ends = elim ends [ ]
+
+  failed_drilled : (script : List Line) → Failed (status_of c) c → WasDrilled c job script ⊎ CountedFault c
+  failed_drilled script (inl none) = inl (inr (inr none))
+  failed_drilled script (inr counted) = inr counted
+
+  bytes_drilled : (bytes : List ℕ) → Failed (status_of c) c ⊎ DrillEnds (status_of c) job bytes c.outcome → WasDrilled c job (script_of bytes) ⊎ CountedFault c
+  bytes_drilled bytes (inl failed) = failed_drilled (script_of bytes) failed
+  bytes_drilled bytes (inr ends) = played (script_of bytes) (status_of c) refl ends
+
+module _ (c : Call) (args : DrillArgs) (bytes : List ℕ) (held : IsHeld roles.Script c args.script bytes) (program : ProgramParts) (script : List ℤ) where
+  abbrev of_job : JobParts
+  of_job = job_of program script args.fuel args.quantum
+
+  orders_held : OrdersSay c args program script → Failed (status_of c) c ⊎ DrillEnds (status_of c) of_job bytes c.outcome
+  orders_held (inl refused) = inl (load_refused roles.Script (status_of c) c args.script bytes held refused.0)
+  orders_held (inr (loaded, loads, ends)) = inr (subst (λ b. DrillEnds (status_of c) of_job b c.outcome) (loaded_is roles.Script c args.script bytes loaded c.files_after held loads) ends)
+
+  orders_came : Failed (status_of c) c ⊎ OrdersSay c args program script → WasDrilled c of_job (script_of bytes) ⊎ CountedFault c
+  orders_came (inl failed) = failed_drilled c of_job (script_of bytes) failed
+  orders_came (inr says) = bytes_drilled c of_job bytes (orders_held says)
+
+pub script_is_drilled : (words : List (List ℕ)) (c : Call) (args : DrillArgs) (text bytes : List ℕ) (program : ProgramParts) (script : List ℤ) → Says words c → asked words ≡ Ok (Drill args)
+    → IsHeld roles.Program c args.file text → IsTextOf text program → IsScriptFor c args.probes script → IsHeld roles.Script c args.script bytes
+    → WasDrilled c (job_of program script args.fuel args.quantum) (script_of bytes) ⊎ CountedFault c
+script_is_drilled words c args text bytes program script says is held of for_script there =
+    orders_came c args bytes there program script (orders_said words c args text program script says is held of for_script)
+
+-- a line that is no order isn't played
+no_order_played : (before behind : List Line) (line : Line) (old new : Stand) (text : List ℕ) → line.order ≡ None → ArePlayed (before ++ line ∷ behind) old text new → ⊥
+no_order_played [] behind line old new text none are = subst (λ (o : Option Order). IsSomeAnd o (IsAnswered old are.next are.written)) none are.played
+no_order_played (first ∷ before) behind line old new text none are = no_order_played before behind line are.next new are.more none are.follows
+
+bad_line_stops : (c : Call) (job : JobParts) (script before behind : List Line) (line : Line) → script ≡ before ++ line ∷ behind → line.order ≡ None → WasDrilled c job script ⊎ CountedFault c
+    → (WasStuck c job script ⊎ (status_of c ≡ NoMemory)) ⊎ CountedFault c
+bad_line_stops c job script before behind line is none (inl (inl was)) =
+    absurd (no_order_played before behind line was.end.drilled.first was.end.drilled.last was.end.lines none (subst (λ ls. ArePlayed ls was.end.drilled.first was.end.lines was.end.drilled.last) is was.end.drilled.played))
+bad_line_stops c job script before behind line is none (inl (inr other)) = inl other
+bad_line_stops c job script before behind line is none (inr counted) = inr counted
+
+pub bad_line_is_refused : (words : List (List ℕ)) (c : Call) (args : DrillArgs) (text bytes : List ℕ) (program : ProgramParts) (script : List ℤ) (before : List Line) (line : Line) (behind : List Line) → Says words c → asked words ≡ Ok (Drill args)
+    → IsHeld roles.Program c args.file text → IsTextOf text program → IsScriptFor c args.probes script → IsHeld roles.Script c args.script bytes → script_of bytes ≡ before ++ line ∷ behind → line.order ≡ None
+    → (WasStuck c (job_of program script args.fuel args.quantum) (script_of bytes) ⊎ (status_of c ≡ NoMemory)) ⊎ CountedFault c
+bad_line_is_refused words c args text bytes program script before line behind says is held of for_script there cut none =
+    bad_line_stops c (job_of program script args.fuel args.quantum) (script_of bytes) before behind line cut none (script_is_drilled words c args text bytes program script says is held of for_script there)
 
 -- ---- texts with a fault
 
@@ -356,7 +438,7 @@ request_with_fault c (Run args) bytes fault says is has = run_with_fault (AsRele
 request_with_fault c (Trace args) bytes fault says is has = run_with_fault AtTheEnd c args args.probes bytes fault says is has
 request_with_fault c (Verify args) bytes fault says is has = text_with_fault c args.file bytes fault c.files.faults (λ p. ScriptSays c args.probes (λ s. TraceSays c args.trace p s)) is has says
 request_with_fault c (Check file) bytes fault says is has = text_with_fault c file bytes fault c.files_after (λ p. CheckEnds (status_of c) p c.outcome) is has says
-request_with_fault c (Drill args) bytes fault says is has = elim is [ ]
+request_with_fault c (Drill args) bytes fault says is has = text_with_fault c args.file bytes fault c.files.faults (λ p. ScriptSays c args.probes (λ s. OrdersSay c args p s)) is has says
 request_with_fault c (Mill args) bytes fault says is has = elim is [ ]
 request_with_fault c (Types file) bytes fault says is has = elim is [ ]
 request_with_fault c (Save args) bytes fault says is has = elim is [ ]

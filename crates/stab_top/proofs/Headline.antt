@@ -1,39 +1,47 @@
 -- What a call shows of the program that it runs.
-use Rattle.std.proofs.Common.{◌≡◌, ◌⊎◌, inl, inr, ℕ, true, length, length-append, arith, List, [], ◌∷◌, ◌++◌, Option, Some, None, Result, Ok, refl, sym, ap, subst, ◌∙◌, append-nil, append_assoc}
+use Rattle.std.proofs.Common.{◌≡◌, ◌⊎◌, inl, inr, ℕ, ℤ, true, length, length-append, arith, List, [], ◌∷◌, ◌++◌, Option, Some, None, Result, Ok, refl, sym, ap, subst, ◌∙◌, append-nil, append_assoc}
+use Rattle.drill_text.specs.Script.{script_of}
+use Rattle.drill_text.specs.declared.script.Line.{Line}
 use Rattle.stab_code.specs.JobParts.{JobParts, job_of}
 use Rattle.stab_code.specs.Program.{ProgramParts}
 use Rattle.stab_files.specs.Entry.{Entry}
 use Rattle.stab_words.specs.Asked.{asked}
+use Rattle.stab_words.specs.declared.request.DrillArgs.{DrillArgs}
 use Rattle.stab_words.specs.declared.request.MillArgs.{MillArgs}
 use Rattle.stab_words.specs.declared.request.Request.{Request}
 use Rattle.stab_words.specs.declared.request.Request.TheVariants.{Run, Trace, Verify, Drill, Check, Mill, Types, Save, Resume, Watch}
 use Rattle.stab_words.specs.declared.request.RunArgs.{RunArgs}
 use Rattle.plain_language.specs.Plain.{PlainState}
-use Rattle.commit_book.specs.Book.{BookView, IsShown}
+use Rattle.stab_journal.specs.declared.event.Numbered.{Numbered}
+use Rattle.commit_book.specs.Book.{BookView, IsShown, ShowsRun}
 use Rattle.commit_book.proofs.LawfulBooks.{final_lasts, granted, has_run, pinned_lasts}
 use Rattle.stab_top.specs.declared.report.Report.{Report}
 use Rattle.stab_top.specs.declared.report.Status.{Status}
 use Rattle.stab_top.specs.declared.report.Status.TheVariants.{Done, Held, BadWords, BadText, NoFile, TooBig, FileFault, SinkFault, Spent, NoMemory, BadProbes, BadTrace, BadScript, No, NotBuilt}
 use Rattle.stab_top.specs.Words.{is_built}
-use Rattle.stab_top.specs.Call.{BuiltSays, Call, LastSays, MillSays, ReadSays, RunSaysBy, Says, Writing, status_of}
+use Rattle.stab_top.specs.Call.{BuiltSays, Call, DrillSays, LastSays, MillSays, OrdersSay, ReadSays, RunSaysBy, Says, ScriptSays, Writing, status_of}
 use Rattle.stab_top.specs.Device.{Device, Gains}
 use Rattle.stab_top.specs.Ending.{AsReleased, AtTheEnd, Ends, IsRunOf, Outcome, RunEnds, milled_by, shown_by}
+use Rattle.stab_top.specs.Drilling.{IsPlayedOut, PlayEnds}
 use Rattle.stab_top.specs.Headline.{AsksForRun, IsEnd, IsOfTheLanguage, ShowsRunOf}
 use Rattle.stab_top.specs.declared.report.Role.{Role}
 use Rattle.stab_top.specs.Loading.{LoadRefused}
 use Rattle.stab_top.specs.Reading.{BytesRefused, Form, ReadRefused, probes_form, program_form}
 use Rattle.stab_top.proofs.Complete.{request_said}
 
--- what the report's book shows
-of_language : (job : JobParts) (book : BookView) (state : PlainState) → IsRunOf job book state → IsOfTheLanguage book
-of_language job book state r =
-    let shown : IsShown book = record { run = r.run; state = state; shows = r.shown } in
+-- what a book shows
+of_shown : (book : BookView) (run : List Numbered) (state : PlainState) → ShowsRun book run state → IsOfTheLanguage book
+of_shown book run state shows =
+    let shown : IsShown book = record { run = run; state = state; shows = shows } in
     record {
       run = has_run book shown;
-      undos = granted book.job.program book.history.events r.run state r.shown.journal.history.stands;
+      undos = granted book.job.program book.history.events run state shows.journal.history.stands;
       cuts = final_lasts book shown;
       pins = pinned_lasts book shown;
     }
+
+abbrev of_language : (job : JobParts) (book : BookView) (state : PlainState) → IsRunOf job book state → IsOfTheLanguage book
+of_language job book state r = of_shown book r.run state r.shown
 
 -- ---- a call
 
@@ -74,6 +82,28 @@ module _ (o : Outcome) (b : BookView) (there : o.report.book ≡ Some b) where
     run_book No e = ends_book No e
     run_book NotBuilt e = ends_book NotBuilt e
 
+  -- the book of a script that was played
+  module _ (job : JobParts) (script : List Line) where
+    drilled_book : IsPlayedOut job script o → IsOfTheLanguage b
+    drilled_book end = subst IsOfTheLanguage (same_book o.report.book end.book b end.reported there) (of_shown end.book end.run end.state end.shown)
+
+    play_book : (status : Status) → PlayEnds status job script o → IsOfTheLanguage b
+    play_book Done e = drilled_book e.0
+    play_book SinkFault e = drilled_book e.0
+    play_book BadScript e = not_there o.report.book b e.refuses.0.no_book there
+    play_book NoMemory e = not_there o.report.book b e.0.no_book there
+    play_book Held e = elim e [ ]
+    play_book BadWords e = elim e [ ]
+    play_book BadText e = elim e [ ]
+    play_book NoFile e = elim e [ ]
+    play_book TooBig e = elim e [ ]
+    play_book FileFault e = elim e [ ]
+    play_book Spent e = elim e [ ]
+    play_book BadProbes e = elim e [ ]
+    play_book BadTrace e = elim e [ ]
+    play_book No e = elim e [ ]
+    play_book NotBuilt e = elim e [ ]
+
 module _ (c : Call) (b : BookView) (there : c.outcome.report.book ≡ Some b) where
   read_book : {Content Fault : Type 0} (form : Form Content Fault) (file : List ℕ) (faults : ℕ) (Said : Content → Type 0) → ((content : Content) → Said content → IsOfTheLanguage b) → ReadSays form c file faults Said → IsOfTheLanguage b
   read_book form file faults Said all (inl refused) = not_there c.outcome.report.book b (no_read_book form c.outcome.report c.files file c.files_after refused.0) there
@@ -92,13 +122,27 @@ module _ (c : Call) (b : BookView) (there : c.outcome.report.book ≡ Some b) wh
   mill_book args (same, inl refused) = not_there c.outcome.report.book b (no_bytes_book program_form c.outcome.report _ refused.0) there
   mill_book args (same, inr (p, is, ends)) = run_book c.outcome b there (AsReleased (milled_by args.size)) _ (status_of c) ends
 
+  -- the program was read, then the script of probes, then that of the drill
+  behind_probes : (named : Option (List ℕ)) (Said : List ℤ → Type 0) → ((script : List ℤ) → Said script → IsOfTheLanguage b) → ScriptSays c named Said → IsOfTheLanguage b
+  behind_probes None Said all says = all [] says
+  behind_probes (Some name) Said all says = read_book probes_form name c.files.faults Said all says
+
+  orders_book : (args : DrillArgs) (p : ProgramParts) (script : List ℤ) → OrdersSay c args p script → IsOfTheLanguage b
+  orders_book args p script (inl refused) = not_there c.outcome.report.book b refused.1.0.no_book there
+  orders_book args p script (inr (bytes, loads, ends)) = play_book c.outcome b there (job_of p script args.fuel args.quantum) (script_of bytes) (status_of c) ends
+
+  drill_book : (args : DrillArgs) → DrillSays c args → IsOfTheLanguage b
+  drill_book args says =
+      read_book program_form args.file c.files.faults (λ p. ScriptSays c args.probes (λ s. OrdersSay c args p s))
+      (λ p said. behind_probes args.probes (λ s. OrdersSay c args p s) (λ s orders. orders_book args p s orders) said) says
+
   built_book : (request : Request) → AsksForRun request → BuiltSays c request → IsOfTheLanguage b
   built_book (Run args) asks says = file_book (AsReleased shown_by) args args.probes says
   built_book (Trace args) asks says = file_book AtTheEnd args args.probes says
   built_book (Mill args) asks says = mill_book args says
   built_book (Verify args) asks says = elim asks [ ]
   built_book (Check file) asks says = elim asks [ ]
-  built_book (Drill args) asks says = elim asks [ ]
+  built_book (Drill args) asks says = drill_book args says
   built_book (Types file) asks says = elim asks [ ]
   built_book (Save args) asks says = elim asks [ ]
   built_book (Resume args) asks says = elim asks [ ]
@@ -110,7 +154,7 @@ is_asked (Trace args) asks = refl
 is_asked (Mill args) asks = refl
 is_asked (Verify args) asks = elim asks [ ]
 is_asked (Check file) asks = elim asks [ ]
-is_asked (Drill args) asks = elim asks [ ]
+is_asked (Drill args) asks = refl
 is_asked (Types file) asks = elim asks [ ]
 is_asked (Save args) asks = elim asks [ ]
 is_asked (Resume args) asks = elim asks [ ]

@@ -1,6 +1,7 @@
 pub mod Pieces
 pub mod ReadFirst
 pub mod Led
+pub mod Drilled
 pub mod Resting
 pub mod Rounding
 pub mod Played

@@ -1,8 +1,7 @@
 -- A file that is read before others.
 use Rattle.std.proofs.Common.{◌≡◌, inr, ℕ, ℤ, List, Option, Some, refl, ap, sym, subst, ◌∙◌}
-use Rattle.stab_code.specs.Program.{ProgramParts}
 use Rattle.stab_files.specs.Entry.{Entry}
-use Rattle.stab_top.specs.Call.{Call, ScriptSays, TraceSays}
+use Rattle.stab_top.specs.Call.{Call, ScriptSays}
 use Rattle.stab_top.specs.Device.{Device}
 use Rattle.stab_top.specs.Ending.{Outcome}
 use Rattle.stab_top.specs.Reading.{Form, Holds, probes_form}
@@ -21,11 +20,11 @@ same_files files other told faults =
 abbrev pub finding : Outcome → ℕ → Device (List Entry) → Call
 finding outcome after files = record { files = files; files_after = after; outcome = outcome }
 
--- the script was read, and then the trace was judged
-pub script_read : (outcome : Outcome) (after : ℕ) (files between : Device (List Entry)) (named : Option (List ℕ)) (file trace : List ℕ) (program : ProgramParts) (script : List ℤ) → named ≡ Some file →
-    between.told ≡ files.told → Holds probes_form files file between.faults script → TraceSays (finding outcome after between) trace program script →
-    ScriptSays (finding outcome after files) named (λ s. TraceSays (finding outcome after files) trace program s)
-script_read outcome after files between named file trace program script is told holds says =
+-- the script was read, and then this is said of what is done with it
+pub script_read : (outcome : Outcome) (after : ℕ) (files between : Device (List Entry)) (named : Option (List ℕ)) (file : List ℕ) (Said : Call → List ℤ → Type 0) (script : List ℤ) → named ≡ Some file →
+    between.told ≡ files.told → Holds probes_form files file between.faults script → Said (finding outcome after between) script →
+    ScriptSays (finding outcome after files) named (Said (finding outcome after files))
+script_read outcome after files between named file Said script is told holds says =
     let same : between ≡ files = same_files files between told holds.loads.no_fault in
-    subst (λ p. ScriptSays (finding outcome after files) p (λ s. TraceSays (finding outcome after files) trace program s)) (sym is)
-    (inr (script, first probes_form files file between.faults script holds, subst (λ f. TraceSays (finding outcome after f) trace program script) same says))
+    subst (λ p. ScriptSays (finding outcome after files) p (Said (finding outcome after files))) (sym is)
+    (inr (script, first probes_form files file between.faults script holds, subst (λ f. Said (finding outcome after f) script) same says))

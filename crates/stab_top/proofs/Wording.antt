@@ -13,7 +13,7 @@ use Rattle.stab_top.specs.Words.{is_built}
 use Rattle.stab_top.specs.Loading.{LoadRefused, blamed}
 use Rattle.stab_top.specs.Reading.{Blames, Form, probes_form, program_form}
 use Rattle.stab_top.specs.Ending.{AsReleased, AtTheEnd, CheckEnds, RunEnds, shown_by}
-use Rattle.stab_top.specs.Call.{BuiltSays, Call, FaultSays, LastSays, NotBuiltSays, ReadSays, RequestSays, RunSaysBy, Says, ScriptSays, TraceSays, Untouched, WordsSay, Writing, status_of}
+use Rattle.stab_top.specs.Call.{BuiltSays, Call, FaultSays, LastSays, NotBuiltSays, ReadSays, RequestSays, RunSaysBy, Says, OrdersSay, ScriptSays, TraceSays, Untouched, WordsSay, Writing, status_of}
 
 -- no file was loaded, for want of memory
 unread : {Content Fault : Type 0} (form : Form Content Fault) (c : Call) (file : List ℕ) (faults : ℕ) (Said : Content → Type 0) → status_of c ≡ NoMemory → Untouched c no_blame → ReadSays form c file faults Said
@@ -32,7 +32,7 @@ request_says (Run args) c none is = run_says (AsReleased shown_by) args args.pro
 request_says (Trace args) c none is = run_says AtTheEnd args args.probes c none is
 request_says (Verify args) c none is = unread program_form c args.file c.files.faults (λ p. ScriptSays c args.probes (λ s. TraceSays c args.trace p s)) none is
 request_says (Check file) c none is = unread program_form c file c.files_after (λ p. CheckEnds (status_of c) p c.outcome) none is
-request_says (Drill args) c none is = not_built c none is
+request_says (Drill args) c none is = unread program_form c args.file c.files.faults (λ p. ScriptSays c args.probes (λ s. OrdersSay c args p s)) none is
 request_says (Mill args) c none is = (is.no_fault, inl (inr (none, is.refuses.0), is.refuses.1))
 request_says (Types name) c none is = not_built c none is
 request_says (Save args) c none is = not_built c none is

@@ -7,7 +7,8 @@ use Rattle.stab_code.specs.Program.{ProgramParts}
 use Rattle.stab_files.specs.Count.{Rose}
 use Rattle.stab_files.specs.Entry.{Entry}
 use Rattle.stab_words.specs.declared.request.Request.{Request}
-use Rattle.stab_words.specs.declared.request.Request.TheVariants.{Check, Mill, Run, Trace, Verify}
+use Rattle.stab_words.specs.declared.request.Request.TheVariants.{Check, Drill, Mill, Run, Trace, Verify}
+use Rattle.stab_words.specs.declared.request.DrillArgs.{DrillArgs}
 use Rattle.stab_words.specs.declared.request.MillArgs.{MillArgs}
 use Rattle.stab_words.specs.declared.request.RunArgs.{RunArgs}
 use Rattle.stab_words.specs.declared.request.VerifyArgs.{VerifyArgs}
@@ -17,9 +18,12 @@ use Rattle.stab_top.specs.declared.report.Status.{Status}
 use Rattle.stab_top.specs.declared.report.Status.TheVariants.{BadWords, NoMemory, NotBuilt}
 use Rattle.stab_top.specs.Ending.{AsReleased, AtTheEnd, CheckEnds, Outcome, Refuses, RunEnds, VerdictEnds, shown_by}
 use Rattle.stab_top.specs.Milling.{MillEnds}
+use Rattle.stab_top.specs.Drilling.{DrillEnds}
+use Rattle.stab_top.specs.Loading.{FileSays, blamed}
+use Rattle.stab_top.specs.declared.report.Role.TheVariants.{Script}
 use Rattle.stab_top.specs.Device.{Device, Rests, device}
 use Rattle.stab_top.specs.Reading.{Form, Holds, ReadRefused, probes_form, program_form, trace_form}
-use Rattle.stab_top.specs.Reason.{Blame, blames_words, no_blame}
+use Rattle.stab_top.specs.Reason.{Blame, blames_file, blames_words, no_blame}
 use Rattle.stab_top.specs.Words.{is_built}
 
 -- a call: the files with their count of faults after it, and what came of it
@@ -103,12 +107,24 @@ abbrev pub VerifySays : Call → VerifyArgs → Type 0
 VerifySays c args =
     NextSays program_form c args.file (λ program. ScriptSays c args.probes (λ script. TraceSays c args.trace program script))
 
+-- the file of the drill was refused, which is blamed; or what it holds was to be played on a new book of the job
+abbrev pub OrdersSay : Call → DrillArgs → ProgramParts → List ℤ → Type 0
+OrdersSay c args program script =
+    FileSays Script (status_of c) c.files args.script c.files_after (Refuses c.outcome (blames_file (blamed (status_of c) Script)))
+    (λ bytes. DrillEnds (status_of c) (job_of program script args.fuel args.quantum) bytes c.outcome)
+
+-- the program is read first, then the script of probes, then that of the drill
+abbrev pub DrillSays : Call → DrillArgs → Type 0
+DrillSays c args =
+    NextSays program_form c args.file (λ program. ScriptSays c args.probes (λ script. OrdersSay c args program script))
+
 -- what is built was done
 abbrev pub BuiltSays : Call → Request → Type 0
 BuiltSays c (Run args) = RunSays (AsReleased shown_by) c args
 BuiltSays c (Trace args) = RunSays AtTheEnd c args
 BuiltSays c (Mill args) = MillSays c args
 BuiltSays c (Verify args) = VerifySays c args
+BuiltSays c (Drill args) = DrillSays c args
 BuiltSays c (Check file) = CheckSays c file
 BuiltSays c _ = ⊥
 

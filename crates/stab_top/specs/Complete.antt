@@ -1,17 +1,21 @@
 -- What the laws of whole calls speak of.
 use Rattle.std.specs.Prelude.{◌≡◌, ℕ, ℤ, ◌≤◌, List, [], length, Option, Some, None, ◌⊎◌}
+use Rattle.drill_text.specs.declared.script.Line.{Line}
+use Rattle.stab_code.specs.JobParts.{JobParts}
 use Rattle.stab_code.specs.Program.{ProgramParts}
 use Rattle.stab_files.specs.Entry.{Entry, contents_of}
 use Rattle.stab_journal.specs.Journal.{Journal}
 use Rattle.stab_words.specs.declared.request.Request.{Request}
-use Rattle.stab_words.specs.declared.request.Request.TheVariants.{Check, Run, Trace as WritesTrace, Verify}
+use Rattle.stab_words.specs.declared.request.Request.TheVariants.{Check, Drill, Run, Trace as WritesTrace, Verify}
 use Rattle.trace_verify.specs.declared.verdict.Verdict.{Verdict}
 use Rattle.trace_verify.specs.Verdict.{IsVerdict}
 use Rattle.stab_top.specs.declared.report.Status.{Status}
-use Rattle.stab_top.specs.declared.report.Status.TheVariants.{Done, Held, NoMemory, Spent}
+use Rattle.stab_top.specs.declared.report.Status.TheVariants.{BadScript, Done, Held, NoMemory, Spent}
 use Rattle.stab_top.specs.declared.report.Role.{Role}
 use Rattle.stab_top.specs.declared.report.Role.TheVariants.{Program, Probes, Trace}
 use Rattle.stab_top.specs.Call.{Call, status_of}
+use Rattle.stab_top.specs.Drilling.{IsPlayedOut, IsStuck, drill_text}
+use Rattle.stab_top.specs.Device.{Gains}
 use Rattle.stab_top.specs.Ending.{verdict_status}
 use Rattle.stab_top.specs.Loading.{max_bytes}
 use Rattle.stab_top.specs.Reading.{Blames, Form, probes_form, trace_form}
@@ -28,6 +32,7 @@ abbrev pub IsHeldFor : Call → Request → List ℕ → Type 0
 IsHeldFor c (Run args) bytes = IsHeld Program c args.file bytes
 IsHeldFor c (WritesTrace args) bytes = IsHeld Program c args.file bytes
 IsHeldFor c (Verify args) bytes = IsHeld Program c args.file bytes
+IsHeldFor c (Drill args) bytes = IsHeld Program c args.file bytes
 IsHeldFor c (Check file) bytes = IsHeld Program c file bytes
 IsHeldFor c _ bytes = ⊥
 
@@ -65,3 +70,18 @@ pub record HasVerdict (c : Call) (program : ProgramParts) (script : List ℤ) (b
 -- the trace was judged, or memory was refused
 abbrev pub WasJudged : Call → ProgramParts → List ℤ → List ℕ → Type 0
 WasJudged c program script bytes = HasVerdict c program script bytes ⊎ (status_of c ≡ NoMemory)
+
+-- the script was played, and its lines and what the program then shows were written
+pub record WasPlayed (c : Call) (job : JobParts) (script : List Line) : Type 0 where
+  pub status : status_of c ≡ Done
+  pub end : IsPlayedOut job script c.outcome
+  pub gains : Gains c.outcome.sink c.outcome.sink_after (drill_text end)
+
+-- a line of the script can't be played, and the first such line is told
+pub record WasStuck (c : Call) (job : JobParts) (script : List Line) : Type 0 where
+  pub status : status_of c ≡ BadScript
+  pub stuck : IsStuck job script c.outcome
+
+-- the script was played, or a line can't be, or memory was refused
+abbrev pub WasDrilled : Call → JobParts → List Line → Type 0
+WasDrilled c job script = WasPlayed c job script ⊎ (WasStuck c job script ⊎ (status_of c ≡ NoMemory))

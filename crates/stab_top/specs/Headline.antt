@@ -10,7 +10,7 @@ use Rattle.stab_journal.specs.Floor.{floor, is_pin}
 use Rattle.stab_journal.specs.Journal.{survivors}
 use Rattle.stab_journal.specs.Surviving.{run_of}
 use Rattle.stab_words.specs.declared.request.Request.{Request}
-use Rattle.stab_words.specs.declared.request.Request.TheVariants.{Mill, Run, Trace}
+use Rattle.stab_words.specs.declared.request.Request.TheVariants.{Drill, Mill, Run, Trace}
 use Rattle.plain_language.specs.Standing.{event}
 use Rattle.commit_book.specs.Book.{BookView}
 use Rattle.commit_book.specs.Headline.{HasRun, IsGranted, StandsIn}
@@ -33,11 +33,12 @@ pub record IsOfTheLanguage (book : BookView) : Type 0 where
   pub pins : (first after : List Event) → book.history.events ≡ first ++ after → (n pin : Numbered) → StandsIn (run_of first) n
       → is_pin pin.label ≡ true → Reaches (run_of first) n.seq.0 pin → StandsIn (survivors book.history) n
 
--- a request for which a program is run
+-- a request for which a program is run, by one worker or by a schedule that is written by hand
 abbrev pub AsksForRun : Request → Type 0
 AsksForRun (Run args) = Unit {0}
 AsksForRun (Trace args) = Unit {0}
 AsksForRun (Mill args) = Unit {0}
+AsksForRun (Drill args) = Unit {0}
 AsksForRun request = ⊥
 
 -- a status of a run that is over

@@ -7,6 +7,7 @@ pub mod Ending
 pub mod Rounds
 pub mod Playing
 pub mod Milling
+pub mod Drilling
 pub mod Call
 pub mod Command
 pub mod Complete

@@ -4,6 +4,8 @@ use Rattle.stab_text.specs.declared.fault.TextFault.{TextFault}
 use Rattle.stab_text.specs.FaultText as text
 use Rattle.probe_text.specs.declared.fault.ProbesFault.{ProbesFault}
 use Rattle.probe_text.specs.declared.fault.ProbesFault.TheVariants as probes
+use Rattle.schedule_drill.specs.declared.fault.DrillFault.{DrillFault}
+use Rattle.schedule_drill.specs.declared.fault.DrillFault.TheVariants as scripts
 use Rattle.trace_text.specs.declared.fault.TraceFault.{TraceFault}
 use Rattle.trace_text.specs.declared.fault.TraceFault.TheVariants as traces
 use Rattle.trace_verify.specs.declared.verdict.Verdict.{Verdict}
@@ -61,17 +63,18 @@ role_name Probes = codes "probes"
 role_name Trace = codes "trace"
 role_name Script = codes "script"
 
--- what a report names beside its status: the fault of the words, the file, the fault of the program's text, of the probe file or of the trace, the verdict
+-- what a report names beside its status: the fault of the words, the file, the fault of the program's text, of the probe file, of the trace or of the script, the verdict
 pub record Blame : Type 0 where
   pub words : Option WordFault
   pub file : Option Role
   pub text : Option TextFault
   pub probes : Option ProbesFault
   pub trace : Option TraceFault
+  pub script : Option DrillFault
   pub verdict : Option Verdict
 
 abbrev pub no_blame : Blame
-no_blame = record { words = None; file = None; text = None; probes = None; trace = None; verdict = None }
+no_blame = record { words = None; file = None; text = None; probes = None; trace = None; script = None; verdict = None }
 
 abbrev pub blames_words : WordFault → Blame
 blames_words fault = record no_blame { words = Some fault }
@@ -88,6 +91,9 @@ blames_probes fault = record no_blame { probes = Some fault }
 abbrev pub blames_trace : TraceFault → Blame
 blames_trace fault = record no_blame { trace = Some fault }
 
+abbrev pub blames_script : DrillFault → Blame
+blames_script fault = record no_blame { script = Some fault }
+
 abbrev pub names_verdict : Verdict → Blame
 names_verdict verdict = record no_blame { verdict = Some verdict }
 
@@ -98,6 +104,7 @@ blame_of report = record {
   text = report.text_fault;
   probes = report.probes_fault;
   trace = report.trace_fault;
+  script = report.script_fault;
   verdict = report.verdict;
 }
 
@@ -135,6 +142,13 @@ trace_words (Some (traces.OutOfOrder at)) = codes " OutOfOrder" ++ number_word (
 trace_words (Some traces.NoEnd) = codes " NoEnd"
 trace_words (Some traces.NoMemory) = codes " NoMemory"
 
+abbrev pub script_words : Option DrillFault → List ℕ
+script_words None = []
+script_words (Some (scripts.BadLine at)) = codes " BadLine" ++ number_word (Some at)
+script_words (Some (scripts.NoSuchLease at)) = codes " NoSuchLease" ++ number_word (Some at)
+script_words (Some (scripts.HeldTwice at)) = codes " HeldTwice" ++ number_word (Some at)
+script_words (Some scripts.NoMemory) = codes " NoMemory"
+
 -- the name of what is wrong with an event
 abbrev pub why_name : Why → List ℕ
 why_name NoStep = codes "NoStep"
@@ -158,7 +172,7 @@ verdict_words (Some verdict) = failing_words verdict
 abbrev pub blame_words : Blame → List ℕ
 blame_words blame =
     role_word blame.file ++ (fault_words blame.words ++ (text_words blame.text
-    ++ (probes_words blame.probes ++ (trace_words blame.trace ++ verdict_words blame.verdict))))
+    ++ (probes_words blame.probes ++ (trace_words blame.trace ++ (script_words blame.script ++ verdict_words blame.verdict)))))
 
 -- the status, and what is blamed
 abbrev pub reason_line : Status → Blame → List ℕ

@@ -1,8 +1,10 @@
 //! What the statuses say together: they leave no way round a good program or a trace, nor round a text that is none. The
 //! calls do nothing.
-ghost use Rattle.std.specs.Prelude.{◌≡◌, ◌⊎◌, ◌++◌, ◌∷◌, [], ℕ, ℤ, List, count_by, length, Some, Ok, true};
+ghost use Rattle.std.specs.Prelude.{◌≡◌, ◌⊎◌, ◌++◌, ◌∷◌, [], ℕ, ℤ, List, count_by, length, Some, None, Ok, true};
 ghost use Rattle.commit_book.specs.Book.{BookView};
 ghost use Rattle.commit_book.specs.Headline.{StandsIn};
+ghost use Rattle.drill_text.specs.declared.script.Line.{Line};
+ghost use Rattle.drill_text.specs.Script.{script_of};
 ghost use Rattle.lone_worker.specs.Solo.{BeginsWith, IsWholeSolo};
 ghost use Rattle.mill_text.specs.Mill.{mill_text};
 ghost use Rattle.plain_language.specs.Plain.{PlainState};
@@ -10,7 +12,7 @@ ghost use Rattle.plain_language.specs.Standing.{event};
 ghost use Rattle.stab_base.specs.declared.numbers.Seq.{Seq};
 ghost use Rattle.stab_base.specs.declared.numbers.ThreadId.{ThreadId};
 ghost use Rattle.probe_text.specs.declared.fault.ProbesFault.{ProbesFault};
-ghost use Rattle.stab_code.specs.JobParts.{JobParts};
+ghost use Rattle.stab_code.specs.JobParts.{JobParts, job_of};
 ghost use Rattle.stab_code.specs.Program.{ProgramParts};
 ghost use Rattle.stab_journal.specs.declared.event.Event.{Event};
 ghost use Rattle.stab_journal.specs.declared.event.Numbered.{Numbered};
@@ -25,19 +27,20 @@ ghost use Rattle.stab_text.specs.declared.fault.TextFault.{TextFault};
 ghost use Rattle.stab_text.specs.Text.{HasFault, IsTextOf};
 ghost use Rattle.stab_words.specs.Asked.{asked};
 ghost use Rattle.stab_words.specs.declared.request.Request.{Request};
+ghost use Rattle.stab_words.specs.declared.request.DrillArgs.{DrillArgs};
 ghost use Rattle.stab_words.specs.declared.request.MillArgs.{MillArgs};
-ghost use Rattle.stab_words.specs.declared.request.Request.TheVariants.{Check, Mill, Run, Trace, Verify};
+ghost use Rattle.stab_words.specs.declared.request.Request.TheVariants.{Check, Drill, Mill, Run, Trace, Verify};
 ghost use Rattle.stab_words.specs.declared.request.RunArgs.{RunArgs as Args};
 ghost use Rattle.stab_words.specs.declared.request.VerifyArgs.{VerifyArgs};
 ghost use Rattle.trace_text.specs.declared.fault.TraceFault.{TraceFault};
 ghost use Rattle.trace_text.specs.Text.{trace};
 ghost use Rattle.stab_top.specs.Call.{Call, CountedFault, Says, status_of};
 ghost use Rattle.stab_top.specs.Words.{is_built};
-ghost use Rattle.stab_top.specs.Complete.{Checked, IsHeld, IsHeldFor, IsRefused, IsScriptFor, Ran, WasJudged};
+ghost use Rattle.stab_top.specs.Complete.{Checked, IsHeld, IsHeldFor, IsRefused, IsScriptFor, Ran, WasDrilled, WasJudged, WasStuck};
 ghost use Rattle.stab_top.specs.Ending.{IsRunOf};
 ghost use Rattle.stab_top.specs.Headline.{AsksForRun, IsEnd, IsOfTheLanguage, ShowsRunOf};
 ghost use Rattle.stab_top.specs.Reading.{probes_form, program_form, trace_form};
-ghost use Rattle.stab_top.specs.declared.report.Role.TheVariants.{Probes as ProbesFile, Program as ProgramFile, Trace as TraceFile};
+ghost use Rattle.stab_top.specs.declared.report.Role.TheVariants.{Probes as ProbesFile, Program as ProgramFile, Script as ScriptFile, Trace as TraceFile};
 ghost use Rattle.stab_top.specs.declared.report.Status.TheVariants.{Done as DoneStatus, NoMemory as NoMemoryStatus};
 
 /// Where the words ask for a run, and it is Done, Held or Spent: the journal of the report's book without its undone steps is, in
@@ -49,7 +52,7 @@ pub fn runs_are_of_the_language()
         IsEnd (status_of c) → ShowsRunOf c }
 {}
 
-/// The same of the book of a run, a trace or the mill, whatever the status, wherever the report has a book.
+/// The same of the book of a run, a trace, the mill or a drill, whatever the status, wherever the report has a book.
 pub fn books_are_of_the_language()
     ensures { (words : List (List ℕ)) (c : Call) (request : Request) (book : BookView) → Says words c →
         asked words ≡ Ok request → AsksForRun request → c.outcome.report.book ≡ Some book → IsOfTheLanguage book }
@@ -115,6 +118,26 @@ pub fn traces_of_runs_pass()
         ((status_of c ≡ DoneStatus) ⊎ (status_of c ≡ NoMemoryStatus)) ⊎ CountedFault c }
 {}
 
+/// Where the words ask for a drill, and the files tell that the program, the script of probes and the script of the drill are held
+/// within their limits, it was played and written, or a line of it can't be played and is told, or memory was refused, or a fault
+/// was counted.
+pub fn scripts_are_drilled()
+    ensures { (words : List (List ℕ)) (c : Call) (args : DrillArgs) (text bytes : List ℕ) (program : ProgramParts)
+        (script : List ℤ) → Says words c → asked words ≡ Ok (Drill args) → IsHeld ProgramFile c args.file text →
+        IsTextOf text program → IsScriptFor c args.probes script → IsHeld ScriptFile c args.script bytes →
+        WasDrilled c (job_of program script args.fuel args.quantum) (script_of bytes) ⊎ CountedFault c }
+{}
+
+/// Where a line of such a script is no order, it was refused, or memory was, or a fault was counted.
+pub fn bad_lines_stop_drills()
+    ensures { (words : List (List ℕ)) (c : Call) (args : DrillArgs) (text bytes : List ℕ) (program : ProgramParts)
+        (script : List ℤ) (before : List Line) (line : Line) (behind : List Line) → Says words c →
+        asked words ≡ Ok (Drill args) → IsHeld ProgramFile c args.file text → IsTextOf text program →
+        IsScriptFor c args.probes script → IsHeld ScriptFile c args.script bytes →
+        script_of bytes ≡ before ++ line ∷ behind → line.order ≡ None →
+        (WasStuck c (job_of program script args.fuel args.quantum) (script_of bytes) ⊎ (status_of c ≡ NoMemoryStatus)) ⊎ CountedFault c }
+{}
+
 /// What happens in a run is fixed by its job, as `run`, `trace` and `mill` make one: two runs that are over have one history, and
 /// one that isn't over has the first events of one that is.
 pub fn runs_have_one_history()
@@ -144,6 +167,14 @@ pub fn bad_probes_stop_runs()
 pub fn bad_probes_are_refused()
     ensures { (words : List (List ℕ)) (c : Call) (args : VerifyArgs) (text name bytes : List ℕ) (program : ProgramParts)
         (fault : ProbesFault) → Says words c → asked words ≡ Ok (Verify args) →
+        IsHeld ProgramFile c args.file text → IsTextOf text program → args.probes ≡ Some name →
+        IsHeld ProbesFile c name bytes → probes_form.HasFault bytes fault → IsRefused probes_form c fault ⊎ CountedFault c }
+{}
+
+/// The same of a probe file that a drill asks for.
+pub fn bad_probes_stop_drills()
+    ensures { (words : List (List ℕ)) (c : Call) (args : DrillArgs) (text name bytes : List ℕ) (program : ProgramParts)
+        (fault : ProbesFault) → Says words c → asked words ≡ Ok (Drill args) →
         IsHeld ProgramFile c args.file text → IsTextOf text program → args.probes ≡ Some name →
         IsHeld ProbesFile c name bytes → probes_form.HasFault bytes fault → IsRefused probes_form c fault ⊎ CountedFault c }
 {}

@@ -1,9 +1,10 @@
 //! The line that tells a reason.
 ghost use Rattle.std.specs.Prelude.{◌≡◌, ◌++◌, IfOk, OnOk, OnErr, string_bytes};
-ghost use Rattle.stab_top.specs.Reason.{blame_of, blame_words, failing_words, fault_words, number_word, probes_words, reason_text, role_word, text_words, trace_words, verdict_words, why_name};
+ghost use Rattle.stab_top.specs.Reason.{blame_of, blame_words, failing_words, fault_words, number_word, probes_words, reason_text, role_word, script_words, text_words, trace_words, verdict_words, why_name};
 
 use crate::report::{Report, Role, Status};
 use probe_text::ProbesFault;
+use schedule_drill::DrillFault;
 use stab_base::NoMemory;
 use stab_text::TextFault;
 use stab_words::WordFault;
@@ -36,8 +37,9 @@ fn blame_words(alloc: Global, report: &Report) -> Result<String, NoMemory>
     let text = text_words(alloc, report.text_fault)?;
     let probes = probes_words(alloc, report.probes_fault)?;
     let trace = trace_words(alloc, report.trace_fault)?;
+    let script = script_words(alloc, report.script_fault)?;
     let verdict = verdict_words(alloc, report.verdict)?;
-    Ok(format!(in alloc; "{role}{fault}{text}{probes}{trace}{verdict}")?)
+    Ok(format!(in alloc; "{role}{fault}{text}{probes}{trace}{script}{verdict}")?)
 }
 
 // The word for the file, behind a space.
@@ -113,6 +115,19 @@ fn trace_words(alloc: Global, fault: Option<TraceFault>) -> Result<String, NoMem
         Some(TraceFault::OutOfOrder(at)) => Ok(format!(in alloc; " OutOfOrder {at}")?),
         Some(TraceFault::NoEnd) => Ok(String::from_str(alloc, " NoEnd")?),
         Some(TraceFault::NoMemory) => Ok(String::from_str(alloc, " NoMemory")?),
+    }
+}
+
+// The name of the fault and its place, each behind a space.
+fn script_words(alloc: Global, fault: Option<DrillFault>) -> Result<String, NoMemory>
+    ensures { IfOk result (λ words. string_bytes words ≡ script_words fault) }
+{
+    match fault {
+        None => Ok(String::new(alloc)),
+        Some(DrillFault::BadLine(at)) => Ok(format!(in alloc; " BadLine {at}")?),
+        Some(DrillFault::NoSuchLease(at)) => Ok(format!(in alloc; " NoSuchLease {at}")?),
+        Some(DrillFault::HeldTwice(at)) => Ok(format!(in alloc; " HeldTwice {at}")?),
+        Some(DrillFault::NoMemory) => Ok(String::from_str(alloc, " NoMemory")?),
     }
 }
 

@@ -2,11 +2,12 @@
 ghost use Rattle.std.specs.Prelude.{◌≡◌, Some, None};
 ghost use Rattle.stab_top.specs.Loading.{max_bytes};
 ghost use Rattle.stab_top.specs.Reading.{Blames};
-ghost use Rattle.stab_top.specs.Reason.{blame_of, blames_file, blames_probes, blames_text, blames_trace, blames_words, names_verdict, no_blame, role_name, status_name, status_number};
-ghost use Rattle.stab_top.specs.declared.report.Status.TheVariants.{BadProbes as BadProbesStatus, BadText as BadTextStatus, BadTrace as BadTraceStatus, BadWords as BadWordsStatus};
+ghost use Rattle.stab_top.specs.Reason.{blame_of, blames_file, blames_probes, blames_script, blames_text, blames_trace, blames_words, names_verdict, no_blame, role_name, status_name, status_number};
+ghost use Rattle.stab_top.specs.declared.report.Status.TheVariants.{BadProbes as BadProbesStatus, BadScript as BadScriptStatus, BadText as BadTextStatus, BadTrace as BadTraceStatus, BadWords as BadWordsStatus};
 
 use commit_book::Book;
 use probe_text::ProbesFault;
+use schedule_drill::DrillFault;
 use stab_text::TextFault;
 use stab_words::WordFault;
 use trace_text::TraceFault;
@@ -128,6 +129,8 @@ pub struct Report {
     pub probes_fault: Option<ProbesFault>,
     /// Why the trace isn't one.
     pub trace_fault: Option<TraceFault>,
+    /// Why the script isn't one, or can't be played.
+    pub script_fault: Option<DrillFault>,
     /// The verdict on a trace, also where it couldn't be written.
     pub verdict: Option<Verdict>,
 }
@@ -158,6 +161,7 @@ impl Report {
             file: None,
             probes_fault: None,
             trace_fault: None,
+            script_fault: None,
             verdict: None,
         }
     }
@@ -214,6 +218,17 @@ impl Report {
         Report {
             trace_fault: Some(fault),
             ..Report::bare(Status::BadTrace)
+        }
+    }
+
+    /// The report of a script that can't be played.
+    pub(crate) fn bad_script(fault: DrillFault) -> Report
+        ensures status { result.status ≡ BadScriptStatus }
+        ensures blames { Blames result (blames_script fault) }
+    {
+        Report {
+            script_fault: Some(fault),
+            ..Report::bare(Status::BadScript)
         }
     }
 

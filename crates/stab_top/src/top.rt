@@ -1,28 +1,32 @@
 //! The one call that the program makes.
 ghost use Rattle.std.specs.Prelude.{◌≡◌, ◌≤◌, map as each, length, string_bytes};
 ghost use Rattle.stab_code.specs.Limits.{max_script};
-ghost use Rattle.stab_words.specs.Within.{IsRunWithin, IsWithin};
-ghost use Rattle.stab_top.specs.Call.{CheckSays, RequestSays, RunSays, Says, ScriptSays, TraceSays, VerifySays, call_of};
+ghost use Rattle.stab_words.specs.Command.{most_fuel, most_quantum};
+ghost use Rattle.stab_words.specs.Within.{IsRunWithin, IsUpTo, IsWithin};
+ghost use Rattle.stab_top.specs.Call.{CheckSays, DrillSays, OrdersSay, RequestSays, RunSays, Says, ScriptSays, TraceSays, VerifySays, call_of};
 ghost use Rattle.stab_top.specs.Ending.{AsReleased, AtTheEnd, outcome_of, shown_by};
 ghost use Rattle.stab_top.specs.Words.{is_built};
 
 use crate::checking::check_program;
+use crate::drilling::play_drill;
 use crate::judging::judge;
+use crate::loading::load;
 use crate::milling::run_mill;
-use crate::reading::{read_probes_file, read_program_file, read_run, read_trace_file};
-use crate::report::{Gate, Report, Status};
+use crate::reading::{Given, read_probes_file, read_program_file, read_run, read_trace_file};
+use crate::report::{Gate, Report, Role, Status};
 use crate::running::{run_program, trace_program};
 use crate::words::is_built;
 use stab_code::Program;
 use stab_files::{Files, Sink};
-use stab_words::{Name, Request, RunArgs, VerifyArgs, WordFault, read_words};
+use stab_words::{DrillArgs, Name, Request, RunArgs, VerifyArgs, WordFault, read_words};
 use std::alloc::Global;
 use std::sync::Wait;
 use std::thread::Threads;
 
 /// Does what the words ask for, and reports how it ended. `run FILE` runs the program of the file and writes what it shows;
 /// `trace FILE` runs it and writes the trace; `mill SIZE` runs a program of this size; `verify FILE TRACE` writes the verdict on a
-/// trace; `check FILE` writes how many functions and texts the program has. One worker runs on the calling thread, and calls no
+/// trace; `drill FILE SCRIPT` plays a schedule that is written by hand, and writes what its lines did and what the program then
+/// shows; `check FILE` writes how many functions and texts the program has. One worker runs on the calling thread, and calls no
 /// gate.
 pub fn stab<R: Threads + Wait + Sync, F: Files, K: Sink, G: Gate + Sync>(
     rt: &R,
@@ -72,6 +76,7 @@ fn answer_request<F: Files, K: Sink>(
         Request::Trace(args) => trace_file(alloc, args, files, sink),
         Request::Mill(args) => run_mill(alloc, args, sink),
         Request::Verify(args) => verify_file(alloc, args, files, sink),
+        Request::Drill(args) => drill_file(alloc, args, files, sink),
         Request::Check(file) => check_file(alloc, file, files, sink),
         _ => unreachable!(),
     }
@@ -162,6 +167,70 @@ fn judge_file<F: Files, K: Sink>(
 {
     match read_trace_file(alloc, files, trace.as_str()) {
         Ok(history) => judge(alloc, program, script, &history, sink),
+        Err(report) => report,
+    }
+}
+
+// Plays the drill of a file on the program of another and a script.
+fn drill_file<F: Files, K: Sink>(
+    alloc: Global,
+    args: &DrillArgs,
+    files: &mut F,
+    sink: &mut K,
+) -> Report
+    requires fuel { IsUpTo most_fuel args.now.fuel }
+    requires quantum { IsUpTo most_quantum args.now.quantum }
+    ensures says { DrillSays (call_of F.held F.faults files.old files.new
+        (outcome_of K.told K.faults sink.old sink.new result)) args.now }
+    ensures kept { F.held files.new ≡ F.held files.old }
+{
+    match read_program_file(alloc, files, args.file.as_str()) {
+        Ok(program) => drill_program(alloc, args, program, files, sink),
+        Err(report) => report,
+    }
+}
+
+// Plays the drill of a file on the program and a script.
+fn drill_program<F: Files, K: Sink>(
+    alloc: Global,
+    args: &DrillArgs,
+    program: Program,
+    files: &mut F,
+    sink: &mut K,
+) -> Report
+    requires fuel { IsUpTo most_fuel args.now.fuel }
+    requires quantum { IsUpTo most_quantum args.now.quantum }
+    ensures says { let c = call_of F.held F.faults files.old files.new (outcome_of K.told K.faults sink.old sink.new result) in
+        ScriptSays c args.now.probes (λ script. OrdersSay c args.now program script) }
+    ensures kept { F.held files.new ≡ F.held files.old }
+{
+    let Some(file) = &args.probes else {
+        let script = Vec::new(alloc);
+        return drill_given(alloc, args, Given { program, script }, files, sink);
+    };
+    match read_probes_file(alloc, files, file.as_str()) {
+        Ok(script) => drill_given(alloc, args, Given { program, script }, files, sink),
+        Err(report) => report,
+    }
+}
+
+// Plays the drill of a file on what is given.
+fn drill_given<F: Files, K: Sink>(
+    alloc: Global,
+    args: &DrillArgs,
+    given: Given,
+    files: &mut F,
+    sink: &mut K,
+) -> Report
+    requires fuel { IsUpTo most_fuel args.now.fuel }
+    requires quantum { IsUpTo most_quantum args.now.quantum }
+    requires few { length given.script.items ≤ max_script }
+    ensures says { OrdersSay (call_of F.held F.faults files.old files.new
+        (outcome_of K.told K.faults sink.old sink.new result)) args.now given.program given.script.items }
+    ensures kept { F.held files.new ≡ F.held files.old }
+{
+    match load(alloc, files, Role::Script, args.script.as_str()) {
+        Ok(orders) => play_drill(alloc, given, args.fuel, args.quantum, &orders, sink),
         Err(report) => report,
     }
 }

@@ -59,6 +59,13 @@ verify p q -> 4 stab: NoFile trace/\n\
 verify p q --probes q -> 4 stab: NoFile probes/\n\
 verify p p --probes p -> 10 stab: BadProbes Line 0/\n\
 verify p p -> 11 stab: BadTrace NoEnd/\n\
+drill p -> 2 stab: BadWords MissingWord/\n\
+drill p p --workers 1 -> 2 stab: BadWords UnknownOption 3/\n\
+drill q q --probes q -> 4 stab: NoFile program/\n\
+drill p q --probes q -> 4 stab: NoFile probes/\n\
+drill p q -> 4 stab: NoFile script/\n\
+drill p p --probes p -> 10 stab: BadProbes Line 0/\n\
+drill p p -> 12 stab: BadScript BadLine 0/\n\
 run p --probes q -> 4 stab: NoFile probes/\n\
 trace p --probes q -> 4 stab: NoFile probes/\n\
 ";
@@ -69,7 +76,6 @@ fn refused_words(rt: HostRuntime) -> Result<(), Fail> {
 }
 
 const UNBUILT: &str = "\
-drill p s -> 14 stab: NotBuilt/\n\
 types p -> 14 stab: NotBuilt/\n\
 save p t 1 -> 14 stab: NotBuilt/\n\
 resume i -> 14 stab: NotBuilt/\n\

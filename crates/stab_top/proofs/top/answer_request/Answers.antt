@@ -1,5 +1,5 @@
 use Rattle.std.proofs.Common.{refl, sym, ◌∙◌}
-use Rattle.stab_words.specs.declared.request.Request.TheVariants.{Run, Trace, Mill, Verify, Check}
+use Rattle.stab_words.specs.declared.request.Request.TheVariants.{Run, Trace, Mill, Verify, Drill, Check}
 use Rattle.stab_top.proofs.Wording.{said_built}
 use Rattle.stab_top.proofs.top.answer_request.Goals as goal
 
@@ -22,3 +22,7 @@ returns-in-Verify-clause-says g c =
 pub returns-in-Check-clause-says : goal.returns-in-Check-clause-says
 returns-in-Check-clause-says g c =
     said_built c.args.request.now (Check c.in-Check.file) _ c.in-Check.is (sym c.is_built.ensures ∙ c.if-not-is_built.false) c.check_file.ensures.says
+
+pub returns-in-Drill-clause-says : goal.returns-in-Drill-clause-says
+returns-in-Drill-clause-says g c =
+    said_built c.args.request.now (Drill c.in-Drill.args) _ c.in-Drill.is (sym c.is_built.ensures ∙ c.if-not-is_built.false) c.drill_file.ensures.says

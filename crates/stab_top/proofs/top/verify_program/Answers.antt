@@ -22,4 +22,4 @@ returns-in-Ok-clause-says g c =
     let outcome = outcome_of g.K.Sink.told g.K.Sink.faults c.args.sink.now c.judge_file-in-Ok.new.sink c.judge_file-in-Ok.result in
     let script = c.in-Ok.script.items in
     let holds = subst (λ name. Holds probes_form before name between.faults script) c.as_str.ensures c.in-Ok.ensures.ok in
-    script_read outcome (faults c.judge_file-in-Ok.new.files) before between c.args.args.now.probes c.in-Some.file c.args.args.now.trace c.args.program script c.in-Some.is c.in-Ok.ensures.kept holds c.judge_file-in-Ok.ensures.says
+    script_read outcome (faults c.judge_file-in-Ok.new.files) before between c.args.args.now.probes c.in-Some.file (λ call s. TraceSays call c.args.args.now.trace c.args.program s) script c.in-Some.is c.in-Ok.ensures.kept holds c.judge_file-in-Ok.ensures.says
