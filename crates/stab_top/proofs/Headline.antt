@@ -1,5 +1,5 @@
 -- What a call shows of the program that it runs.
-use Rattle.std.proofs.Common.{◌≡◌, ◌⊎◌, inl, inr, ℕ, ℤ, true, length, length-append, arith, List, [], ◌∷◌, ◌++◌, Option, Some, None, Result, Ok, refl, sym, ap, subst, ◌∙◌, append-nil, append_assoc}
+use Rattle.std.proofs.Common.{◌≡◌, ◌⊎◌, inl, inr, ℕ, ℤ, true, List, [], Option, Some, None, Result, Ok, refl, sym, subst}
 use Rattle.drill_text.specs.Script.{script_of}
 use Rattle.drill_text.specs.declared.script.Line.{Line}
 use Rattle.stab_code.specs.JobParts.{JobParts, job_of}
@@ -11,8 +11,10 @@ use Rattle.stab_words.specs.declared.request.MillArgs.{MillArgs}
 use Rattle.stab_words.specs.declared.request.Request.{Request}
 use Rattle.stab_words.specs.declared.request.Request.TheVariants.{Run, Trace, Verify, Drill, Check, Mill, Types, Save, Resume, Watch}
 use Rattle.stab_words.specs.declared.request.RunArgs.{RunArgs}
-use Rattle.plain_language.specs.Plain.{PlainState}
+use Rattle.plain_language.specs.Plain.{IsRun, PlainState, end_of}
 use Rattle.stab_journal.specs.declared.event.Numbered.{Numbered}
+use Rattle.stab_journal.specs.Journal.{survivors}
+use Rattle.journal_laws.proofs.Undone.{stands_run}
 use Rattle.commit_book.specs.Book.{BookView, IsShown, ShowsRun}
 use Rattle.commit_book.proofs.LawfulBooks.{final_lasts, granted, has_run, pinned_lasts}
 use Rattle.stab_top.specs.declared.report.Report.{Report}
@@ -30,7 +32,7 @@ use Rattle.stab_top.specs.Reading.{BytesRefused, Form, ReadRefused, probes_form,
 use Rattle.stab_top.proofs.Complete.{request_said}
 
 -- what a book shows
-of_shown : (book : BookView) (run : List Numbered) (state : PlainState) → ShowsRun book run state → IsOfTheLanguage book
+abbrev of_shown : (book : BookView) (run : List Numbered) (state : PlainState) → ShowsRun book run state → IsOfTheLanguage book
 of_shown book run state shows =
     let shown : IsShown book = record { run = run; state = state; shows = shows } in
     record {
@@ -42,6 +44,21 @@ of_shown book run state shows =
 
 abbrev of_language : (job : JobParts) (book : BookView) (state : PlainState) → IsRunOf job book state → IsOfTheLanguage book
 of_language job book state r = of_shown book r.run state r.shown
+
+-- a list of steps ends in one state
+one_end : (p : ProgramParts) (run steps : List Numbered) (s u : PlainState) → steps ≡ run → IsRun p steps u → IsRun p run s → u ≡ s
+one_end p run steps s u same left right =
+    let ends : end_of p run ≡ Some u = subst (λ (ns : List Numbered). end_of p ns ≡ Some u) same left.ends in
+    let again : end_of p run ≡ Some s = right.ends in
+    let one : u ≡ s = cc in
+    one
+
+ends_in : (job : JobParts) (book : BookView) (state : PlainState) (r : IsRunOf job book state) → (of_language job book state r).run.end ≡ state
+ends_in job book state r =
+    let p = book.job.program in
+    let history = r.shown.journal.history in
+    let says = (of_language job book state r).run in
+    one_end p r.run (survivors book.history) state says.end history.left says.run (stands_run p book.history.events r.run state history.stands).1
 
 -- ---- a call
 
@@ -166,10 +183,19 @@ book_of_language words c request b says is asks there = built_book c b there req
 
 -- ---- a run that is over
 
+ended : (c : Call) (job : JobParts) (book : BookView) (state : PlainState) → IsRunOf job book state → c.outcome.report.book ≡ Some book
+    → Gains c.outcome.sink c.outcome.sink_after (shown_by book state) → ShowsRunOf c
+ended c job book state r reported gains = record {
+  book = book;
+  reported = reported;
+  says = of_language job book state r;
+  written = subst (λ (s : PlainState). Gains c.outcome.sink c.outcome.sink_after (shown_by book s)) (sym (ends_in job book state r)) gains;
+}
+
 ended_run : (c : Call) (job : JobParts) (status : Status) → IsEnd status → RunEnds (AsReleased shown_by) status job c.outcome → ShowsRunOf c
-ended_run c job Done over e = record { book = e.book; reported = e.reported; says = of_language job e.book e.state e.run; written = e.writes.gains }
-ended_run c job Held over e = record { book = e.book; reported = e.reported; says = of_language job e.book e.state e.run; written = e.writes.gains }
-ended_run c job Spent over e = record { book = e.book; reported = e.reported; says = of_language job e.book e.state e.run; written = e.writes.gains }
+ended_run c job Done over e = ended c job e.book e.state e.run e.reported e.writes.gains
+ended_run c job Held over e = ended c job e.book e.state e.run e.reported e.writes.gains
+ended_run c job Spent over e = ended c job e.book e.state e.run e.reported e.writes.gains
 ended_run c job BadWords over e = elim over [ ]
 ended_run c job BadText over e = elim over [ ]
 ended_run c job NoFile over e = elim over [ ]
