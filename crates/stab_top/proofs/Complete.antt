@@ -50,9 +50,9 @@ found_there files name P held found told = subst (λ o. IfSome o (λ all. P (con
 same_bytes : (a b : List ℕ) → ◌≡◌ {A = Option (List ℕ)} (Some a) (Some b) → a ≡ b
 same_bytes a b h = cc
 
--- the memory was refused, or a fault was counted
-abbrev Failed : Status → Call → Type 0
-Failed status c = (status ≡ NoMemory) ⊎ CountedFault c
+-- the memory was refused, or a file was, for a fault that was counted
+abbrev pub Failed : Status → Call → Type 0
+Failed status c = (status ≡ NoMemory) ⊎ ((status ≡ FileFault) × CountedFault c)
 
 -- a file that is held within the limit is refused by a fault or for want of memory
 load_refused : (role : Role) (status : Status) (c : Call) (name bytes : List ℕ) → IsHeld role c name bytes → LoadRefused status role c.files name c.files_after → Failed status c
@@ -64,7 +64,7 @@ load_refused role TooBig c name bytes is says =
     subst (λ o. IsSomeAnd o (λ b. max_bytes role < length b)) is.held (found_there c.files name (λ found. IsSomeAnd found (λ b. max_bytes role < length b)) is.files says.1 is.told) in
     let over : max_bytes role < length bytes = big in
     let within = is.within in absurd (omega arith)
-load_refused role FileFault c name bytes is says = inr (inl says)
+load_refused role FileFault c name bytes is says = inr (refl, inl says)
 load_refused role NoMemory c name bytes is says = inl refl
 load_refused role Done c name bytes is says = elim says [ ]
 load_refused role Held c name bytes is says = elim says [ ]
@@ -100,7 +100,7 @@ module _ {Content Fault : Type 0} (form : Form Content Fault) (c : Call) (name b
 
   failed_refused : (fault : Fault) → Failed (status_of c) c → IsRefused form c fault ⊎ CountedFault c
   failed_refused fault (inl none) = inl (inr none)
-  failed_refused fault (inr counted) = inr counted
+  failed_refused fault (inr counted) = inr counted.1
 
   -- what is held has a fault, for which it was refused
   fault_refused : (fault : Fault) → ((content : Content) → form.IsOf bytes content → ⊥) → ((other : Fault) → form.HasFault bytes other → other ≡ fault) → (faults : ℕ) (Said : Content → Type 0)
@@ -147,11 +147,11 @@ module _ (c : Call) (name bytes : List ℕ) where
 
 failed_ran : (c : Call) → Failed (status_of c) c → Ran (status_of c) ⊎ CountedFault c
 failed_ran c (inl none) = inl (subst Ran (sym none) tt)
-failed_ran c (inr counted) = inr counted
+failed_ran c (inr counted) = inr counted.1
 
 failed_checked : (c : Call) → Failed (status_of c) c → Checked (status_of c) ⊎ CountedFault c
 failed_checked c (inl none) = inl (subst Checked (sym none) tt)
-failed_checked c (inr counted) = inr counted
+failed_checked c (inr counted) = inr counted.1
 
 ran : (text_by : BookView → PlainState → List ℕ) (status : Status) (c : Call) (job : JobParts) → RunEnds (AsReleased text_by) status job c.outcome → Ran status ⊎ CountedFault c
 ran text_by Done c job says = inl tt
@@ -290,7 +290,7 @@ module _ (c : Call) (program : ProgramParts) (script : List ℤ) (bytes : List �
 
   failed_judged : Failed (status_of c) c → WasJudged c program script bytes ⊎ CountedFault c
   failed_judged (inl none) = inl (inr none)
-  failed_judged (inr counted) = inr counted
+  failed_judged (inr counted) = inr counted.1
 
   trace_came : Failed (status_of c) c ⊎ ((history : Journal) × (traces.reading bytes ≡ Ok (entries history)) × VerdictEnds (status_of c) program script history c.outcome) → WasJudged c program script bytes ⊎ CountedFault c
   trace_came (inl failed) = failed_judged failed
@@ -379,7 +379,7 @@ module _ (c : Call) (job : JobParts) where
 
   failed_drilled : (script : List Line) → Failed (status_of c) c → WasDrilled c job script ⊎ CountedFault c
   failed_drilled script (inl none) = inl (inr (inr none))
-  failed_drilled script (inr counted) = inr counted
+  failed_drilled script (inr counted) = inr counted.1
 
   bytes_drilled : (bytes : List ℕ) → Failed (status_of c) c ⊎ DrillEnds (status_of c) job bytes c.outcome → WasDrilled c job (script_of bytes) ⊎ CountedFault c
   bytes_drilled bytes (inl failed) = failed_drilled (script_of bytes) failed
@@ -393,15 +393,22 @@ module _ (c : Call) (args : DrillArgs) (bytes : List ℕ) (held : IsHeld roles.S
   orders_held (inl refused) = inl (load_refused roles.Script (status_of c) c args.script bytes held refused.0)
   orders_held (inr (loaded, loads, ends)) = inr (subst (λ b. DrillEnds (status_of c) of_job b c.outcome) (loaded_is roles.Script c args.script bytes loaded c.files_after held loads) ends)
 
-  orders_came : Failed (status_of c) c ⊎ OrdersSay c args program script → WasDrilled c of_job (script_of bytes) ⊎ CountedFault c
-  orders_came (inl failed) = failed_drilled c of_job (script_of bytes) failed
-  orders_came (inr says) = bytes_drilled c of_job bytes (orders_held says)
+  orders_came : Failed (status_of c) c ⊎ OrdersSay c args program script → Failed (status_of c) c ⊎ DrillEnds (status_of c) of_job bytes c.outcome
+  orders_came (inl failed) = inl failed
+  orders_came (inr says) = orders_held says
+
+-- what is said of a script that is held, behind a program and a script of probes that are
+pub drill_said : (words : List (List ℕ)) (c : Call) (args : DrillArgs) (text bytes : List ℕ) (program : ProgramParts) (script : List ℤ) → Says words c → asked words ≡ Ok (Drill args)
+    → IsHeld roles.Program c args.file text → IsTextOf text program → IsScriptFor c args.probes script → IsHeld roles.Script c args.script bytes
+    → Failed (status_of c) c ⊎ DrillEnds (status_of c) (job_of program script args.fuel args.quantum) bytes c.outcome
+drill_said words c args text bytes program script says is held of for_script there =
+    orders_came c args bytes there program script (orders_said words c args text program script says is held of for_script)
 
 pub script_is_drilled : (words : List (List ℕ)) (c : Call) (args : DrillArgs) (text bytes : List ℕ) (program : ProgramParts) (script : List ℤ) → Says words c → asked words ≡ Ok (Drill args)
     → IsHeld roles.Program c args.file text → IsTextOf text program → IsScriptFor c args.probes script → IsHeld roles.Script c args.script bytes
     → WasDrilled c (job_of program script args.fuel args.quantum) (script_of bytes) ⊎ CountedFault c
 script_is_drilled words c args text bytes program script says is held of for_script there =
-    orders_came c args bytes there program script (orders_said words c args text program script says is held of for_script)
+    bytes_drilled c (job_of program script args.fuel args.quantum) bytes (drill_said words c args text bytes program script says is held of for_script there)
 
 -- a line that is no order isn't played
 no_order_played : (before behind : List Line) (line : Line) (old new : Stand) (text : List ℕ) → line.order ≡ None → ArePlayed (before ++ line ∷ behind) old text new → ⊥

@@ -7,6 +7,7 @@ pub mod Rounding
 pub mod Played
 pub mod Ending
 pub mod Complete
+pub mod Determined
 pub mod Wording
 pub mod Executing
 pub mod OwnTraces

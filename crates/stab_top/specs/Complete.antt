@@ -1,24 +1,30 @@
 -- What the laws of whole calls speak of.
-use Rattle.std.specs.Prelude.{◌≡◌, ℕ, ℤ, ◌≤◌, List, [], length, Option, Some, None, ◌⊎◌}
+use Rattle.std.specs.Prelude.{◌≡◌, ℕ, ℤ, ◌≤◌, List, [], ◌++◌, length, Option, Some, None, ◌⊎◌}
+use Rattle.commit_book.specs.Book.{BookView}
 use Rattle.drill_text.specs.declared.script.Line.{Line}
+use Rattle.lone_worker.specs.Desk.{desk_of}
+use Rattle.plain_language.specs.Plain.{PlainState, end_of}
+use Rattle.schedule_drill.specs.declared.fault.DrillFault.{DrillFault}
 use Rattle.stab_code.specs.JobParts.{JobParts}
 use Rattle.stab_code.specs.Program.{ProgramParts}
 use Rattle.stab_files.specs.Entry.{Entry, contents_of}
 use Rattle.stab_journal.specs.Journal.{Journal}
+use Rattle.stab_journal.specs.Surviving.{run_of}
 use Rattle.stab_words.specs.declared.request.Request.{Request}
 use Rattle.stab_words.specs.declared.request.Request.TheVariants.{Check, Drill, Run, Trace as WritesTrace, Verify}
 use Rattle.trace_verify.specs.declared.verdict.Verdict.{Verdict}
 use Rattle.trace_verify.specs.Verdict.{IsVerdict}
 use Rattle.stab_top.specs.declared.report.Status.{Status}
-use Rattle.stab_top.specs.declared.report.Status.TheVariants.{BadScript, Done, Held, NoMemory, Spent}
+use Rattle.stab_top.specs.declared.report.Status.TheVariants.{BadScript, Done, FileFault, Held, NoMemory, SinkFault, Spent}
 use Rattle.stab_top.specs.declared.report.Role.{Role}
 use Rattle.stab_top.specs.declared.report.Role.TheVariants.{Program, Probes, Trace}
-use Rattle.stab_top.specs.Call.{Call, status_of}
+use Rattle.stab_top.specs.Call.{Call, CountedFault, status_of}
 use Rattle.stab_top.specs.Drilling.{IsPlayedOut, IsStuck, drill_text}
-use Rattle.stab_top.specs.Device.{Gains}
-use Rattle.stab_top.specs.Ending.{verdict_status}
+use Rattle.stab_top.specs.Device.{Gains, GainsPrefix}
+use Rattle.stab_top.specs.Ending.{Refuses, shown_by, verdict_status}
 use Rattle.stab_top.specs.Loading.{max_bytes}
 use Rattle.stab_top.specs.Reading.{Blames, Form, probes_form, trace_form}
+use Rattle.stab_top.specs.Reason.{blames_script}
 
 -- the files tell that the bytes are held under the name, within the limit of what they are for
 pub record IsHeld (role : Role) (c : Call) (name bytes : List ℕ) : Type 0 where
@@ -85,3 +91,27 @@ pub record WasStuck (c : Call) (job : JobParts) (script : List Line) : Type 0 wh
 -- the script was played, or a line can't be, or memory was refused
 abbrev pub WasDrilled : Call → JobParts → List Line → Type 0
 WasDrilled c job script = WasPlayed c job script ⊎ (WasStuck c job script ⊎ (status_of c ≡ NoMemory))
+
+-- the report's book has the desk of this one, and the text is these lines, and then what the state shows to which the steps of the book lead that no undo took away
+pub record IsTextOfDrill (c : Call) (lines : List ℕ) (book : BookView) (text : List ℕ) : Type 0 where
+  pub last : BookView
+  pub reported : c.outcome.report.book ≡ Some last
+  pub desk : desk_of last ≡ desk_of book
+  pub state : PlainState
+  pub ends : end_of book.job.program (run_of book.history.events) ≡ Some state
+  pub is : text ≡ lines ++ shown_by book state
+
+-- What each status says where a drill comes to these lines and this book. Memory may be refused, or a file for a fault that was counted, and no other status comes.
+abbrev pub ComesTo : Status → Call → List ℕ → BookView → Type 0
+ComesTo Done c lines book = (text : List ℕ) × IsTextOfDrill c lines book text × Gains c.outcome.sink c.outcome.sink_after text
+ComesTo SinkFault c lines book = (text : List ℕ) × IsTextOfDrill c lines book text × GainsPrefix c.outcome.sink c.outcome.sink_after text
+ComesTo FileFault c lines book = CountedFault c
+ComesTo NoMemory c lines book = Unit {0}
+ComesTo _ c lines book = ⊥
+
+-- the same where a script can't be played for this fault, which is blamed, and nothing was written
+abbrev pub StopsWith : Status → Call → DrillFault → Type 0
+StopsWith BadScript c fault = Refuses c.outcome (blames_script fault)
+StopsWith FileFault c fault = CountedFault c
+StopsWith NoMemory c fault = Unit {0}
+StopsWith _ c fault = ⊥

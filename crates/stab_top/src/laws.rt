@@ -9,6 +9,8 @@ ghost use Rattle.lone_worker.specs.Solo.{BeginsWith, IsWholeSolo};
 ghost use Rattle.mill_text.specs.Mill.{mill_text};
 ghost use Rattle.plain_language.specs.Plain.{PlainState};
 ghost use Rattle.plain_language.specs.Standing.{event};
+ghost use Rattle.schedule_drill.specs.Drilled.{IsDrilled, IsOfScript, IsRefused as IsUnplayed};
+ghost use Rattle.schedule_drill.specs.declared.fault.DrillFault.{DrillFault};
 ghost use Rattle.stab_base.specs.declared.numbers.Seq.{Seq};
 ghost use Rattle.stab_base.specs.declared.numbers.ThreadId.{ThreadId};
 ghost use Rattle.probe_text.specs.declared.fault.ProbesFault.{ProbesFault};
@@ -36,7 +38,7 @@ ghost use Rattle.trace_text.specs.declared.fault.TraceFault.{TraceFault};
 ghost use Rattle.trace_text.specs.Text.{trace};
 ghost use Rattle.stab_top.specs.Call.{Call, CountedFault, Says, status_of};
 ghost use Rattle.stab_top.specs.Words.{is_built};
-ghost use Rattle.stab_top.specs.Complete.{Checked, IsHeld, IsHeldFor, IsRefused, IsScriptFor, Ran, WasDrilled, WasJudged, WasStuck};
+ghost use Rattle.stab_top.specs.Complete.{Checked, ComesTo, IsHeld, IsHeldFor, IsRefused, IsScriptFor, Ran, StopsWith, WasDrilled, WasJudged, WasStuck};
 ghost use Rattle.stab_top.specs.Ending.{IsRunOf};
 ghost use Rattle.stab_top.specs.Headline.{AsksForRun, IsEnd, IsOfTheLanguage, ShowsRunOf};
 ghost use Rattle.stab_top.specs.Reading.{probes_form, program_form, trace_form};
@@ -136,6 +138,22 @@ pub fn bad_lines_stop_drills()
         IsScriptFor c args.probes script → IsHeld ScriptFile c args.script bytes →
         script_of bytes ≡ before ++ line ∷ behind → line.order ≡ None →
         (WasStuck c (job_of program script args.fuel args.quantum) (script_of bytes) ⊎ (status_of c ≡ NoMemoryStatus)) ⊎ CountedFault c }
+{}
+
+/// What comes of such a script is fixed by its lines and by the job: where a drill of the two can be played, the call comes to its
+/// lines, its desk and what that shows; where a line can't be, to the fault of that line, and nothing is written.
+pub fn drills_are_determined()
+    ensures played { (words : List (List ℕ)) (c : Call) (args : DrillArgs) (text bytes : List ℕ) (program : ProgramParts)
+        (script : List ℤ) (lines : List ℕ) (book : BookView) → Says words c → asked words ≡ Ok (Drill args) →
+        IsHeld ProgramFile c args.file text → IsTextOf text program → IsScriptFor c args.probes script →
+        IsHeld ScriptFile c args.script bytes →
+        IsDrilled (job_of program script args.fuel args.quantum) (script_of bytes) lines book →
+        ComesTo (status_of c) c lines book }
+    ensures stopped { (words : List (List ℕ)) (c : Call) (args : DrillArgs) (text bytes : List ℕ) (program : ProgramParts)
+        (script : List ℤ) (fault : DrillFault) → Says words c → asked words ≡ Ok (Drill args) →
+        IsHeld ProgramFile c args.file text → IsTextOf text program → IsScriptFor c args.probes script →
+        IsHeld ScriptFile c args.script bytes → IsOfScript fault →
+        IsUnplayed (job_of program script args.fuel args.quantum) (script_of bytes) fault → StopsWith (status_of c) c fault }
 {}
 
 /// What happens in a run is fixed by its job, as `run`, `trace` and `mill` make one: two runs that are over have one history, and

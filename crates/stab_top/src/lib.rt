@@ -36,9 +36,9 @@ mod writing;
 pub use laws::{
     bad_lines_stop_drills, bad_probes_are_refused, bad_probes_stop_drills, bad_probes_stop_runs,
     bad_texts_are_refused, bad_traces_are_refused, books_are_of_the_language,
-    good_programs_are_traced, good_programs_check, good_programs_run, mills_run,
-    runs_are_of_the_language, runs_have_one_history, scripts_are_drilled, traces_are_judged,
-    traces_of_runs_pass, undos_and_output,
+    drills_are_determined, good_programs_are_traced, good_programs_check, good_programs_run,
+    mills_run, runs_are_of_the_language, runs_have_one_history, scripts_are_drilled,
+    traces_are_judged, traces_of_runs_pass, undos_and_output,
 };
 pub use program::command;
 pub use reason_line::reason;
