@@ -22,6 +22,8 @@ fn main(rt: HostRuntime) -> io::Result<()> {
         "verify cascade.stab cascade.trace --probes cascade.probes",
         "verify cascade.stab cascade.trace",
         "run cascade.stab --probes cascade.probes",
+        "drill sum.stab sum.script",
+        "drill sum.stab twice.script",
         "mill 10",
     ] {
         let mut files = DiskFiles::new(&rt);

@@ -2,6 +2,8 @@
 #![tactic(auto)]
 
 mod checking;
+#[cfg(test)]
+mod drill_tests;
 mod drilling;
 mod judging;
 mod laws;
