@@ -1,5 +1,5 @@
 -- What the statuses say leaves no way round a good program or a trace, nor round a text that is none.
-use Rattle.std.proofs.Common.{arith, ◌≡◌, ◌⊎◌, inl, inr, ℕ, ℤ, ◌<◌, true, List, [], ◌∷◌, ◌++◌, length, Option, Some, None, Result, Ok, Err, IfSome, IsSomeAnd, refl, ap, sym, subst, ◌∙◌}
+use Rattle.std.proofs.Common.{arith, ◌≡◌, ◌⊎◌, inl, inr, ℕ, ℤ, ◌<◌, true, List, [], ◌∷◌, ◌++◌, length, Option, Some, None, Result, Ok, Err, IfSome, IsSomeAnd, refl, sym, subst, ◌∙◌}
 use Rattle.plain_language.specs.Plain.{PlainState}
 use Rattle.commit_book.specs.Book.{BookView}
 use Rattle.drill_text.specs.declared.order.Order.{Order}
@@ -28,7 +28,6 @@ use Rattle.stab_words.specs.declared.request.WordFault.{WordFault}
 use Rattle.trace_text.specs.declared.fault.TraceFault.{TraceFault}
 use Rattle.trace_text.specs.Reading as traces
 use Rattle.trace_text.specs.Text.{entries}
-use Rattle.stab_top.specs.declared.report.Report.{Report}
 use Rattle.stab_top.specs.declared.report.Role.{Role}
 use Rattle.stab_top.specs.declared.report.Role.TheVariants as roles
 use Rattle.stab_top.specs.declared.report.Status.{Status}
@@ -39,7 +38,7 @@ use Rattle.stab_top.specs.Ending.{AsReleased, AtTheEnd, CheckEnds, IsJudged, IsT
 use Rattle.stab_top.specs.Drilling.{DrillEnds, PlayEnds}
 use Rattle.stab_top.specs.Milling.{MillEnds}
 use Rattle.stab_top.specs.Loading.{Finds, LoadRefused, Loads, max_bytes}
-use Rattle.stab_top.specs.Reading.{Blames, Form, HaveFault, Holds, ReadRefused, probes_form, program_form, trace_form}
+use Rattle.stab_top.specs.Reading.{Blames, Form, ReadRefused, probes_form, program_form, trace_form}
 use Rattle.stab_top.specs.Call.{BuiltSays, Call, CheckSays, CountedFault, DrillSays, LastSays, OrdersSay, ReadSays, RequestSays, RunSaysBy, Says, ScriptSays, TraceSays, VerifySays, WordsSay, Writing, status_of}
 use Rattle.stab_top.specs.Complete.{Checked, IsHeld, IsHeldFor, IsRefused, IsScriptFor, Ran, WasDrilled, WasJudged, WasStuck}
 

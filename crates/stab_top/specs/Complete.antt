@@ -17,7 +17,7 @@ use Rattle.trace_verify.specs.Verdict.{IsVerdict}
 use Rattle.stab_top.specs.declared.report.Status.{Status}
 use Rattle.stab_top.specs.declared.report.Status.TheVariants.{BadScript, Done, FileFault, Held, NoMemory, SinkFault, Spent}
 use Rattle.stab_top.specs.declared.report.Role.{Role}
-use Rattle.stab_top.specs.declared.report.Role.TheVariants.{Program, Probes, Trace}
+use Rattle.stab_top.specs.declared.report.Role.TheVariants.{Program, Probes}
 use Rattle.stab_top.specs.Call.{Call, CountedFault, status_of}
 use Rattle.stab_top.specs.Drilling.{IsPlayedOut, IsStuck, drill_text}
 use Rattle.stab_top.specs.Device.{Gains, GainsPrefix}

@@ -1,4 +1,4 @@
-use Rattle.std.proofs.Common.{◌≡◌, ◌∙◌, subst, sym}
+use Rattle.std.proofs.Common.{subst}
 use Rattle.stab_code.specs.JobParts.{JobParts}
 use Rattle.lone_worker.specs.Solo.{IsWholeSolo}
 use Rattle.lone_worker.proofs.OneRun.{one_whole, whole_begins}
