@@ -19,6 +19,7 @@ fn main(rt: HostRuntime) -> io::Result<()> {
         "check prints.stab",
         "types sum.stab",
         "trace sum.stab",
+        "trace reads.stab",
         "verify cascade.stab cascade.trace --probes cascade.probes",
         "verify cascade.stab cascade.trace",
         "run cascade.stab --probes cascade.probes",
