@@ -5,6 +5,7 @@ mod drills;
 mod lists;
 mod plain;
 mod runs;
+mod scripts;
 mod texts;
 mod turns;
 mod weights;
