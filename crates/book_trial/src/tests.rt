@@ -5,7 +5,6 @@ mod drills;
 mod lists;
 mod plain;
 mod runs;
-mod scripts;
 mod texts;
 mod turns;
 mod weights;

@@ -81,13 +81,13 @@ struct Trial {
     wrong: Option<u64>,
 }
 
-pub(super) fn next_dice(dice: u64) -> u64 {
+fn next_dice(dice: u64) -> u64 {
     dice.wrapping_mul(6_364_136_223_846_793_005)
         .wrapping_add(1_442_695_040_888_963_407)
 }
 
 // Ten numbers, of which about half are below 0.
-pub(super) fn script_of(seed: u64) -> [i64; 10] {
+fn script_of(seed: u64) -> [i64; 10] {
     let mut script = [1_i64; 10];
     let mut dice = seed;
     for n in &mut script {

@@ -5,24 +5,12 @@ ghost use Rattle.commit_book.specs.Book.{IsAtStart};
 ghost use Rattle.step_eval.specs.ControlView.{Fits};
 
 use commit_book::{Book, CommitRefused, Done, Lease, Turn};
-use stab_code::{Job, Program};
+use stab_code::Job;
 use stab_text::read_program;
 use std::alloc::Global;
 use std::sync::Arc;
 use std::test::Fail;
 use step_eval::{Control, Progress, advance};
-
-// The program of a text.
-pub(super) fn program_of(alloc: Global, text: &str) -> Result<Arc<Program>, Fail> {
-    let bytes = text.as_bytes();
-    if bytes.len() > 1_048_576 {
-        return Err(Fail::from("a short text"));
-    }
-    let Ok(program) = read_program(alloc, bytes) else {
-        return Err(Fail::from("the text of a program"));
-    };
-    Ok(Arc::new(alloc, program)?)
-}
 
 // A book of a text with a script and fuel.
 pub(super) fn book_with(alloc: Global, text: &str, script: &[i64], fuel: u64) -> Result<Book, Fail>
@@ -31,8 +19,19 @@ pub(super) fn book_with(alloc: Global, text: &str, script: &[i64], fuel: u64) ->
     requires script { length script.now ≤ 10 }
     ensures { IfOk result IsAtStart }
 {
-    let program = program_of(alloc, text)?;
-    let job = Job::new(program, Vec::from_slice(alloc, script)?, fuel, 10);
+    let bytes = text.as_bytes();
+    if bytes.len() > 1_048_576 {
+        return Err(Fail::from("a short text"));
+    }
+    let Ok(program) = read_program(alloc, bytes) else {
+        return Err(Fail::from("the text of a program"));
+    };
+    let job = Job::new(
+        Arc::new(alloc, program)?,
+        Vec::from_slice(alloc, script)?,
+        fuel,
+        10,
+    );
     Book::new(alloc, job).map_err(|_| Fail::from("no memory"))
 }
 
