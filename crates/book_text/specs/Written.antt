@@ -20,7 +20,8 @@ released_lines b = value_lines b.job.program (take (released b.history.events) b
 
 -- the text is what that state shows behind the lines of the values that were released
 abbrev pub IsRestText : BookView → List ℕ → Type 0
-IsRestText b text = (s : PlainState) → end_of b.job.program (survivors b.history) ≡ Some s → shown b.job.program s ≡ released_lines b ++ text
+IsRestText b text =
+    (s : PlainState) → end_of b.job.program (survivors b.history) ≡ Some s → shown b.job.program s ≡ released_lines b ++ text
 
 -- the line of a thread that failed, and none of another
 abbrev pub fault_line_of : BookView → ℕ → List ℕ
@@ -34,4 +35,5 @@ fault_lines b (suc n) = fault_lines b n ++ fault_line_of b n
 -- how many threads of the book ended without a fault, how many with one, and how many wait
 abbrev pub count_text : BookView → List ℕ
 count_text b =
-    counts (in_state Ended b - faulted_in b.job.program b.threads b.next.thread) (faulted_in b.job.program b.threads b.next.thread) (in_state Parked b + in_state Ready b + in_state Leased b)
+    counts (in_state Ended b - faulted_in b.job.program b.threads b.next.thread)
+      (faulted_in b.job.program b.threads b.next.thread) (in_state Parked b + in_state Ready b + in_state Leased b)

@@ -290,6 +290,7 @@ module _ (b : BookView) (shown : IsShown b) where
       record {
         end = shown.state;
         left = journal.history.left ∙ ran.0;
+        stands = subst (λ (r : List Numbered). StandsFor b.job.program b.history.events r shown.state) ran.0 journal.history.stands;
         run = subst (λ (r : List Numbered). IsRun b.job.program r shown.state) (sym journal.history.left) ran.1;
         script = journal.script;
         threads = shown.shows.threads.threads;

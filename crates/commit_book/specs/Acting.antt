@@ -107,11 +107,13 @@ fails_now before now = cond (now && not before) 1 0
 
 -- the thread t goes on from the control c, or has ended there; before, it stood at another one
 pub record HasGoneOn (p : ProgramParts) (old new : Parts) (t : ℕ) (before c : ControlView) : Type 0 where
-  pub threads : new.slots.threads ≡ changed old.slots.threads t (λ slot. record slot { control = c; state = state_for (over p c) })
+  pub threads : new.slots.threads
+      ≡ changed old.slots.threads t (λ slot. record slot { control = c; state = state_for (over p c) })
   pub queue : new.slots.queue ≡ without t old.slots.queue ++ (if over p c then [] else t ∷ [])
   pub next : new.slots.next ≡ old.slots.next
   pub sound : IsSound new.slots
-  pub tallies : new.tallies ≡ record old.tallies { faulted = old.tallies.faulted + fails_now (is_failed (expr_of p before)) (is_failed (expr_of p c)) }
+  pub tallies : new.tallies
+      ≡ record old.tallies { faulted = old.tallies.faulted + fails_now (is_failed (expr_of p before)) (is_failed (expr_of p c)) }
   pub rest : new ≡ record old { slots = new.slots; tallies = new.tallies }
 
 -- what the row says was done
@@ -127,11 +129,14 @@ IsOutcomeOf run stays o = o ≡ outcome.Parked
 IsOutcomeOf run row o = o ≡ outcome.Taken
 
 abbrev pub IsDoneBy : BookView → BookView → LeaseView → ProgressView → Row → Type 0
-IsDoneBy old new lease progress (undoes m) = IsTakenBack old new lease.worker lease.thread progress.steps m (begun old lease.thread progress.steps)
+IsDoneBy old new lease progress (undoes m) =
+    IsTakenBack old new lease.worker lease.thread progress.steps m (begun old lease.thread progress.steps)
 IsDoneBy old new lease progress row = IsMoved old new lease.worker lease.thread progress.steps row
 
-pub record IsPerformed (job : JobParts) (old new : Parts) (lease : LeaseView) (progress : ProgressView) (outcome : Outcome) : Type 0 where
-  pub becomes : IsOutcomeOf (begun (view_of job old) lease.thread progress.steps) (row_at (view_of job old) lease progress) outcome
+pub record IsPerformed (job : JobParts) (old new : Parts) (lease : LeaseView) (progress : ProgressView) (outcome : Outcome)
+    : Type 0 where
+  pub becomes :
+      IsOutcomeOf (begun (view_of job old) lease.thread progress.steps) (row_at (view_of job old) lease progress) outcome
   pub done : IsDoneBy (view_of job old) (view_of job new) lease progress (row_at (view_of job old) lease progress)
 
 -- the thread t goes on from a control that stands for e, or has ended there

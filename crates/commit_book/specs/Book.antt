@@ -42,7 +42,9 @@ pub record Answered : Type 0 where
   pub commits : ℕ
   pub stale : ℕ
 
--- a job and its history; the live threads and the ready queue; the channels with their offers; the kept writes of references and the number of the last cut; the saved controls; the nodes of the graph; what was printed; the next numbers; and the counts of answers. Room isn't among it
+-- a job and its history; the live threads and the ready queue; the channels with their offers; the kept writes of references and
+-- the number of the last cut; the saved controls; the nodes of the graph; what was printed; the next numbers; and the counts of
+-- answers. Room isn't among it
 pub record BookView : Type 0 where
   pub job : JobParts
   pub history : Journal

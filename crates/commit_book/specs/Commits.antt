@@ -25,7 +25,8 @@ use Rattle.commit_book.specs.Undoing.{begun, IsTakenBack, IsToldOf}
 
 -- the thread is there, of the lease's generation, and its control is this one
 abbrev pub IsCurrent : FinMap nat_cmp (Slot ControlView) → LeaseView → ControlView → Type 0
-IsCurrent threads lease origin = IsSomeAnd (map.get threads lease.thread) (λ slot. (slot.generation ≡ lease.generation) × (slot.control ≡ origin))
+IsCurrent threads lease origin =
+    IsSomeAnd (map.get threads lease.thread) (λ slot. (slot.generation ≡ lease.generation) × (slot.control ≡ origin))
 
 -- the weight is that of a book that takes no commit any more
 abbrev pub IsOver : BookView → Type 0
@@ -40,7 +41,8 @@ line_after t _ c line = line
 -- a commit by the row: with what every book shows, this determines the new book but for the forms of its controls
 pub record IsMoved (old new : BookView) (worker t n : ℕ) (row : Row) : Type 0 where
   -- the steps are pushed, with the lease's worker
-  pub history : new.history ≡ record old.history { events = old.history.events ++ events_by worker (local_of t n ++ steps_of t row) }
+  pub history : new.history
+      ≡ record old.history { events = old.history.events ++ events_by worker (local_of t n ++ steps_of t row) }
   -- the thread leaves its place, and those that the row moves come to the tail; they are Ready there, or have Ended
   pub queue : new.queue ≡ without t old.queue ++ filter (λ u. not (is_in Ended new.threads u)) (movers t row)
   -- nobody else changes; where the thread keeps its place, it doesn't either
@@ -76,12 +78,19 @@ answer_of first count row = Taken (record { 0 = first }) count
 
 -- what a row leaves
 abbrev pub IsLeftBy : BookView → BookView → LeaseView → ProgressView → Row → Type 0
-IsLeftBy old new lease progress (undoes m) = IsTakenBack old (record new { answered = old.answered }) lease.worker lease.thread progress.steps m (begun old lease.thread progress.steps) × (new.answered ≡ commit_counted old)
-IsLeftBy old new lease progress row = IsMoved old (record new { answered = old.answered }) lease.worker lease.thread progress.steps row × (new.answered ≡ commit_counted old)
+IsLeftBy old new lease progress (undoes m) =
+    IsTakenBack old (record new { answered = old.answered }) lease.worker lease.thread progress.steps m
+      (begun old lease.thread progress.steps)
+    × (new.answered ≡ commit_counted old)
+IsLeftBy old new lease progress row =
+    IsMoved old (record new { answered = old.answered }) lease.worker lease.thread progress.steps row
+    × (new.answered ≡ commit_counted old)
 
 -- what is answered to a row: to an undo its section, how many steps it struck, and which of them are nodes
 abbrev pub IsAnsweredBy : BookView → LeaseView → ProgressView → Row → Done → Type 0
-IsAnsweredBy old lease progress (undoes m) (Undone first count mark removed marks) = (first.0 ≡ next_seq old) × (count ≡ pushed lease progress (undoes m) + 1) × IsToldOf (begun old lease.thread progress.steps) m mark removed (numbers marks.items)
+IsAnsweredBy old lease progress (undoes m) (Undone first count mark removed marks) =
+    (first.0 ≡ next_seq old) × (count ≡ pushed lease progress (undoes m) + 1)
+    × IsToldOf (begun old lease.thread progress.steps) m mark removed (numbers marks.items)
 IsAnsweredBy old lease progress (undoes m) done = ⊥
 IsAnsweredBy old lease progress row done = done ≡ answer_of (next_seq old) (pushed lease progress row) row
 
@@ -98,6 +107,11 @@ pub record IsMade (old new : BookView) (lease : LeaseView) (progress : ProgressV
 
 -- Stale exactly where the lease isn't current, Over exactly where it is and the book is over, and else what the table says
 abbrev pub IsCommitted : BookView → BookView → LeaseView → ProgressView → Done → Type 0
-IsCommitted old new lease progress (Stale lent now) = (¬ IsCurrent old.threads lease progress.origin) × IsLate old new lease lent now
-IsCommitted old new lease progress (Over weight) = IsCurrent old.threads lease progress.origin × IsOver old × (weight ≡ weight_of old.history.events) × (new ≡ given_back old lease)
-IsCommitted old new lease progress done = IsCurrent old.threads lease progress.origin × (¬ IsOver old) × IsMade old new lease progress (row_at old lease progress) done
+IsCommitted old new lease progress (Stale lent now) =
+    (¬ IsCurrent old.threads lease progress.origin) × IsLate old new lease lent now
+IsCommitted old new lease progress (Over weight) =
+    IsCurrent old.threads lease progress.origin × IsOver old × (weight ≡ weight_of old.history.events)
+    × (new ≡ given_back old lease)
+IsCommitted old new lease progress done =
+    IsCurrent old.threads lease progress.origin × (¬ IsOver old)
+    × IsMade old new lease progress (row_at old lease progress) done

@@ -13,4 +13,6 @@ use Rattle.commit_book.specs.Threads.{AllControls}
 
 -- with those that failed and have no line, so many threads are all that failed, where each line is that of a thread below n
 abbrev pub AreFailed : ProgramParts → FinMap nat_cmp (Slot ControlView) → LineMap → ℕ → Type 0
-AreFailed p threads lines k = IsValid p → AllControls (Fits p) threads → (n : ℕ) → ((t : ℕ) → is_touched lines t ≡ true → t < n) → k + length (numbers (λ t. is_faulted_at p threads t && not (is_touched lines t)) n) ≡ faulted_in p threads n
+AreFailed p threads lines k =
+    IsValid p → AllControls (Fits p) threads → (n : ℕ) → ((t : ℕ) → is_touched lines t ≡ true → t < n)
+    → k + length (numbers (λ t. is_faulted_at p threads t && not (is_touched lines t)) n) ≡ faulted_in p threads n

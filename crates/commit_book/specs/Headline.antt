@@ -27,10 +27,13 @@ pub record StandsIn (run : List Numbered) (n : Numbered) : Type 0 where
   pub after : List Numbered
   pub is : run ≡ before ++ n ∷ after
 
--- the steps that aren't struck are what the undos left, and a run of the plain language from the start state, whose probes got the script's numbers; the book's threads, channels, references and output are those of the state in which it ends
+-- the steps that aren't struck are what the undos left, and a run of the plain language from the start state, whose probes got
+-- the script's numbers; each event was due where it came; the book's threads, channels, references and output are those of the
+-- state in which the run ends
 pub record HasRun (b : BookView) : Type 0 where
   pub end : PlainState
   pub left : survivors b.history ≡ run_of b.history.events
+  pub stands : StandsFor b.job.program b.history.events (run_of b.history.events) end
   pub run : IsRun b.job.program (survivors b.history) end
   pub script : FollowsScript b.job.script b.history.events
   pub threads : AreThreads (expr_of b.job.program) b.threads end
@@ -38,16 +41,20 @@ pub record HasRun (b : BookView) : Type 0 where
   pub references : HoldValues b.references end
   pub output : b.printed ≡ end.output
 
--- behind the first events stabilize is granted to the thread t, in the section entered at m: there the thread stood at stabilize in that section, which could be taken back; the run loses what is reached from m, which is m and each step to which a chain of direct dependences leads from m
+-- behind the first events stabilize is granted to the thread t, in the section entered at m: there the thread stood at stabilize
+-- in that section, which could be taken back; the run loses what is reached from m, which is m and each step to which a chain of
+-- direct dependences leads from m
 pub record IsGranted (p : ProgramParts) (first : List Event) (worker : ℕ) (t : ThreadId) (m : Seq) : Type 0 where
   pub state : PlainState
   pub stands : StandsFor p first (run_of first) state
   pub may : MayUndo p (run_of first) state t.0 m.0
   pub left : run_of (first ++ event worker (Undo t m) ∷ []) ≡ without_reached m.0 (run_of first)
   pub entry : has (reached (run_of first) m.0) m.0 ≡ true
-  pub gone : (n : Numbered) → StandsIn (run_of first) n → (has (reached (run_of first) m.0) n.seq.0 ≡ true) ↔ Reaches (run_of first) m.0 n
+  pub gone : (n : Numbered) → StandsIn (run_of first) n
+      → (has (reached (run_of first) m.0) n.seq.0 ≡ true) ↔ Reaches (run_of first) m.0 n
 
--- behind the first events stabilize is refused to the thread t: there it stood at stabilize, in no section or in one that couldn't be taken back
+-- behind the first events stabilize is refused to the thread t: there it stood at stabilize, in no section or in one that
+-- couldn't be taken back
 pub record IsRefused (p : ProgramParts) (first : List Event) (t : ThreadId) : Type 0 where
   pub state : PlainState
   pub stands : StandsFor p first (run_of first) state

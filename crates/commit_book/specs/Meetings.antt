@@ -88,7 +88,9 @@ index_of first c = if nat_eq first c then pos 0 else pos 1
 pub record HaveExchanged (p : ProgramParts) (c : ℕ) (sender receiver sent received : ControlView) : Type 0 where
   pub looks : look_in p (expr_of p sender) ≡ act (table.sends c (second_of (operands_of sender)))
   pub sends : expr_of p sent ≡ answered (expr_of p sender) unit
-  pub gets : received_by (language_of p) c (expr_of p receiver) (second_of (operands_of sender)) (look_in p (expr_of p receiver)) ≡ Some (expr_of p received)
+  pub gets :
+      received_by (language_of p) c (expr_of p receiver) (second_of (operands_of sender)) (look_in p (expr_of p receiver))
+      ≡ Some (expr_of p received)
   pub sender_fits : Fits p sent
   pub receiver_fits : Fits p received
 
@@ -104,4 +106,5 @@ HaveMet p t m mine other my_next other_next = HaveMetAs (nat_eq m.sender.0 t) p 
 pub record AreBothSaved (old new : Saved ControlView) (q : Seq) (one other : ThreadId × ControlView) : Type 0 where
   pub between : Saved ControlView
   pub first : (r : Seq) (u : ThreadId) → saved_at between r u ≡ (if is_place q one.0 r u then Some one.1 else saved_at old r u)
-  pub second : (r : Seq) (u : ThreadId) → saved_at new r u ≡ (if is_place q other.0 r u then Some other.1 else saved_at between r u)
+  pub second : (r : Seq) (u : ThreadId)
+      → saved_at new r u ≡ (if is_place q other.0 r u then Some other.1 else saved_at between r u)

@@ -15,7 +15,8 @@ sends_at lines c = (unwrap_or (map.get lines c) nobody).sends
 abbrev pub receives_at : Lines → ℕ → List ℕ
 receives_at lines c = (unwrap_or (map.get lines c) nobody).receives
 
--- exactly the parked threads have offers, those of their controls; each stands in the lines of what it offers and in no other; and on no channel one waits to send and one to receive
+-- exactly the parked threads have offers, those of their controls; each stands in the lines of what it offers and in no other;
+-- and on no channel one waits to send and one to receive
 pub record AreOffers {C : Type 0} (offered : C → Option Offer) (threads : FinMap nat_cmp (Slot C)) (offers : Seen) : Type 0 where
   pub each : (t : ℕ) → map.get offers.offers t ≡ option_and_then (waits_with offered) (map.get threads t)
   pub lines : IsSound offers

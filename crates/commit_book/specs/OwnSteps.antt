@@ -24,7 +24,8 @@ use Rattle.commit_book.specs.declared.rollback.Rollback.{Rollback}
 
 -- the numbers of the steps of the run above f and not above e that pass
 abbrev pub steps_within : ℕ → ℕ → (Label → Bool) → List Numbered → List ℕ
-steps_within f e p run = each (λ (n : Numbered). n.seq.0) (filter (λ (n : Numbered). nat_lt f n.seq.0 && nat_le n.seq.0 e && p n.label) run)
+steps_within f e p run =
+    each (λ (n : Numbered). n.seq.0) (filter (λ (n : Numbered). nat_lt f n.seq.0 && nat_le n.seq.0 e && p n.label) run)
 
 -- of the surviving steps above the last cut, those up to the event that was read last: by thread, and the prints
 pub record IsRead (journal : Journal) (r : Rollback) : Type 0 where
@@ -76,16 +77,21 @@ is_lost lines t q = is_touched lines t && nat_le (line_number (map.get lines t))
 -- the lost steps of the touched threads were taken out, and stand in rising order
 pub record IsGathered (old new : Rollback) : Type 0 where
   pub own : (t : ℕ) → steps_of new.own t ≡ filter (λ q. not (is_lost old.plan.lines t q)) (steps_of old.own t)
-  pub lost : (q : ℕ) → is_listed q (numbers new.lost.items) ≡ true → (t : ℕ) × (is_listed q (steps_of old.own t) ≡ true) × (is_lost old.plan.lines t q ≡ true)
-  pub all : (q t : ℕ) → is_listed q (steps_of old.own t) ≡ true → is_lost old.plan.lines t q ≡ true → is_listed q (numbers new.lost.items) ≡ true
+  pub lost : (q : ℕ) → is_listed q (numbers new.lost.items) ≡ true → (t : ℕ) × (is_listed q (steps_of old.own t) ≡ true)
+      × (is_lost old.plan.lines t q ≡ true)
+  pub all : (q t : ℕ) → is_listed q (steps_of old.own t) ≡ true → is_lost old.plan.lines t q ≡ true
+      → is_listed q (numbers new.lost.items) ≡ true
   pub order : IsNonDecreasingBy (λ (q : Seq). q.0) new.lost.items
   pub rest : (new.read ≡ old.read) × (new.floor ≡ old.floor) × (new.prints.items ≡ old.prints.items) × (new.plan ≡ old.plan)
 
 -- the steps of the threads ts from their lines on were taken out, and no others
 pub record IsGatheredFrom (lines : LineMap) (old new : Seen) (gone : List Seq) (ts : List ℕ) : Type 0 where
-  pub own : (t : ℕ) → steps_of new t ≡ filter (λ q. not (is_listed t ts && nat_le (line_number (map.get lines t)) q)) (steps_of old t)
-  pub lost : (q : ℕ) → is_listed q (numbers gone) ≡ true → (t : ℕ) × (is_listed q (steps_of old t) ≡ true) × (is_listed t ts ≡ true) × (nat_le (line_number (map.get lines t)) q ≡ true)
-  pub all : (q t : ℕ) → is_listed q (steps_of old t) ≡ true → is_listed t ts ≡ true → nat_le (line_number (map.get lines t)) q ≡ true → is_listed q (numbers gone) ≡ true
+  pub own : (t : ℕ) → steps_of new t
+      ≡ filter (λ q. not (is_listed t ts && nat_le (line_number (map.get lines t)) q)) (steps_of old t)
+  pub lost : (q : ℕ) → is_listed q (numbers gone) ≡ true → (t : ℕ) × (is_listed q (steps_of old t) ≡ true)
+      × (is_listed t ts ≡ true) × (nat_le (line_number (map.get lines t)) q ≡ true)
+  pub all : (q t : ℕ) → is_listed q (steps_of old t) ≡ true → is_listed t ts ≡ true
+      → nat_le (line_number (map.get lines t)) q ≡ true → is_listed q (numbers gone) ≡ true
 
 -- the last step of the thread t, which isn't below the line, was taken out
 pub record IsTaken (old new : Seen) (t line : ℕ) (before after : List Seq) : Type 0 where

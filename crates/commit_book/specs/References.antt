@@ -14,8 +14,10 @@ use Rattle.commit_book.specs.Run.{writes_in}
 abbrev pub writes_at : FinMap nat_cmp (List Write) → ℕ → List Write
 writes_at references r = unwrap_or (map.get references r) []
 
--- of the run, each write above its last cut is kept, and of each reference the last one below it; the number of that cut is the last cut's
-pub record AreWrites {E : Type 0} (effect : Table E) (last_cut : ℕ) (references : FinMap nat_cmp (List Write)) (start : State E) (run : List Numbered) : Type 0 where
+-- of the run, each write above its last cut is kept, and of each reference the last one below it; the number of that cut is the
+-- last cut's
+pub record AreWrites {E : Type 0} (effect : Table E) (last_cut : ℕ) (references : FinMap nat_cmp (List Write)) (start : State E)
+    (run : List Numbered) : Type 0 where
   pub cut : last_cut ≡ floor run
   pub writes : (r : ℕ) → writes_at references r ≡ kept (floor run) (writes_in effect r (Some start) run)
 

@@ -25,7 +25,10 @@ due_lines b = flat_map (λ (v : Datum). line (printed b.job.program.texts v)) (d
 
 -- the release is the next event, and says how many values are final; nothing else changes
 abbrev pub IsReleased : BookView → BookView → ℕ → Type 0
-IsReleased old new worker = new ≡ record old { history = record old.history { events = old.history.events ++ event worker (Release (finals old)) ∷ [] } }
+IsReleased old new worker =
+    new ≡ record old {
+      history = record old.history { events = old.history.events ++ event worker (Release (finals old)) ∷ [] };
+    }
 
 -- the same of what is kept: the release is pushed, and counted
 pub record IsReleasedBy (old new : Parts) (worker : ℕ) : Type 0 where

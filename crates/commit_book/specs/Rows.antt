@@ -68,7 +68,8 @@ module _ (b : BookView) (t : ℕ) where
   receives_from c (Some u) else_row = meets u (Comm (thread u) (thread t) (chan c))
   receives_from c None else_row = else_row
 
-  -- the row of a thread that stands at e; a new thread, channel or reference has the next number of its kind, and a probe gets the next number of the script
+  -- the row of a thread that stands at e; a new thread, channel or reference has the next number of its kind, and a probe gets
+  -- the next number of the script
   abbrev pub row_of : Expr → Look Expr → Row
   row_of e (act (spawns body)) = starts b.next.thread
   row_of e (act makes_chan) = alone (Some (NewChan (thread t) (chan b.next.chan)))
@@ -77,7 +78,9 @@ module _ (b : BookView) (t : ℕ) where
   row_of e (act (sets r v)) = alone (Some (Set (thread t) (ref r)))
   row_of e (act (sends c v)) = sends_to c (longest (receives_at b.offers.lines c))
   row_of e (act (receives c)) = receives_from c (longest (sends_at b.offers.lines c)) (stays_or_waits (offer.Recv (chan c)))
-  row_of e (act (picks c d)) = receives_from c (longest (sends_at b.offers.lines c)) (receives_from d (longest (sends_at b.offers.lines d)) (stays_or_waits (offer.Pick (chan c) (chan d))))
+  row_of e (act (picks c d)) =
+      receives_from c (longest (sends_at b.offers.lines c))
+        (receives_from d (longest (sends_at b.offers.lines d)) (stays_or_waits (offer.Pick (chan c) (chan d))))
   row_of e (act (enters body)) = alone (Some (Enter (thread t)))
   row_of e (act stabilizes) = section_row (survivors b.history) t (mark e)
   row_of e (act cuts) = alone (Some (Cut (thread t)))

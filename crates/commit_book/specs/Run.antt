@@ -25,9 +25,13 @@ module _ {E : Type 0} (effect : Table E) where
   -- the writes of the reference r by these steps from a state, in order, each with the value that it left
   abbrev pub writes_in : ℕ → Option (State E) → List Numbered → List Write
   writes_in r s [] = []
-  writes_in r s (n ∷ ns) = cond (is_at (written n.label) r) (write_of n.seq.0 (value_of (next effect s n) r)) [] ++ writes_in r (next effect s n) ns
+  writes_in r s (n ∷ ns) =
+      cond (is_at (written n.label) r) (write_of n.seq.0 (value_of (next effect s n) r)) [] ++ writes_in r (next effect s n) ns
 
   -- where the actor t of the step numbered q stood before it, if it is a step before which that is saved
   abbrev pub stood_at : ℕ → ℕ → Option (State E) → List Numbered → Option E
   stood_at q t s [] = None
-  stood_at q t s (n ∷ ns) = cond (nat_eq q n.seq.0) (cond (saves n.label && has (actors n.label) t) (thread_of s t) None) (stood_at q t (next effect s n) ns)
+  stood_at q t s (n ∷ ns) =
+      cond (nat_eq q n.seq.0)
+        (cond (saves n.label && has (actors n.label) t) (thread_of s t) None)
+        (stood_at q t (next effect s n) ns)

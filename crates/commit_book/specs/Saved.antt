@@ -12,9 +12,12 @@ use Rattle.commit_book.specs.Run.{stood_at}
 abbrev pub saved_of : {C : Type 0} → FinMap place_cmp C → ℕ → ℕ → Option C
 saved_of controls q t = map.get controls (record { 0 = q }, record { 0 = t })
 
--- one control is saved for each actor of each Enter, Comm and Get of the run above its floor, and nothing else; it stands for where the actor stood before that step
+-- one control is saved for each actor of each Enter, Comm and Get of the run above its floor, and nothing else; it stands for
+-- where the actor stood before that step
 abbrev pub AreSaved : {C E : Type 0} → (C → E) → Table E → FinMap place_cmp C → State E → List Numbered → Type 0
-AreSaved expr effect controls start run = (q t : ℕ) → option_map expr (saved_of controls q t) ≡ cond (nat_lt (floor run) q) (stood_at effect q t (Some start) run) None
+AreSaved expr effect controls start run =
+    (q t : ℕ) → option_map expr (saved_of controls q t)
+    ≡ cond (nat_lt (floor run) q) (stood_at effect q t (Some start) run) None
 
 -- each saved control has the property
 abbrev pub AllSaved : {C : Type 0} → (C → Type 0) → FinMap place_cmp C → Type 0

@@ -15,7 +15,8 @@ use Rattle.commit_book.specs.Doing.{is_over, is_failed}
 use Rattle.commit_book.specs.OwnSteps.{IsUnread}
 
 abbrev pub first_tallies : Bool → Tallies
-first_tallies failed = record { probes = 0; finals = 0; released = 0; undos = 0; faulted = (if failed then 1 else 0); commits = 0; stale = 0 }
+first_tallies failed =
+    record { probes = 0; finals = 0; released = 0; undos = 0; faulted = (if failed then 1 else 0); commits = 0; stale = 0 }
 
 -- no events, thread 1 at the body of main, and nothing else
 pub record IsStarted (p : ProgramParts) (parts : Parts) : Type 0 where

@@ -30,18 +30,22 @@ wrote_after w [] = w
 wrote_after w (n ∷ ns) = wrote_after (wrote_by n.seq.0 n.label w) ns
 
 -- of the run that ends in s, a step with this label and effect is the next event, and all that is kept follows it
-pub record IsStepOf (old new : BookView) (run : List Numbered) (s : PlainState) (worker : ℕ) (l : Label) (e : Effect Expr) : Type 0 where
+pub record IsStepOf (old new : BookView) (run : List Numbered) (s : PlainState) (worker : ℕ) (l : Label) (e : Effect Expr)
+    : Type 0 where
   pub job : new.job ≡ old.job
   pub events : new.history.events ≡ old.history.events ++ event worker (Step l) ∷ []
   pub survivors : survivors new.history ≡ survivors old.history ++ step_at (next_seq old) (Step l)
   pub script : FollowsScript old.job.script new.history.events
   pub channels : (c : ℕ) → map.contains_key new.offers.lines c ≡ (is_at (made l) c || map.contains_key old.offers.lines c)
   pub last_cut : new.last_cut ≡ old.last_cut
-  pub writes : (r : ℕ) → writes_at new.references r ≡ writes_at old.references r ++ cond (is_at (written l) r) (record { number = next_seq old; value = e.value } ∷ []) []
+  pub writes : (r : ℕ) → writes_at new.references r
+      ≡ writes_at old.references r ++ cond (is_at (written l) r) (record { number = next_seq old; value = e.value } ∷ []) []
   pub printed : new.printed ≡ old.printed ++ e.printed
   pub next : AreNext new.history.events new.next.thread new.next.chan new.next.ref
   pub few : AreFew new.history.events new.next.thread new.next.chan new.next.ref
   pub saved : (q t : ℕ) → option_map (expr_of old.job.program) (saved_of new.saved q t)
-      ≡ cond (nat_eq q (next_seq old)) (cond (saves l && has (actors l) t) (map.get s.threads t) None) (option_map (expr_of old.job.program) (saved_of old.saved q t))
+      ≡ cond (nat_eq q (next_seq old))
+          (cond (saves l && has (actors l) t) (map.get s.threads t) None)
+          (option_map (expr_of old.job.program) (saved_of old.saved q t))
   pub saved_fit : AllSaved (Fits old.job.program) new.saved
   pub nodes : new.nodes ≡ old.nodes ++ node_of (wrote_after (λ _. 0) run) (next_seq old) l

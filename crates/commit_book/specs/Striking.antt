@@ -43,9 +43,15 @@ pub record AreStruck (old new : Parts) (qs : List ℕ) : Type 0 where
   pub last_cut : new.log.last_cut ≡ old.log.last_cut
   pub waiting : (c : ℕ) → map.get new.offers.lines c ≡ cond (makes_any old.history.events qs c) None (map.get old.offers.lines c)
   pub offers : new.offers.offers ≡ old.offers.offers
-  pub rest : new ≡ record old { history = new.history; log = new.log; offers = new.offers; rollback = record old.rollback { lost = new.rollback.lost } }
+  pub rest : new ≡ record old {
+    history = new.history;
+    log = new.log;
+    offers = new.offers;
+    rollback = record old.rollback { lost = new.rollback.lost };
+  }
 
--- the step numbered q can be struck: it is live and above the last cut, the writes under its number are its own, and nobody waits on what it makes
+-- the step numbered q can be struck: it is live and above the last cut, the writes under its number are its own, and nobody
+-- waits on what it makes
 pub record MayStrike (parts : Parts) (q : ℕ) : Type 0 where
   pub live : IsLive parts.history q
   pub above : parts.log.last_cut < q
@@ -55,7 +61,8 @@ pub record MayStrike (parts : Parts) (q : ℕ) : Type 0 where
 -- all of these can be struck, and no two of them make one channel
 pub record MayStrikeAll (parts : Parts) (qs : List ℕ) : Type 0 where
   pub each : (q : ℕ) → has qs q ≡ true → MayStrike parts q
-  pub once : (p q c : ℕ) → has qs p ≡ true → has qs q ≡ true → makes_at parts.history.events p c ≡ true → makes_at parts.history.events q c ≡ true → p ≡ q
+  pub once : (p q c : ℕ) → has qs p ≡ true → has qs q ≡ true → makes_at parts.history.events p c ≡ true
+      → makes_at parts.history.events q c ≡ true → p ≡ q
 
 -- exactly these were struck, so many in number, and none is left to be struck
 pub record AllAreStruck (old new : Parts) (lost : List ℕ) (removed : ℕ) : Type 0 where

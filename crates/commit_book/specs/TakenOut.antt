@@ -31,7 +31,8 @@ use Rattle.commit_book.specs.Saved.{saved_of}
 use Rattle.commit_book.specs.Striking.{makes_any}
 use Rattle.commit_book.specs.Threads.{AllControls}
 
--- the parts show a run in which a thread may take the section entered at m back, these nodes are reached from it, and there is room for what is read
+-- the parts show a run in which a thread may take the section entered at m back, these nodes are reached from it, and there is
+-- room for what is read
 pub record IsUndoing (parts : Parts) (m : ℕ) (qs : List ℕ) : Type 0 where
   pub job : JobParts
   pub valid : IsValid job.program
@@ -46,7 +47,8 @@ pub record IsUndoing (parts : Parts) (m : ℕ) (qs : List ℕ) : Type 0 where
   pub read : IsRead parts.history parts.rollback
   pub room : HasRoomToRead parts.rollback (length parts.history.events) (parts.slots.next - 1)
 
--- what is reached is struck, with its writes, its channels and its prints; the touched threads are put back or gone; and so many steps were struck
+-- what is reached is struck, with its writes, its channels and its prints; the touched threads are put back or gone; and so many
+-- steps were struck
 pub record IsTakenOut (old new : Parts) (m removed : ℕ) (qs : List ℕ) : Type 0 where
   pub lines : LineMap
   pub are : (t : ℕ) → IsLineOf old.graph.nodes qs t (map.get lines t)
@@ -59,11 +61,15 @@ pub record IsTakenOut (old new : Parts) (m removed : ℕ) (qs : List ℕ) : Type
   pub spare : new.history.spare ≡ old.history.spare
   pub struck : (k : ℕ) → set.contains new.history.struck k ≡ (has gone k || set.contains old.history.struck k)
   -- the threads
-  pub threads : (t : ℕ) → map.get new.slots.threads t ≡ put_back (λ q. saved_of old.store.controls q t) (map.get lines t) (map.get old.slots.threads t)
+  pub threads : (t : ℕ)
+      → map.get new.slots.threads t
+      ≡ put_back (λ q. saved_of old.store.controls q t) (map.get lines t) (map.get old.slots.threads t)
   pub queue : new.slots.queue ≡ requeued lines old.slots.queue
   pub next : new.slots.next ≡ old.slots.next
-  pub faulted : (p : ProgramParts) → IsValid p → AllControls (Fits p) old.slots.threads → old.tallies.faulted ≡ faulted_in p old.slots.threads old.slots.next
-      → new.tallies.faulted ≡ length (threads_below (λ t. is_faulted_at p old.slots.threads t && not (is_touched lines t)) old.slots.next)
+  pub faulted : (p : ProgramParts) → IsValid p → AllControls (Fits p) old.slots.threads
+      → old.tallies.faulted ≡ faulted_in p old.slots.threads old.slots.next
+      → new.tallies.faulted
+          ≡ length (threads_below (λ t. is_faulted_at p old.slots.threads t && not (is_touched lines t)) old.slots.next)
   -- the channels: the touched threads withdraw, and then those go whose making is struck
   pub between : Seen
   pub waiting : (c : ℕ) → map.get between.lines c ≡ option_map (without_all (is_touched lines)) (map.get old.offers.lines c)
@@ -73,9 +79,14 @@ pub record IsTakenOut (old new : Parts) (m removed : ℕ) (qs : List ℕ) : Type
   -- the rest
   pub writes : (r : ℕ) → writes_of new.log r ≡ filter (λ (w : Write). not (has gone w.number)) (writes_of old.log r)
   pub last_cut : new.log.last_cut ≡ old.log.last_cut
-  pub saved : (k u : ℕ) → saved_of new.store.controls k u ≡ cond (marks.has k qs || is_from k (map.get lines u)) None (saved_of old.store.controls k u)
+  pub saved : (k u : ℕ)
+      → saved_of new.store.controls k u
+      ≡ cond (marks.has k qs || is_from k (map.get lines u)) None (saved_of old.store.controls k u)
   pub nodes : new.graph.nodes ≡ unmarked qs old.graph.nodes
-  pub printed : new.printed.items ≡ stay_printed (stays new.history) (steps_within (floor (survivors old.history)) (length old.history.events) is_print (survivors old.history)) old.printed.items
+  pub printed : new.printed.items
+      ≡ stay_printed (stays new.history)
+          (steps_within (floor (survivors old.history)) (length old.history.events) is_print (survivors old.history))
+          old.printed.items
   pub chan : new.next_chan ≡ old.next_chan
   pub ref : new.next_ref ≡ old.next_ref
   pub tallies : new.tallies ≡ record old.tallies { faulted = new.tallies.faulted }

@@ -31,7 +31,8 @@ abbrev pub first_ready : List ℕ → Choice
 first_ready [] = choice.Idle
 first_ready (t ∷ ts) = choice.Work (record { 0 = t })
 
--- Release where something is due; else Quiet where nobody is ready or leased; else Spent where the fuel is used up; else Idle where nobody is ready; else Work
+-- Release where something is due; else Quiet where nobody is ready or leased; else Spent where the fuel is used up; else Idle
+-- where nobody is ready; else Work
 abbrev pub choice_of : BookView → Choice
 choice_of b =
     if nat_lt 0 (due b.history.events) then choice.Release
@@ -61,7 +62,9 @@ leased b t = requeued b (changed b.threads t (λ slot. record slot { state = Lea
 
 -- the turn is the one that comes next; with Work the front of the queue is lent, and else nothing changes
 abbrev pub IsTurn : BookView → BookView → ℕ → Turn → Type 0
-IsTurn old new worker (Work lease control) = (choice_of old ≡ choice.Work (record { 0 = lease.thread })) × IsSomeAnd (map.get old.threads lease.thread) (IsLeaseOf old worker lease control) × (new ≡ leased old lease.thread)
+IsTurn old new worker (Work lease control) =
+    (choice_of old ≡ choice.Work (record { 0 = lease.thread }))
+    × IsSomeAnd (map.get old.threads lease.thread) (IsLeaseOf old worker lease control) × (new ≡ leased old lease.thread)
 IsTurn old new worker Idle = (choice_of old ≡ choice.Idle) × (new ≡ old)
 IsTurn old new worker Quiet = (choice_of old ≡ choice.Quiet) × (new ≡ old)
 IsTurn old new worker Spent = (choice_of old ≡ choice.Spent) × (new ≡ old)
@@ -69,7 +72,8 @@ IsTurn old new worker Release = (choice_of old ≡ choice.Release) × (new ≡ o
 
 -- whether the thread t is Leased and of this generation
 abbrev pub is_lent : FinMap nat_cmp (Slot ControlView) → ℕ → ℕ → Bool
-is_lent threads t generation = option_map_or (λ slot. nat_eq slot.generation generation && same_state Leased slot.state) (map.get threads t) false
+is_lent threads t generation =
+    option_map_or (λ slot. nat_eq slot.generation generation && same_state Leased slot.state) (map.get threads t) false
 
 -- whether the thread still is as it was lent
 abbrev pub is_held : BookView → LeaseView → Bool
@@ -78,7 +82,10 @@ is_held b lease = is_lent b.threads lease.thread lease.generation
 -- a thread that still is as it was lent becomes Ready at the tail of the queue, and else nothing changes
 abbrev pub given_back : BookView → LeaseView → BookView
 given_back b lease =
-    if is_held b lease then requeued b (changed b.threads lease.thread (λ slot. record slot { state = Ready })) (without lease.thread b.queue ++ lease.thread ∷ []) else b
+    if is_held b lease
+    then requeued b (changed b.threads lease.thread (λ slot. record slot { state = Ready }))
+      (without lease.thread b.queue ++ lease.thread ∷ [])
+    else b
 
 -- each Leased thread becomes Ready at the tail of the queue, in the order of their numbers
 pub record IsRecalled (old new : BookView) : Type 0 where

@@ -28,24 +28,30 @@ undo_by worker t m = event worker (Undo (thread t) (record { 0 = m }))
 
 -- the numbers of the steps of the run that are reached from m and are nodes of the graph
 abbrev pub reached_nodes : List Numbered → ℕ → List ℕ
-reached_nodes run m = each (λ (n : Numbered). n.seq.0) (filter (λ (n : Numbered). has (reached run m) n.seq.0 && is_node n.label) run)
+reached_nodes run m =
+    each (λ (n : Numbered). n.seq.0) (filter (λ (n : Numbered). has (reached run m) n.seq.0 && is_node n.label) run)
 
 -- whether the thread u loses a step: one of the run that is reached from m touches it
 abbrev pub loses_a_step : List Numbered → ℕ → ℕ → Bool
 loses_a_step run m u = is_hit (has (reached run m)) u run
 
--- the thread t, which made n pure steps, takes the section entered at m back; with what every book shows, and since a journal strikes steps alone, this determines the new book but for the forms of its controls
+-- the thread t, which made n pure steps, takes the section entered at m back; with what every book shows, and since a journal
+-- strikes steps alone, this determines the new book but for the forms of its controls
 pub record IsTakenBack (old new : BookView) (worker t n m : ℕ) (run : List Numbered) : Type 0 where
   -- the pure steps are pushed, and the undo
   pub events : new.history.events ≡ old.history.events ++ events_by worker (local_of t n) ++ undo_by worker t m ∷ []
   -- all steps that are reached are struck, and no other
   pub survivors : survivors new.history ≡ without_reached m run
   -- the touched threads leave their places, and those that are still there come to the tail in the order of their numbers
-  pub queue : new.queue ≡ others (loses_a_step run m) old.queue ++ numbers (λ u. loses_a_step run m u && map.contains_key new.threads u) new.next.thread
+  pub queue : new.queue
+      ≡ others (loses_a_step run m) old.queue
+      ++ numbers (λ u. loses_a_step run m u && map.contains_key new.threads u) new.next.thread
   -- nobody else changes
   pub untouched : (u : ℕ) → loses_a_step run m u ≡ false → map.get new.threads u ≡ map.get old.threads u
   -- the touched threads leave the lines, which keep their order, and the channels go whose making is struck
-  pub lines : (c : ℕ) → map.get new.offers.lines c ≡ cond (is_unmade (has (reached run m)) c run) None (option_map (without_all (loses_a_step run m)) (map.get old.offers.lines c))
+  pub lines : (c : ℕ) → map.get new.offers.lines c
+      ≡ cond (is_unmade (has (reached run m)) c run) None
+          (option_map (without_all (loses_a_step run m)) (map.get old.offers.lines c))
   pub job : new.job ≡ old.job
   pub answered : new.answered ≡ old.answered
 

@@ -21,7 +21,8 @@ ghost use Rattle.commit_book.specs.Headline.{HasRun, IsGranted, IsRefused, Stand
 
 /// The journal without its undone steps is, in order, a run of the plain language from the start state, and it ends in
 /// exactly the book's threads, channels, references and output. Its probes got the numbers of the script, of which those that
-/// were undone used up theirs.
+/// were undone used up theirs. Each event was due where it came: a step with the number that an attempt gets, a refused
+/// stabilize, an undo, a release.
 pub fn books_show_a_run()
     ensures { (b : BookView) → IsShown b → HasRun b }
 {}

@@ -1,4 +1,4 @@
-//! A program of ten nodes for each of a number: made twice, compared, and each part of each node read.
+//! Programs of ten nodes for each of a number: one is made, two are compared, and each part of each node is read.
 ghost use Rattle.std.specs.Prelude.{◌≡◌, ◌≤◌, ◌+◌, ◌*◌, ◌++◌, IfOk};
 ghost use Rattle.stab_code.specs.Layout.{nodes_of};
 ghost use Rattle.container_bench.specs.Sums.{print_sum};
@@ -7,22 +7,82 @@ use stab_base::{FnId, NoMemory, Texts};
 use stab_code::{Function, Head, NodeId, Nodes, Op, Program, Slots, Ty, TyForm};
 use std::alloc::Global;
 
-/// How many nodes each of the two programs has.
-pub fn calls(n: u32) -> u64 {
-    4 * (u64::from(n) * 5 / 2 + 1) + 2
+/// What is done with programs.
+#[derive(Clone, Copy)]
+pub enum Work {
+    Make,
+    Same,
+    Parts,
 }
 
-/// How many parts the nodes have, 0 where the program isn't equal to another that was made in the same way.
-pub fn run(alloc: Global, n: u32) -> Result<u32, NoMemory>
+/// Two equal programs.
+#[derive(Drop)]
+pub struct Pair {
+    one: Program,
+    other: Program,
+}
+
+/// What a work gives: a count, and the program that it made.
+#[derive(Drop)]
+pub struct Outcome {
+    pub count: u32,
+    pub made: Option<Program>,
+}
+
+impl Work {
+    pub fn name(self) -> &'static str {
+        match self {
+            Work::Make => "program_make",
+            Work::Same => "program_same",
+            Work::Parts => "program_parts",
+        }
+    }
+
+    /// How many nodes a program has.
+    pub fn calls(self, n: u32) -> u64
+        requires { n ≤ 1000000 }
+    {
+        u64::from(nodes(n))
+    }
+
+    /// The number of nodes that were made or found equal, or of the parts that were read.
+    pub fn run(self, alloc: Global, pair: &Pair, n: u32) -> Result<Outcome, NoMemory>
+        requires { n ≤ 1000000 }
+    {
+        let mut made = None;
+        let count = match self {
+            Work::Make => {
+                made = Some(print_sums(alloc, items(n))?);
+                nodes(n)
+            }
+            Work::Same if pair.one.same(&pair.other) => nodes(n),
+            Work::Same => 0,
+            Work::Parts => count_parts(&pair.one, nodes(n)),
+        };
+        Ok(Outcome { count, made })
+    }
+}
+
+/// Two programs of so many nodes.
+pub fn pair(alloc: Global, n: u32) -> Result<Pair, NoMemory>
     requires { n ≤ 1000000 }
 {
-    let items = n * 5 / 2 + 1;
-    let program = print_sums(alloc, items)?;
-    let other = print_sums(alloc, items)?;
-    if !program.same(&other) {
-        return Ok(0);
-    }
-    Ok(count_parts(&program, 4 * items + 2))
+    let one = print_sums(alloc, items(n))?;
+    let other = print_sums(alloc, items(n))?;
+    Ok(Pair { one, other })
+}
+
+fn items(n: u32) -> u32
+    requires { n ≤ 1000000 }
+    ensures { (1 ≤ result) × (result ≤ 2500001) }
+{
+    n * 5 / 2 + 1
+}
+
+fn nodes(n: u32) -> u32
+    requires { n ≤ 1000000 }
+{
+    4 * items(n) + 2
 }
 
 // `fn main(): unit { print(1 + 2); print(1 + 2); .. }`. As where a text is read, the number of nodes is known before.

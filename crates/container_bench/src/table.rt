@@ -2,6 +2,7 @@
 ghost use Rattle.std.specs.Prelude.{◌<◌, ◌≤◌, ◌+◌};
 
 use crate::graphs::Work;
+use crate::programs::Work as ProgramWork;
 use crate::{events, graphs, offers, programs, saved, threads, tokens, writes};
 use stab_base::NoMemory;
 use std::alloc::Global;
@@ -18,10 +19,10 @@ enum Container {
     StabJournal,
     CommGraph(Work),
     StabLex,
-    StabCode,
+    StabCode(ProgramWork),
 }
 
-const ALL: [Container; 12] = [
+const ALL: [Container; 14] = [
     Container::ThreadSlots,
     Container::Rendezvous,
     Container::RefLog,
@@ -33,7 +34,9 @@ const ALL: [Container; 12] = [
     Container::CommGraph(Work::ReachFan),
     Container::CommGraph(Work::Cut),
     Container::StabLex,
-    Container::StabCode,
+    Container::StabCode(ProgramWork::Make),
+    Container::StabCode(ProgramWork::Same),
+    Container::StabCode(ProgramWork::Parts),
 ];
 
 const FEW: [u32; 3] = [10, 20, 40];
@@ -53,12 +56,14 @@ impl Container {
             Container::StabJournal => "stab_journal",
             Container::CommGraph(work) => work.name(),
             Container::StabLex => "stab_lex",
-            Container::StabCode => "stab_code",
+            Container::StabCode(work) => work.name(),
         }
     }
 
     /// How often it is called in a run of this size; for the lexer, how many bytes it reads, and for programs, how many nodes one has.
-    fn calls(self, n: u32) -> u64 {
+    fn calls(self, n: u32) -> u64
+        requires { n ≤ 1000000 }
+    {
         match self {
             Container::ThreadSlots => threads::calls(n),
             Container::Rendezvous => offers::calls(n),
@@ -67,7 +72,7 @@ impl Container {
             Container::StabJournal => events::calls(n),
             Container::CommGraph(work) => work.calls(n),
             Container::StabLex => tokens::calls(n),
-            Container::StabCode => programs::calls(n),
+            Container::StabCode(work) => work.calls(n),
         }
     }
 
@@ -82,7 +87,10 @@ impl Container {
             Container::StabJournal => events::run(alloc, n),
             Container::CommGraph(work) => graphs::run(work, alloc, n),
             Container::StabLex => tokens::run(alloc, n),
-            Container::StabCode => programs::run(alloc, n),
+            Container::StabCode(work) => {
+                let pair = programs::pair(alloc, n)?;
+                Ok(work.run(alloc, &pair, n)?.count)
+            }
         }
     }
 }
@@ -109,8 +117,10 @@ fn nanos<R: AllocGlobal + Clock>(rt: &R, container: Container, n: u32) -> io::Re
 fn nanos_of_one<R: AllocGlobal + Clock>(rt: &R, container: Container, n: u32) -> io::Result<u64>
     requires { n ≤ 1000000 }
 {
-    if let Container::CommGraph(work) = container {
-        return nanos_of_work(rt, work, n);
+    match container {
+        Container::CommGraph(work) => return nanos_of_work(rt, work, n),
+        Container::StabCode(work) => return nanos_of_programs(rt, work, n),
+        _ => {}
     }
     let start = Instant::now(rt)?;
     let _count = count(rt, container, n)?;
@@ -126,6 +136,18 @@ fn nanos_of_work<R: AllocGlobal + Clock>(rt: &R, work: Work, n: u32) -> io::Resu
     let start = Instant::now(rt)?;
     let _count = work.make(rt.alloc(), &mut graph, n).map_err(out_of_memory)?;
     let taken = start.elapsed(rt)?;
+    Ok(u64::try_from(taken.as_nanos()).unwrap_or(u64::MAX))
+}
+
+// The same, without the time in which the pair is made, and that in which all programs are dropped.
+fn nanos_of_programs<R: AllocGlobal + Clock>(rt: &R, work: ProgramWork, n: u32) -> io::Result<u64>
+    requires { n ≤ 1000000 }
+{
+    let pair = programs::pair(rt.alloc(), n).map_err(out_of_memory)?;
+    let start = Instant::now(rt)?;
+    let outcome = work.run(rt.alloc(), &pair, n).map_err(out_of_memory)?;
+    let taken = start.elapsed(rt)?;
+    drop(outcome);
     Ok(u64::try_from(taken.as_nanos()).unwrap_or(u64::MAX))
 }
 

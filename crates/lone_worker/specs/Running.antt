@@ -44,7 +44,8 @@ pub record IsRun (end : RunEnd) (old new : BookView) : Type 0 where
   pub turns : AreTurns old last
   pub ends : IsEndOf end last new
 
--- what the end says of the book: Quiet where no thread is ready and none can step, Spent where the fuel is used up and a thread is ready, Due where printed values are due
+-- what the end says of the book: Quiet where no thread is ready and none can step, Spent where the fuel is used up and a thread
+-- is ready, Due where printed values are due
 abbrev pub EndSays : RunEnd → BookView → Type 0
 EndSays Quiet b = CanRest b × (in_state Ready b ≡ 0)
 EndSays Spent b = (b.job.fuel ≤ weight_of b.history.events) × (0 < in_state Ready b)

@@ -63,7 +63,8 @@ pub record AreAlike (a b : Stand) : Type 0 where
   pub desk : desk_of a.book ≡ desk_of b.book
   pub out : (k : ℕ) → AreOne a.book.job.program b.book.job.program (map.get a.out k) (map.get b.out k)
 
--- what is true of a lease that is out: its thread has a number, and was put back as often as then, or more often; if it is there and was put back as often, it is as it was lent; and it made the steps that it is said to have made
+-- what is true of a lease that is out: its thread has a number, and was put back as often as then, or more often; if it is there
+-- and was put back as often, it is as it was lent; and it made the steps that it is said to have made
 pub record IsHeldTruly (b : BookView) (h : Held) : Type 0 where
   pub known : h.lease.thread < b.next.thread
   pub older : h.lease.generation ≤ generation h.lease.thread b.history.events
@@ -73,4 +74,5 @@ pub record IsHeldTruly (b : BookView) (h : Held) : Type 0 where
 -- the same of all leases that are out; no two are of one thread that was put back as often
 pub record AreTrue (s : Stand) : Type 0 where
   pub held : (k : ℕ) → IfSome (map.get s.out k) (IsHeldTruly s.book)
-  pub apart : (j k : ℕ) (h i : Held) → map.get s.out j ≡ Some h → map.get s.out k ≡ Some i → h.lease.thread ≡ i.lease.thread → h.lease.generation ≡ i.lease.generation → j ≡ k
+  pub apart : (j k : ℕ) (h i : Held) → map.get s.out j ≡ Some h → map.get s.out k ≡ Some i → h.lease.thread ≡ i.lease.thread
+      → h.lease.generation ≡ i.lease.generation → j ≡ k

@@ -27,7 +27,8 @@ abbrev pub ArePlayed : List Line → Stand → List ℕ → Stand → Type 0
 ArePlayed [] old text new = (text ≡ []) × (new ≡ old)
 ArePlayed (line ∷ lines) old text new = First (λ next more. ArePlayed lines next more new) old line text
 
--- why an order can't be obeyed, if it can't: a lease that is out isn't taken again, and one that isn't out is neither stepped nor committed
+-- why an order can't be obeyed, if it can't: a lease that is out isn't taken again, and one that isn't out is neither stepped
+-- nor committed
 abbrev pub refused : Bool → Verb → ℕ → Option DrillFault
 refused out Lease at = if out then Some (HeldTwice at) else None
 refused out Step at = if out then None else Some (NoSuchLease at)

@@ -28,7 +28,9 @@ stand book out = record { book = book; out = out }
 
 -- the turn is worker k's next: a thread that is lent is out as lease k, values that are due are released, and else nothing changes
 abbrev pub IsTaken : Stand → Stand → ℕ → Turn → Type 0
-IsTaken old new k (Work lease control) = IsTurn old.book new.book k (Work lease control) × (new.out ≡ map.insert old.out k (record { lease = lease; at = Lent control }))
+IsTaken old new k (Work lease control) =
+    IsTurn old.book new.book k (Work lease control)
+    × (new.out ≡ map.insert old.out k (record { lease = lease; at = Lent control }))
 IsTaken old new k Release = IsTurn old.book old.book k Release × IsReleased old.book new.book k × (new.out ≡ old.out)
 IsTaken old new k turn = IsTurn old.book new.book k turn × (new.out ≡ old.out)
 

@@ -39,7 +39,9 @@ now_text None = codes "none"
 
 -- `undone F C mark M removed R`
 abbrev pub undone_text : Seq → ℕ → Seq → ℕ → List ℕ
-undone_text first count mark removed = codes "undone " ++ decimal first.0 ++ 32 ∷ decimal count ++ codes " mark " ++ decimal mark.0 ++ codes " removed " ++ decimal removed
+undone_text first count mark removed =
+    codes "undone " ++ decimal first.0 ++ 32 ∷ decimal count ++ codes " mark " ++ decimal mark.0 ++ codes " removed "
+    ++ decimal removed
 
 -- what a commit tells: `taken F C` or `parked F C`, what was undone, `stale G now H`, or `over W`
 abbrev pub done_text : Done → List ℕ

@@ -17,18 +17,21 @@ use Rattle.stab_journal.specs.Journal.{survivors}
 use Rattle.journal_laws.proofs.Undone.{stands_run}
 use Rattle.commit_book.specs.Book.{BookView, IsShown, ShowsRun}
 use Rattle.commit_book.proofs.LawfulBooks.{final_lasts, granted, has_run, pinned_lasts}
+use Rattle.lone_worker.specs.Solo.{IsWholeSolo}
+use Rattle.schedule_drill.specs.Solo.{IsDrilledByOne}
+use Rattle.schedule_drill.proofs.OneWorker.{drilled_by_one}
 use Rattle.stab_top.specs.declared.report.Report.{Report}
 use Rattle.stab_top.specs.declared.report.Status.{Status}
 use Rattle.stab_top.specs.declared.report.Status.TheVariants.{Done, Held, BadWords, BadText, NoFile, TooBig, FileFault, SinkFault, Spent, NoMemory, BadProbes, BadTrace, BadScript, No, NotBuilt}
 use Rattle.stab_top.specs.Words.{is_built}
 use Rattle.stab_top.specs.Call.{BuiltSays, Call, DrillSays, LastSays, MillSays, OrdersSay, ReadSays, RunSaysBy, Says, ScriptSays, Writing, status_of}
 use Rattle.stab_top.specs.Device.{Device, Gains}
-use Rattle.stab_top.specs.Ending.{AsReleased, AtTheEnd, Ends, IsRunOf, Outcome, RunEnds, milled_by, shown_by}
+use Rattle.stab_top.specs.Ending.{AsReleased, AtTheEnd, Ends, IsRunOf, IsWritten, Outcome, RestSays, RunEnds, milled_by, shown_by}
 use Rattle.stab_top.specs.Drilling.{IsPlayedOut, PlayEnds}
-use Rattle.stab_top.specs.Headline.{AsksForRun, IsEnd, IsOfTheLanguage, ShowsRunOf}
+use Rattle.stab_top.specs.Headline.{AsksForRun, IsDrillOfOne, IsEnd, IsOfTheLanguage, ShowsRunOf}
 use Rattle.stab_top.specs.declared.report.Role.{Role}
 use Rattle.stab_top.specs.Loading.{LoadRefused}
-use Rattle.stab_top.specs.Reading.{BytesRefused, Form, ReadRefused, probes_form, program_form}
+use Rattle.stab_top.specs.Reading.{AreGiven, AreGivenBy, BytesRefused, Form, Holds, ReadRefused, probes_form, program_form}
 use Rattle.stab_top.proofs.Complete.{request_said}
 
 -- what a book shows
@@ -183,31 +186,51 @@ book_of_language words c request b says is asks there = built_book c b there req
 
 -- ---- a run that is over
 
-ended : (c : Call) (job : JobParts) (book : BookView) (state : PlainState) → IsRunOf job book state → c.outcome.report.book ≡ Some book
-    → Gains c.outcome.sink c.outcome.sink_after (shown_by book state) → ShowsRunOf c
-ended c job book state r reported gains = record {
-  book = book;
-  reported = reported;
-  says = of_language job book state r;
-  written = subst (λ (s : PlainState). Gains c.outcome.sink c.outcome.sink_after (shown_by book s)) (sym (ends_in job book state r)) gains;
-}
+-- the whole run of one worker is a drill
+drill_of_one : (book : BookView) → IsWholeSolo book.job book.history.events → IsDrillOfOne book
+drill_of_one book whole =
+    let solo = whole.solo in
+    record {
+      last = solo.new;
+      drilled = subst (λ (j : JobParts). IsDrilledByOne j solo.new) solo.of_job (drilled_by_one whole.end solo.old solo.new solo.start solo.run whole.whole);
+      events = solo.left;
+    }
 
-ended_run : (c : Call) (job : JobParts) (status : Status) → IsEnd status → RunEnds (AsReleased shown_by) status job c.outcome → ShowsRunOf c
-ended_run c job Done over e = ended c job e.book e.state e.run e.reported e.writes.gains
-ended_run c job Held over e = ended c job e.book e.state e.run e.reported e.writes.gains
-ended_run c job Spent over e = ended c job e.book e.state e.run e.reported e.writes.gains
-ended_run c job BadWords over e = elim over [ ]
-ended_run c job BadText over e = elim over [ ]
-ended_run c job NoFile over e = elim over [ ]
-ended_run c job TooBig over e = elim over [ ]
-ended_run c job FileFault over e = elim over [ ]
-ended_run c job SinkFault over e = elim over [ ]
-ended_run c job NoMemory over e = elim over [ ]
-ended_run c job BadProbes over e = elim over [ ]
-ended_run c job BadTrace over e = elim over [ ]
-ended_run c job BadScript over e = elim over [ ]
-ended_run c job No over e = elim over [ ]
-ended_run c job NotBuilt over e = elim over [ ]
+module _ (c : Call) (args : RunArgs) (program : ProgramParts) (script : List ℤ) (given : AreGiven c.files c.files_after args program script) where
+  job : JobParts
+  job = job_of program script args.fuel args.quantum
+
+  ended : (book : BookView) (state : PlainState) → IsRunOf job book state → c.outcome.report.book ≡ Some book
+      → IsWritten (status_of c) book state (shown_by book state) c.outcome → ShowsRunOf c args
+  ended book state r reported writes = record {
+    program = program;
+    script = script;
+    given = given;
+    book = book;
+    reported = reported;
+    of_job = r.of_job;
+    says = of_language job book state r;
+    rest = subst (λ (s : PlainState). RestSays (status_of c) book s) (sym (ends_in job book state r)) writes.rest;
+    alone = drill_of_one book writes.whole;
+    written = subst (λ (s : PlainState). Gains c.outcome.sink c.outcome.sink_after (shown_by book s)) (sym (ends_in job book state r)) writes.gains;
+  }
+
+  ended_run : (status : Status) → status_of c ≡ status → IsEnd status → RunEnds (AsReleased shown_by) status job c.outcome → ShowsRunOf c args
+  ended_run Done is over e = ended e.book e.state e.run e.reported (subst (λ (s : Status). IsWritten s e.book e.state (shown_by e.book e.state) c.outcome) (sym is) e.writes)
+  ended_run Held is over e = ended e.book e.state e.run e.reported (subst (λ (s : Status). IsWritten s e.book e.state (shown_by e.book e.state) c.outcome) (sym is) e.writes)
+  ended_run Spent is over e = ended e.book e.state e.run e.reported (subst (λ (s : Status). IsWritten s e.book e.state (shown_by e.book e.state) c.outcome) (sym is) e.writes)
+  ended_run BadWords is over e = elim over [ ]
+  ended_run BadText is over e = elim over [ ]
+  ended_run NoFile is over e = elim over [ ]
+  ended_run TooBig is over e = elim over [ ]
+  ended_run FileFault is over e = elim over [ ]
+  ended_run SinkFault is over e = elim over [ ]
+  ended_run NoMemory is over e = elim over [ ]
+  ended_run BadProbes is over e = elim over [ ]
+  ended_run BadTrace is over e = elim over [ ]
+  ended_run BadScript is over e = elim over [ ]
+  ended_run No is over e = elim over [ ]
+  ended_run NotBuilt is over e = elim over [ ]
 
 load_no_end : (role : Role) (status : Status) (files : Device (List Entry)) (name : List ℕ) (faults : ℕ) → LoadRefused status role files name faults → IsEnd status → ⊥
 load_no_end role Done files name faults refused over = refused
@@ -235,20 +258,24 @@ module _ {Content Fault : Type 0} (form : Form Content Fault) (bad : IsEnd form.
   read_no_end files name faults (inl x) = load_no_end form.role report.status files name faults x.0 over
   read_no_end files name faults (inr x) = bytes_no_end x.0 x.2
 
-module _ (c : Call) (over : IsEnd (status_of c)) where
-  read_ended : {Content Fault : Type 0} (form : Form Content Fault) → (IsEnd form.bad → ⊥) → (file : List ℕ) (faults : ℕ) (Said : Content → Type 0) → ((content : Content) → Said content → ShowsRunOf c) → ReadSays form c file faults Said → ShowsRunOf c
+module _ (c : Call) (args : RunArgs) (over : IsEnd (status_of c)) where
+  read_ended : {Content Fault : Type 0} (form : Form Content Fault) → (IsEnd form.bad → ⊥) → (file : List ℕ) (faults : ℕ) (Said : Content → Type 0)
+      → ((content : Content) → Holds form c.files file faults content → Said content → ShowsRunOf c args) → ReadSays form c file faults Said → ShowsRunOf c args
   read_ended form bad file faults Said all (inl refused) = absurd (read_no_end form bad c.outcome.report over c.files file c.files_after refused.0)
-  read_ended form bad file faults Said all (inr (content, holds, said)) = all content said
+  read_ended form bad file faults Said all (inr (content, holds, said)) = all content holds said
 
-  file_ended : (args : RunArgs) (named : Option (List ℕ)) → RunSaysBy (AsReleased shown_by) c args named → ShowsRunOf c
-  file_ended args None says =
-      read_ended program_form (λ bad. bad) args.file c.files_after (λ p. RunEnds (AsReleased shown_by) (status_of c) (job_of p [] args.fuel args.quantum) c.outcome)
-      (λ p ends. ended_run c (job_of p [] args.fuel args.quantum) (status_of c) over ends) says
-  file_ended args (Some name) says =
-      read_ended program_form (λ bad. bad) args.file c.files.faults (λ p. LastSays probes_form c name (λ script. RunEnds (AsReleased shown_by) (status_of c) (job_of p script args.fuel args.quantum) c.outcome))
-      (λ p said. read_ended probes_form (λ bad. bad) name c.files_after (λ script. RunEnds (AsReleased shown_by) (status_of c) (job_of p script args.fuel args.quantum) c.outcome)
-      (λ script ends. ended_run c (job_of p script args.fuel args.quantum) (status_of c) over ends) said) says
+  Ran : ProgramParts → List ℤ → Type 0
+  Ran program script = RunEnds (AsReleased shown_by) (status_of c) (job_of program script args.fuel args.quantum) c.outcome
+
+  file_ended : (named : Option (List ℕ)) → args.probes ≡ named → RunSaysBy (AsReleased shown_by) c args named → ShowsRunOf c args
+  file_ended None is says =
+      read_ended program_form (λ bad. bad) args.file c.files_after (λ p. Ran p [])
+      (λ p holds ends. ended_run c args p [] (subst (λ o. AreGivenBy c.files c.files_after args.file o p []) (sym is) (holds, refl)) (status_of c) refl over ends) says
+  file_ended (Some name) is says =
+      read_ended program_form (λ bad. bad) args.file c.files.faults (λ p. LastSays probes_form c name (λ script. Ran p script))
+      (λ p program said. read_ended probes_form (λ bad. bad) name c.files_after (λ script. Ran p script)
+      (λ script holds ends. ended_run c args p script (subst (λ o. AreGivenBy c.files c.files_after args.file o p script) (sym is) (program, holds)) (status_of c) refl over ends) said) says
 
 -- what a run that is over shows
-pub run_shows : (words : List (List ℕ)) (c : Call) (args : RunArgs) → Says words c → asked words ≡ Ok (Run args) → IsEnd (status_of c) → ShowsRunOf c
-run_shows words c args says is over = file_ended c over args args.probes (request_said words c (Run args) says is refl)
+pub run_shows : (words : List (List ℕ)) (c : Call) (args : RunArgs) → Says words c → asked words ≡ Ok (Run args) → IsEnd (status_of c) → ShowsRunOf c args
+run_shows words c args says is over = file_ended c args over args.probes refl (request_said words c (Run args) says is refl)

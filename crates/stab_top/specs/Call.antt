@@ -77,10 +77,13 @@ Writing = Status → BookView → PlainState → Outcome → Type 0
 
 -- a run of the program of a file with the script of a probe file, or with none, of which the command writes so
 abbrev pub RunSaysBy : Writing → Call → RunArgs → Option (List ℕ) → Type 0
-RunSaysBy writes c args None = LastSays program_form c args.file (λ program. RunEnds writes (status_of c) (job_of program [] args.fuel args.quantum) c.outcome)
+RunSaysBy writes c args None =
+    LastSays program_form c args.file (λ program.
+    RunEnds writes (status_of c) (job_of program [] args.fuel args.quantum) c.outcome)
 RunSaysBy writes c args (Some probes) =
     NextSays program_form c args.file (λ program.
-    LastSays probes_form c probes (λ script. RunEnds writes (status_of c) (job_of program script args.fuel args.quantum) c.outcome))
+    LastSays probes_form c probes (λ script.
+    RunEnds writes (status_of c) (job_of program script args.fuel args.quantum) c.outcome))
 
 abbrev pub RunSays : Writing → Call → RunArgs → Type 0
 RunSays writes c args = RunSaysBy writes c args args.probes
@@ -95,7 +98,8 @@ CheckSays c file = LastSays program_form c file (λ program. CheckEnds (status_o
 
 -- the trace of a file, judged as one of the program and the script
 abbrev pub TraceSays : Call → List ℕ → ProgramParts → List ℤ → Type 0
-TraceSays c file program script = LastSays trace_form c file (λ history. VerdictEnds (status_of c) program script history c.outcome)
+TraceSays c file program script =
+    LastSays trace_form c file (λ history. VerdictEnds (status_of c) program script history c.outcome)
 
 -- the script that the words name: that of a probe file, or none
 abbrev pub ScriptSays : Call → Option (List ℕ) → (List ℤ → Type 0) → Type 0
@@ -110,7 +114,8 @@ VerifySays c args =
 -- the file of the drill was refused, which is blamed; or what it holds was to be played on a new book of the job
 abbrev pub OrdersSay : Call → DrillArgs → ProgramParts → List ℤ → Type 0
 OrdersSay c args program script =
-    FileSays Script (status_of c) c.files args.script c.files_after (Refuses c.outcome (blames_file (blamed (status_of c) Script)))
+    FileSays Script (status_of c) c.files args.script c.files_after
+    (Refuses c.outcome (blames_file (blamed (status_of c) Script)))
     (λ bytes. DrillEnds (status_of c) (job_of program script args.fuel args.quantum) bytes c.outcome)
 
 -- the program is read first, then the script of probes, then that of the drill

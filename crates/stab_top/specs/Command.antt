@@ -51,4 +51,5 @@ EndsWithoutWords status e =
 -- there is a report that says it of these words, and the program ended with its status
 abbrev pub Executes : List (List ℕ) → Execution → Type 0
 Executes words e =
-    (report : Report) × EndsWith report.status (blame_of report) e.number e.errors e.errors_after × Says words (call_with e report)
+    (report : Report) × EndsWith report.status (blame_of report) e.number e.errors e.errors_after
+    × Says words (call_with e report)

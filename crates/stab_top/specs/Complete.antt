@@ -92,7 +92,8 @@ pub record WasStuck (c : Call) (job : JobParts) (script : List Line) : Type 0 wh
 abbrev pub WasDrilled : Call → JobParts → List Line → Type 0
 WasDrilled c job script = WasPlayed c job script ⊎ (WasStuck c job script ⊎ (status_of c ≡ NoMemory))
 
--- the report's book has the desk of this one, and the text is these lines, and then what the state shows to which the steps of the book lead that no undo took away
+-- the report's book has the desk of this one, and the text is these lines, and then what the state shows to which the steps of
+-- the book lead that no undo took away
 pub record IsTextOfDrill (c : Call) (lines : List ℕ) (book : BookView) (text : List ℕ) : Type 0 where
   pub last : BookView
   pub reported : c.outcome.report.book ≡ Some last
@@ -101,10 +102,12 @@ pub record IsTextOfDrill (c : Call) (lines : List ℕ) (book : BookView) (text :
   pub ends : end_of book.job.program (run_of book.history.events) ≡ Some state
   pub is : text ≡ lines ++ shown_by book state
 
--- What each status says where a drill comes to these lines and this book. Memory may be refused, or a file for a fault that was counted, and no other status comes.
+-- What each status says where a drill comes to these lines and this book. Memory may be refused, or a file for a fault that was
+-- counted, and no other status comes.
 abbrev pub ComesTo : Status → Call → List ℕ → BookView → Type 0
 ComesTo Done c lines book = (text : List ℕ) × IsTextOfDrill c lines book text × Gains c.outcome.sink c.outcome.sink_after text
-ComesTo SinkFault c lines book = (text : List ℕ) × IsTextOfDrill c lines book text × GainsPrefix c.outcome.sink c.outcome.sink_after text
+ComesTo SinkFault c lines book =
+    (text : List ℕ) × IsTextOfDrill c lines book text × GainsPrefix c.outcome.sink c.outcome.sink_after text
 ComesTo FileFault c lines book = CountedFault c
 ComesTo NoMemory c lines book = Unit {0}
 ComesTo _ c lines book = ⊥

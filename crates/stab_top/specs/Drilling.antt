@@ -42,8 +42,10 @@ pub record Reports (o : Outcome) (book : BookView) : Type 0 where
 
 -- what each status says of the lines and the book of a drill that was played
 abbrev pub WriteEnds : Status → List ℕ → BookView → Outcome → Type 0
-WriteEnds Done lines book o = Reports o book × ((shown : List ℕ) × IsShownText book shown × Gains o.sink o.sink_after (lines ++ shown))
-WriteEnds SinkFault lines book o = Reports o book × ((shown : List ℕ) × IsShownText book shown × GainsPrefix o.sink o.sink_after (lines ++ shown))
+WriteEnds Done lines book o =
+    Reports o book × ((shown : List ℕ) × IsShownText book shown × Gains o.sink o.sink_after (lines ++ shown))
+WriteEnds SinkFault lines book o =
+    Reports o book × ((shown : List ℕ) × IsShownText book shown × GainsPrefix o.sink o.sink_after (lines ++ shown))
 WriteEnds NoMemory lines book o = Refuses o no_blame
 WriteEnds _ lines book o = ⊥
 

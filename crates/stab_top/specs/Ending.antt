@@ -53,7 +53,8 @@ abbrev pub IsSoloPart : JobParts → List Event → Type 0
 IsSoloPart job events = (end : RunEnd) × IsSolo job end events
 
 -- The book is of this job. It shows its history, which stands for this run of the program from the start state, and the state in
--- which the run ends; the history's probes got the numbers of the script. Worker 1 made it all, by the run of the job by one worker.
+-- which the run ends; the history's probes got the numbers of the script. Worker 1 made it all, by the run of the job by one
+-- worker.
 pub record IsRunOf (job : JobParts) (book : BookView) (state : PlainState) : Type 0 where
   pub of_job : book.job ≡ job
   pub run : List Numbered
@@ -123,7 +124,8 @@ HasReleases book state piece =
 
 -- a prefix of the text was written, which begins with these lines
 abbrev pub WritesReleases : BookView → PlainState → List ℕ → Outcome → Type 0
-WritesReleases book state text o = SomePrefix (λ front. Appends o.sink.told o.sink_after.told front × HasReleases book state front) text
+WritesReleases book state text o =
+    SomePrefix (λ front. Appends o.sink.told o.sink_after.told front × HasReleases book state front) text
 
 -- the run is over as the status says, and the text was written whole
 pub record IsWritten (status : Status) (book : BookView) (state : PlainState) (text : List ℕ) (o : Outcome) : Type 0 where
@@ -145,7 +147,7 @@ AtTheEnd NoMemory book state o = ⊥
 AtTheEnd status book state o = IsWritten status book state (trace book.history) o
 
 module _ (WritesBy : Status → BookView → PlainState → Outcome → Type 0) where
-  -- the report has the book of the job's run, and nothing to blame, and the status says how far it came and what was written of it
+  -- the report has the book of the job's run, and nothing to blame, and the status says how far it came and what was written
   pub record Ends (status : Status) (job : JobParts) (o : Outcome) : Type 0 where
     pub book : BookView
     pub state : PlainState
@@ -154,7 +156,8 @@ module _ (WritesBy : Status → BookView → PlainState → Outcome → Type 0) 
     pub run : IsRunOf job book state
     pub writes : WritesBy status book state o
 
-  -- What each status says of a job that was to be run. Want of memory is free: there is no book and nothing was written, or there is one.
+  -- What each status says of a job that was to be run. Want of memory is free: there is no book and nothing was written, or
+  -- there is one.
   abbrev pub RunEnds : Status → JobParts → Outcome → Type 0
   RunEnds NoMemory job o = Refuses o no_blame ⊎ Ends NoMemory job o
   RunEnds status job o = Ends status job o
@@ -164,7 +167,8 @@ module _ (WritesBy : Status → BookView → PlainState → Outcome → Type 0) 
 -- the line that tells of a program that was read
 abbrev pub checked_line : ProgramParts → List ℕ
 checked_line program =
-    codes "ok functions " ++ (decimal (length program.functions) ++ (codes " texts " ++ (decimal (length program.texts) ++ 10 ∷ [])))
+    codes "ok functions "
+    ++ (decimal (length program.functions) ++ (codes " texts " ++ (decimal (length program.texts) ++ 10 ∷ [])))
 
 -- What each status says of a program that was to be checked. Want of memory is free, and no other status comes.
 abbrev pub CheckEnds : Status → ProgramParts → Outcome → Type 0
@@ -200,4 +204,5 @@ pub record IsJudged (status : Status) (program : ProgramParts) (script : List �
 
 -- What a status says of a history that was to be judged. Want of memory is free, and no other status comes.
 abbrev pub VerdictEnds : Status → ProgramParts → List ℤ → Journal → Outcome → Type 0
-VerdictEnds status program script history o = IsJudged status program script history o ⊎ ((status ≡ NoMemory) × Refuses o no_blame)
+VerdictEnds status program script history o =
+    IsJudged status program script history o ⊎ ((status ≡ NoMemory) × Refuses o no_blame)

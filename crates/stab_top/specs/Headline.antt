@@ -1,7 +1,9 @@
 -- What a call shows of the program that it runs.
-use Rattle.std.specs.Prelude.{◌≡◌, ℕ, ◌≤◌, true, List, ◌∷◌, ◌++◌, Some}
+use Rattle.std.specs.Prelude.{◌≡◌, ℕ, ℤ, ◌≤◌, true, List, ◌∷◌, ◌++◌, Some}
 use Rattle.stab_base.specs.declared.numbers.Seq.{Seq}
 use Rattle.stab_base.specs.declared.numbers.ThreadId.{ThreadId}
+use Rattle.stab_code.specs.JobParts.{job_of}
+use Rattle.stab_code.specs.Program.{ProgramParts}
 use Rattle.stab_journal.specs.declared.event.Event.{Event}
 use Rattle.stab_journal.specs.declared.event.Numbered.{Numbered}
 use Rattle.stab_journal.specs.declared.event.What.TheVariants.{Undo}
@@ -11,14 +13,17 @@ use Rattle.stab_journal.specs.Journal.{survivors}
 use Rattle.stab_journal.specs.Surviving.{run_of}
 use Rattle.stab_words.specs.declared.request.Request.{Request}
 use Rattle.stab_words.specs.declared.request.Request.TheVariants.{Drill, Mill, Run, Trace}
+use Rattle.stab_words.specs.declared.request.RunArgs.{RunArgs}
 use Rattle.plain_language.specs.Standing.{event}
 use Rattle.commit_book.specs.Book.{BookView}
 use Rattle.commit_book.specs.Headline.{HasRun, IsGranted, StandsIn}
+use Rattle.schedule_drill.specs.Solo.{IsDrilledByOne}
 use Rattle.stab_top.specs.declared.report.Status.{Status}
 use Rattle.stab_top.specs.declared.report.Status.TheVariants.{Done, Held, Spent}
-use Rattle.stab_top.specs.Call.{Call}
+use Rattle.stab_top.specs.Call.{Call, status_of}
 use Rattle.stab_top.specs.Device.{Gains}
-use Rattle.stab_top.specs.Ending.{shown_by}
+use Rattle.stab_top.specs.Ending.{RestSays, shown_by}
+use Rattle.stab_top.specs.Reading.{AreGiven}
 
 -- The journal without its undone steps is, in order, a run of the plain language from the start state that ends in exactly the
 -- book's threads, channels, references and output;
@@ -26,7 +31,8 @@ use Rattle.stab_top.specs.Ending.{shown_by}
 -- and no step that stands before a cut, or on which a pin depends, is ever undone.
 pub record IsOfTheLanguage (book : BookView) : Type 0 where
   pub run : HasRun book
-  pub undos : (first after : List Event) (worker : ℕ) (t : ThreadId) (m : Seq) → book.history.events ≡ first ++ event worker (Undo t m) ∷ after
+  pub undos : (first after : List Event) (worker : ℕ) (t : ThreadId) (m : Seq)
+      → book.history.events ≡ first ++ event worker (Undo t m) ∷ after
       → IsGranted book.job.program first worker t m
   pub cuts : (first after : List Event) → book.history.events ≡ first ++ after → (n : Numbered) → StandsIn (run_of first) n
       → n.seq.0 ≤ floor (run_of first) → StandsIn (survivors book.history) n
@@ -48,9 +54,23 @@ IsEnd Held = Unit {0}
 IsEnd Spent = Unit {0}
 IsEnd status = ⊥
 
--- the report has such a book, and what its run shows was written, and nothing else
-pub record ShowsRunOf (c : Call) : Type 0 where
+-- the events of the book are those of a drill of the same job by lines `lease 1` and `commit 1`
+pub record IsDrillOfOne (book : BookView) : Type 0 where
+  pub last : BookView
+  pub drilled : IsDrilledByOne book.job last
+  pub events : last.history.events ≡ book.history.events
+
+-- The call ran the program of the file, with the script that the words name and their fuel and quantum, and reports the book of
+-- that run, of which the above holds; the status says how the run ended; the run is a drill of one worker; and what it shows was
+-- written, and nothing else.
+pub record ShowsRunOf (c : Call) (args : RunArgs) : Type 0 where
+  pub program : ProgramParts
+  pub script : List ℤ
+  pub given : AreGiven c.files c.files_after args program script
   pub book : BookView
   pub reported : c.outcome.report.book ≡ Some book
+  pub of_job : book.job ≡ job_of program script args.fuel args.quantum
   pub says : IsOfTheLanguage book
+  pub rest : RestSays (status_of c) book says.run.end
+  pub alone : IsDrillOfOne book
   pub written : Gains c.outcome.sink c.outcome.sink_after (shown_by book says.run.end)

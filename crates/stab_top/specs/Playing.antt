@@ -26,7 +26,8 @@ pub record HasRun (status : Status) (job : JobParts) (book : BookView) : Type 0 
 -- what the sink gained of the lines that were released
 abbrev pub StopSays : Stop → BookView → PlainState → Device (List ℕ) → Device (List ℕ) → Type 0
 StopSays stops.SinkFault book state sink after =
-    SomePrefix (λ front. Appends sink.told after.told front × HasReleases book state front) (released_lines book) × Rose sink.faults after.faults
+    SomePrefix (λ front. Appends sink.told after.told front × HasReleases book state front) (released_lines book)
+    × Rose sink.faults after.faults
 StopSays stops.NoMemory book state sink after = Gains sink after (released_lines book)
 
 -- the job's run isn't over
@@ -46,4 +47,5 @@ IsTextBehind size book text = (rest : List ℕ) × IsRestText book rest × (text
 
 -- the text was written whole, with this status, or a prefix of it up to a fault
 abbrev pub WritesOf : Status → Status → List ℕ → Device (List ℕ) → Device (List ℕ) → Type 0
-WritesOf rest status text sink after = ((status ≡ rest) × Gains sink after text) ⊎ ((status ≡ SinkFault) × GainsPrefix sink after text)
+WritesOf rest status text sink after =
+    ((status ≡ rest) × Gains sink after text) ⊎ ((status ≡ SinkFault) × GainsPrefix sink after text)

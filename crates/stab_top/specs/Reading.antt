@@ -75,7 +75,8 @@ module _ {Content Fault : Type 0} (form : Form Content Fault) where
   -- why nothing was read: the file was refused, or its bytes were
   abbrev pub ReadRefused : Report → Device (List Entry) → List ℕ → ℕ → Type 0
   ReadRefused report files name faults =
-      FileSays form.role report.status files name faults (Blames report (blames_file (blamed report.status form.role))) (BytesRefused report)
+      FileSays form.role report.status files name faults
+      (Blames report (blames_file (blamed report.status form.role))) (BytesRefused report)
 
 -- ---- a run, whose script is that of a probe file, or empty
 
@@ -83,14 +84,16 @@ module _ (files : Device (List Entry)) (faults : ℕ) (file : List ℕ) where
   -- the program was read, and then the script
   abbrev pub AreGivenBy : Option (List ℕ) → ProgramParts → List ℤ → Type 0
   AreGivenBy None program script = Holds program_form files file faults program × (script ≡ [])
-  AreGivenBy (Some probes) program script = Holds program_form files file files.faults program × Holds probes_form files probes faults script
+  AreGivenBy (Some probes) program script =
+      Holds program_form files file files.faults program × Holds probes_form files probes faults script
 
   -- the one was refused, or the other
   abbrev pub AreRefusedBy : Option (List ℕ) → Report → Type 0
   AreRefusedBy None report = ReadRefused program_form report files file faults
   AreRefusedBy (Some probes) report =
       ReadRefused program_form report files file faults
-      ⊎ ((program : ProgramParts) × Holds program_form files file files.faults program × ReadRefused probes_form report files probes faults)
+      ⊎ ((program : ProgramParts) × Holds program_form files file files.faults program
+      × ReadRefused probes_form report files probes faults)
 
 abbrev pub AreGiven : Device (List Entry) → ℕ → RunArgs → ProgramParts → List ℤ → Type 0
 AreGiven files faults args program script = AreGivenBy files faults args.file args.probes program script

@@ -63,7 +63,8 @@ role_name Probes = codes "probes"
 role_name Trace = codes "trace"
 role_name Script = codes "script"
 
--- what a report names beside its status: the fault of the words, the file, the fault of the program's text, of the probe file, of the trace or of the script, the verdict
+-- what a report names beside its status: the fault of the words, the file, the fault of the program's text, of the probe file,
+-- of the trace or of the script, the verdict
 pub record Blame : Type 0 where
   pub words : Option WordFault
   pub file : Option Role

@@ -45,13 +45,15 @@ ghost use Rattle.stab_top.specs.Reading.{probes_form, program_form, trace_form};
 ghost use Rattle.stab_top.specs.declared.report.Role.TheVariants.{Probes as ProbesFile, Program as ProgramFile, Script as ScriptFile, Trace as TraceFile};
 ghost use Rattle.stab_top.specs.declared.report.Status.TheVariants.{Done as DoneStatus, NoMemory as NoMemoryStatus};
 
-/// Where the words ask for a run, and it is Done, Held or Spent: the journal of the report's book without its undone steps is, in
-/// order, a run of the plain language from the start state that ends in exactly the book's threads, channels, references and
-/// output; each granted stabilize undid its section's entry and precisely the steps that depend on it; no step that stands before
-/// a cut, or on which a pin depends, was undone; and what that run shows was written, and nothing else.
+/// Where the words ask for a run, and it is Done, Held or Spent: the program of the file was run, with the script that the words
+/// name and their fuel and quantum; the journal of the report's book without its undone steps is, in order, a run of the plain
+/// language from the start state that ends in exactly the book's threads, channels, references and output; each granted stabilize
+/// undid its section's entry and precisely the steps that depend on it; no step that stands before a cut, or on which a pin
+/// depends, was undone; the status says how the run ended; its events are those of a drill of `lease 1` and `commit 1`; and what
+/// the run shows was written, and nothing else.
 pub fn runs_are_of_the_language()
     ensures { (words : List (List ℕ)) (c : Call) (args : Args) → Says words c → asked words ≡ Ok (Run args) →
-        IsEnd (status_of c) → ShowsRunOf c }
+        IsEnd (status_of c) → ShowsRunOf c args }
 {}
 
 /// The same of the book of a run, a trace, the mill or a drill, whatever the status, wherever the report has a book.
@@ -61,7 +63,7 @@ pub fn books_are_of_the_language()
 {}
 
 /// What this says of an undo in the history of such a book, and of the output: the undo takes back only steps that depend on its
-/// section's entry; and as many values are printed as the journal without its undone steps has prints, so none of an undone one.
+/// section's entry; and as many values are printed as the journal without its undone steps has prints.
 pub fn undos_and_output()
     ensures no_more { (book : BookView) (first after : List Event) (worker : ℕ) (t : ThreadId) (m : Seq) (n : Numbered) →
         IsOfTheLanguage book → book.history.events ≡ first ++ event worker (Undo t m) ∷ after → StandsIn (run_of first) n →

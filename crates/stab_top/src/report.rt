@@ -16,7 +16,8 @@ use trace_verify::Verdict;
 /// How a call ended. Its number is the program's exit status.
 #[derive(Clone, Copy, PartialEq, Eq, Debug)]
 pub enum Status {
-    /// The run came to rest, and every thread ended without a fault; or the trace is one of a run of the program.
+    /// The run came to rest, and every thread ended without a fault; or the program was told of, the drill was played to its end,
+    /// or the trace is one of a run of the program.
     Done,
     /// The run came to rest, and a thread failed or waits.
     Held,
@@ -117,7 +118,8 @@ impl Role {
 #[derive(Drop)]
 pub struct Report {
     pub status: Status,
-    /// The book of a run, also where its output couldn't be written. Where memory was wanted it is there once the run had begun.
+    /// The book of a run or a drill, also where its output couldn't be written. Where a run wanted memory it is there once the run
+    /// had begun.
     pub book: Option<Book>,
     /// Why the words were refused.
     pub words_fault: Option<WordFault>,
@@ -136,7 +138,7 @@ pub struct Report {
 }
 
 impl Report {
-    /// The report of a run.
+    /// The report of a run, or of a drill.
     pub(crate) fn ending(status: Status, book: Book) -> Report
         ensures status { result.status ≡ status }
         ensures book { result.book ≡ Some book }
