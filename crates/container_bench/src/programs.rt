@@ -64,7 +64,7 @@ impl Work {
 }
 
 /// Two programs of so many nodes.
-pub fn pair(alloc: Global, n: u32) -> Result<Pair, NoMemory>
+pub fn make_pair(alloc: Global, n: u32) -> Result<Pair, NoMemory>
     requires { n ≤ 1000000 }
 {
     let one = print_sums(alloc, items(n))?;

@@ -88,7 +88,7 @@ impl Container {
             Container::CommGraph(work) => graphs::run(work, alloc, n),
             Container::StabLex => tokens::run(alloc, n),
             Container::StabCode(work) => {
-                let pair = programs::pair(alloc, n)?;
+                let pair = programs::make_pair(alloc, n)?;
                 Ok(work.run(alloc, &pair, n)?.count)
             }
         }
@@ -143,7 +143,7 @@ fn nanos_of_work<R: AllocGlobal + Clock>(rt: &R, work: Work, n: u32) -> io::Resu
 fn nanos_of_programs<R: AllocGlobal + Clock>(rt: &R, work: ProgramWork, n: u32) -> io::Result<u64>
     requires { n ≤ 1000000 }
 {
-    let pair = programs::pair(rt.alloc(), n).map_err(out_of_memory)?;
+    let pair = programs::make_pair(rt.alloc(), n).map_err(out_of_memory)?;
     let start = Instant::now(rt)?;
     let outcome = work.run(rt.alloc(), &pair, n).map_err(out_of_memory)?;
     let taken = start.elapsed(rt)?;
