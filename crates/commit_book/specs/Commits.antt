@@ -80,7 +80,7 @@ answer_of first count row = Taken (record { 0 = first }) count
 abbrev pub IsLeftBy : BookView → BookView → LeaseView → ProgressView → Row → Type 0
 IsLeftBy old new lease progress (undoes m) =
     IsTakenBack old (record new { answered = old.answered }) lease.worker lease.thread progress.steps m
-      (begun old lease.thread progress.steps)
+    (begun old lease.thread progress.steps)
     × (new.answered ≡ commit_counted old)
 IsLeftBy old new lease progress row =
     IsMoved old (record new { answered = old.answered }) lease.worker lease.thread progress.steps row

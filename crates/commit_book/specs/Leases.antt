@@ -12,4 +12,4 @@ pub record LeaseView : Type 0 where
 abbrev pub lease_code : Coded LeaseView
 lease_code =
     code_by (ℕ × (ℕ × ℕ)) (coded× coded_ℕ (coded× coded_ℕ coded_ℕ)) (λ l. (l.worker, (l.thread, l.generation)))
-      (λ p. record { worker = p.0; thread = p.1.0; generation = p.1.1 }) (λ _. refl)
+    (λ p. record { worker = p.0; thread = p.1.0; generation = p.1.1 }) (λ _. refl)

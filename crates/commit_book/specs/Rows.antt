@@ -80,7 +80,7 @@ module _ (b : BookView) (t : ℕ) where
   row_of e (act (receives c)) = receives_from c (longest (sends_at b.offers.lines c)) (stays_or_waits (offer.Recv (chan c)))
   row_of e (act (picks c d)) =
       receives_from c (longest (sends_at b.offers.lines c))
-        (receives_from d (longest (sends_at b.offers.lines d)) (stays_or_waits (offer.Pick (chan c) (chan d))))
+      (receives_from d (longest (sends_at b.offers.lines d)) (stays_or_waits (offer.Pick (chan c) (chan d))))
   row_of e (act (enters body)) = alone (Some (Enter (thread t)))
   row_of e (act stabilizes) = section_row (survivors b.history) t (mark e)
   row_of e (act cuts) = alone (Some (Cut (thread t)))

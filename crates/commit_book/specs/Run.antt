@@ -33,5 +33,5 @@ module _ {E : Type 0} (effect : Table E) where
   stood_at q t s [] = None
   stood_at q t s (n ∷ ns) =
       cond (nat_eq q n.seq.0)
-        (cond (saves n.label && has (actors n.label) t) (thread_of s t) None)
-        (stood_at q t (next effect s n) ns)
+      (cond (saves n.label && has (actors n.label) t) (thread_of s t) None)
+      (stood_at q t (next effect s n) ns)

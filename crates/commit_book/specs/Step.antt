@@ -45,7 +45,7 @@ pub record IsStepOf (old new : BookView) (run : List Numbered) (s : PlainState) 
   pub few : AreFew new.history.events new.next.thread new.next.chan new.next.ref
   pub saved : (q t : ℕ) → option_map (expr_of old.job.program) (saved_of new.saved q t)
       ≡ cond (nat_eq q (next_seq old))
-          (cond (saves l && has (actors l) t) (map.get s.threads t) None)
-          (option_map (expr_of old.job.program) (saved_of old.saved q t))
+      (cond (saves l && has (actors l) t) (map.get s.threads t) None)
+      (option_map (expr_of old.job.program) (saved_of old.saved q t))
   pub saved_fit : AllSaved (Fits old.job.program) new.saved
   pub nodes : new.nodes ≡ old.nodes ++ node_of (wrote_after (λ _. 0) run) (next_seq old) l

@@ -69,7 +69,7 @@ pub record IsTakenOut (old new : Parts) (m removed : ℕ) (qs : List ℕ) : Type
   pub faulted : (p : ProgramParts) → IsValid p → AllControls (Fits p) old.slots.threads
       → old.tallies.faulted ≡ faulted_in p old.slots.threads old.slots.next
       → new.tallies.faulted
-          ≡ length (threads_below (λ t. is_faulted_at p old.slots.threads t && not (is_touched lines t)) old.slots.next)
+      ≡ length (threads_below (λ t. is_faulted_at p old.slots.threads t && not (is_touched lines t)) old.slots.next)
   -- the channels: the touched threads withdraw, and then those go whose making is struck
   pub between : Seen
   pub waiting : (c : ℕ) → map.get between.lines c ≡ option_map (without_all (is_touched lines)) (map.get old.offers.lines c)
@@ -85,8 +85,8 @@ pub record IsTakenOut (old new : Parts) (m removed : ℕ) (qs : List ℕ) : Type
   pub nodes : new.graph.nodes ≡ unmarked qs old.graph.nodes
   pub printed : new.printed.items
       ≡ stay_printed (stays new.history)
-          (steps_within (floor (survivors old.history)) (length old.history.events) is_print (survivors old.history))
-          old.printed.items
+      (steps_within (floor (survivors old.history)) (length old.history.events) is_print (survivors old.history))
+      old.printed.items
   pub chan : new.next_chan ≡ old.next_chan
   pub ref : new.next_ref ≡ old.next_ref
   pub tallies : new.tallies ≡ record old.tallies { faulted = new.tallies.faulted }

@@ -84,7 +84,7 @@ abbrev pub given_back : BookView → LeaseView → BookView
 given_back b lease =
     if is_held b lease
     then requeued b (changed b.threads lease.thread (λ slot. record slot { state = Ready }))
-      (without lease.thread b.queue ++ lease.thread ∷ [])
+    (without lease.thread b.queue ++ lease.thread ∷ [])
     else b
 
 -- each Leased thread becomes Ready at the tail of the queue, in the order of their numbers

@@ -51,7 +51,7 @@ pub record IsTakenBack (old new : BookView) (worker t n m : ℕ) (run : List Num
   -- the touched threads leave the lines, which keep their order, and the channels go whose making is struck
   pub lines : (c : ℕ) → map.get new.offers.lines c
       ≡ cond (is_unmade (has (reached run m)) c run) None
-          (option_map (without_all (loses_a_step run m)) (map.get old.offers.lines c))
+      (option_map (without_all (loses_a_step run m)) (map.get old.offers.lines c))
   pub job : new.job ≡ old.job
   pub answered : new.answered ≡ old.answered
 

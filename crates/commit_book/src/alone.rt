@@ -19,6 +19,7 @@ use stab_journal::Label;
 use step_eval::{Act, Control, Progress};
 
 impl Parts {
+    /// The value comes to the end of what is printed.
     pub(crate) fn print(
         &mut self,
         job: &Job,
@@ -56,6 +57,7 @@ impl Parts {
         first(end.operands()).copy(self.alloc())
     }
 
+    /// The thread gets the next number of the script, 0 behind its end.
     pub(crate) fn probe(
         &mut self,
         job: &Job,
@@ -82,6 +84,7 @@ impl Parts {
         Ok(())
     }
 
+    /// The thread gets how often it was put back.
     pub(crate) fn attempt(
         &mut self,
         job: &Job,
@@ -106,6 +109,7 @@ impl Parts {
         Ok(())
     }
 
+    /// What the thread did so far, and what that depends on, is never taken back.
     pub(crate) fn pin(
         &mut self,
         job: &Job,

@@ -24,6 +24,7 @@ use std::alloc::Global;
 use step_eval::{Act, Control, Progress};
 
 impl Parts {
+    /// A thread of the next number begins with the body of the function that is named.
     pub(crate) fn spawn(
         &mut self,
         job: &Job,
@@ -84,6 +85,7 @@ impl Parts {
         self.slots.add(child, ended);
     }
 
+    /// The thread gets a channel of the next number.
     pub(crate) fn new_chan(
         &mut self,
         job: &Job,
@@ -123,6 +125,7 @@ impl Parts {
         self.offers.make(c)
     }
 
+    /// The thread enters the section, whose number is that of this step.
     pub(crate) fn enter(
         &mut self,
         job: &Job,

@@ -13,6 +13,7 @@ use stab_journal::Label;
 use step_eval::Progress;
 
 impl Parts {
+    /// All that was done so far is final: nothing is kept any more that an undo of it would need.
     pub(crate) fn cut(
         &mut self,
         job: &Job,

@@ -26,6 +26,7 @@ impl Model for Lease {
 }
 
 impl Lease {
+    /// The lease of a thread that was put back so often, for a worker from 1 to 64.
     pub(crate) fn new(worker: u32, thread: ThreadId, generation: Generation) -> Self
         requires { IsWorker worker }
         ensures { result ≡ record { worker = worker; thread = thread.0; generation = generation.0 } }
@@ -45,6 +46,7 @@ impl Lease {
         self.worker
     }
 
+    /// The thread that is lent.
     pub fn thread(&self) -> ThreadId
         ensures { result.0 ≡ self.now.thread }
     {

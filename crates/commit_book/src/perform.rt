@@ -207,6 +207,7 @@ impl Parts {
         before
     }
 
+    /// Where the memory of the parts comes from.
     pub(crate) fn alloc(&self) -> Global {
         *self.printed.allocator()
     }

@@ -18,6 +18,7 @@ use stab_journal::Label;
 use step_eval::{Act, Control, Progress};
 
 impl Parts {
+    /// The thread gets a reference of the next number, which holds the value.
     pub(crate) fn new_ref(
         &mut self,
         job: &Job,
@@ -45,6 +46,7 @@ impl Parts {
         Ok(())
     }
 
+    /// The reference holds the value from here on.
     pub(crate) fn set(
         &mut self,
         job: &Job,
@@ -85,6 +87,7 @@ impl Parts {
         v.copy(self.alloc())
     }
 
+    /// The thread gets what the reference holds.
     pub(crate) fn get(
         &mut self,
         job: &Job,

@@ -197,7 +197,7 @@ drill_of_one book whole =
     }
 
 module _ (c : Call) (args : RunArgs) (program : ProgramParts) (script : List ℤ) (given : AreGiven c.files c.files_after args program script) where
-  job : JobParts
+  abbrev job : JobParts
   job = job_of program script args.fuel args.quantum
 
   ended : (book : BookView) (state : PlainState) → IsRunOf job book state → c.outcome.report.book ≡ Some book
@@ -264,7 +264,7 @@ module _ (c : Call) (args : RunArgs) (over : IsEnd (status_of c)) where
   read_ended form bad file faults Said all (inl refused) = absurd (read_no_end form bad c.outcome.report over c.files file c.files_after refused.0)
   read_ended form bad file faults Said all (inr (content, holds, said)) = all content holds said
 
-  Ran : ProgramParts → List ℤ → Type 0
+  abbrev Ran : ProgramParts → List ℤ → Type 0
   Ran program script = RunEnds (AsReleased shown_by) (status_of c) (job_of program script args.fuel args.quantum) c.outcome
 
   file_ended : (named : Option (List ℕ)) → args.probes ≡ named → RunSaysBy (AsReleased shown_by) c args named → ShowsRunOf c args
