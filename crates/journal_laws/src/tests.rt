@@ -164,7 +164,13 @@ fn a_write_hides_the_ones_before_it(rt: HostRuntime) -> Result<(), Fail> {
         "1 newref 1 1; 2 newref 1 2; 3 spawn 1 2; 4 spawn 1 3; 5 enter 1; 6 set 1 1; 7 set 1 1; 8 set 3 2",
         "9 get 2 1; 10 get 3 2",
     ];
-    expect_reached(&rt, &apart, 5, &[5, 6, 7, 9])
+    expect_reached(&rt, &apart, 5, &[5, 6, 7, 9])?;
+    // The section makes the reference, which is its first write.
+    let made = ["1 spawn 1 2; 2 enter 1; 3 newref 1 1; 4 get 2 1"];
+    expect_reached(&rt, &made, 2, &[2, 3, 4])?;
+    // The section reads the reference, which writes nothing.
+    let read = ["1 newref 1 1; 2 spawn 1 2; 3 enter 1; 4 get 1 1; 5 get 2 1"];
+    expect_reached(&rt, &read, 3, &[3, 4])
 }
 
 #[test]

@@ -116,12 +116,26 @@ const RETRY_ROWS: &str = "\
 -enter 1,-attempt 1 0,-local 1 2,!undo 1 1,+enter 1,+attempt 1 1,+local 1 2,!undo 1 1 -> no 8 NotRevocable\n\
 ";
 
+// Of what goes, two partners act in their meetings with the section alone: one receives there, and the other one sends.
+const PARTNERS: &str = "
+fn b(c: chan[int]): unit { recv(c); attempt(); }
+fn d(k: chan[int]): unit { send(k, 2); attempt(); }
+fn part(c: chan[int], k: chan[int]): unit { send(c, 1); recv(k); if probe() < 0 { stabilize() } else { () } }
+fn main(): unit { let c = chan[int](); let k = chan[int](); spawn b(c); spawn d(k); stable part(c, k) }
+";
+
+const PARTNERS_ROWS: &str = "\
++newchan 1 1,+local 1 1,+newchan 1 2,+local 1 1,+spawn 1 2,+local 1 1,+spawn 1 3,+local 1 1,-enter 1,-comm 1 2 1,-local 1 1,-comm 3 1 2,-local 1 1,-probe 1 -1,-local 1 2,!undo 1 9,+enter 1,+comm 1 2 1,+local 2 1,+attempt 2 1 -> yes\n\
++newchan 1 1,+local 1 1,+newchan 1 2,+local 1 1,+spawn 1 2,+local 1 1,+spawn 1 3,+local 1 1,-enter 1,-comm 1 2 1,-local 1 1,-comm 3 1 2,-local 1 1,-probe 1 -1,-local 1 2,!undo 1 9,+enter 1,+comm 1 2 1,+local 1 1,+comm 3 1 2,+local 3 1,+attempt 3 1 -> yes\n\
+";
+
 #[test]
 fn cuts_pins_and_attempts(rt: HostRuntime) -> Result<(), Fail> {
     let alloc = rt.alloc();
     verdicts(alloc, CUT_OUTSIDE, &[], CUT_OUTSIDE_ROWS)?;
     verdicts(alloc, PIN_OUTSIDE, &[-1], PIN_OUTSIDE_ROWS)?;
-    verdicts(alloc, RETRY, &[], RETRY_ROWS)
+    verdicts(alloc, RETRY, &[], RETRY_ROWS)?;
+    verdicts(alloc, PARTNERS, &[-1], PARTNERS_ROWS)
 }
 
 // The trace of a program that prints between two cuts, whose header has no releases under it.

@@ -2,7 +2,7 @@
 
 use super::{at, place};
 use crate::tests::{program_of, run_of};
-use plain_language::{Expr, Head, PlainState};
+use plain_language::{Expr, Head, Look, PlainState};
 use stab_base::{ChanId, Seq, ThreadId, Value};
 use stab_journal::Label;
 use std::alloc::{AllocError, Global};
@@ -108,6 +108,7 @@ chan[int]() == c | 20 newchan 1 5; 21 local 1 1 | false
 ref(7) == r | 20 newref 1 5; 21 local 1 1 | false
 get(ref(7)) | 20 newref 1 5; 21 get 1 5 | 7
 get(r) | 20 get 1 1 | 1
+set(r, 2) | 20 set 1 1 | ()
 set(r, 2); get(r) | 20 set 1 1; 21 local 1 1; 22 get 1 1 | 2
 send(c, 7) | 20 comm 1 2 1 | ()
 recv(d) | 20 comm 3 1 2 | 7
@@ -331,7 +332,7 @@ fn channel(c: u32) -> Expr {
     Expr::value(Value::chan(ChanId(c)))
 }
 
-// A pick makes a pair of what was sent, which may be too deep.
+// A pick makes a pair of what was sent, which may be too deep. Its sender goes on all the same.
 #[test]
 fn a_pick_of_a_deep_value(rt: HostRuntime) -> Result<(), Fail> {
     let alloc = rt.alloc();
@@ -352,6 +353,7 @@ fn a_pick_of_a_deep_value(rt: HostRuntime) -> Result<(), Fail> {
         assert_eq!(rt; state.play(alloc, Seq(1), &comm), Ok(()), "{times}");
         let found = format!(in alloc; "{:?}", state.look(ThreadId(2)))?;
         assert_eq!(rt; found.as_str(), wanted, "{times}");
+        assert_eq!(rt; state.look(T), Some(Look::Done), "{times}");
     }
     Ok(())
 }
