@@ -1,6 +1,6 @@
 //! Calls by their words, with the program that prints two numbers under the name `p` and no other file.
 
-use super::trial::{Trial, is_answer};
+use crate::trial::{Trial, is_answer};
 use stab_journal::{Label, What};
 use std::alloc::Global;
 use std::sync::Wait;

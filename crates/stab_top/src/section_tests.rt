@@ -1,6 +1,6 @@
 //! Whole calls that run programs with sections, cuts, pins and attempts.
 
-use super::trial::{Trial, is_answer};
+use crate::trial::{Trial, is_answer};
 use mill_text::mill_text;
 use stab_journal::What;
 use std::alloc::Global;

@@ -1,6 +1,6 @@
 //! Calls that write a trace or judge one.
 
-use super::trial::{Trial, is_answer};
+use crate::trial::{Trial, is_answer};
 use stab_base::Seq;
 use std::alloc::Global;
 use std::process::Abort;

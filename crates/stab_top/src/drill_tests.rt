@@ -1,6 +1,6 @@
 //! Whole calls that play drills.
 
-use super::trial::{Trial, is_answer};
+use crate::trial::{Trial, is_answer};
 use std::alloc::Global;
 use std::sync::Wait;
 use std::test::Fail;

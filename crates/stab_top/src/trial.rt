@@ -1,9 +1,11 @@
 //! Calls over files and a sink in memory, which tests make.
 
+use crate::reason_line::reason;
+use crate::report::{Gate, Report, Role};
+use crate::top::stab;
 use stab_base::Seq;
 use stab_files::{MemFiles, MemSink};
 use stab_journal::What;
-use stab_top::{Gate, Report, Role, reason, stab};
 use std::alloc::Global;
 use std::sync::Wait;
 use std::sync::atomic::{AtomicU32, Ordering};

@@ -1,9 +1,9 @@
 //! Whole calls that run a program.
 
-use super::trial::{Trial, is_answer, repeated, runs};
+use crate::report::Role;
+use crate::trial::{Trial, is_answer, repeated, runs};
 use stab_base::{ThreadId, Value};
 use stab_journal::{Label, What};
-use stab_top::Role;
 use std::test::Fail;
 
 const SUM: &[u8] = b"fn main(): unit { print(1 + 2) }";

@@ -1,7 +1,7 @@
 //! Whole calls that run programs with several threads, channels, references and probes.
 
-use super::trial::{Trial, is_answer, runs};
-use stab_top::Role;
+use crate::report::Role;
+use crate::trial::{Trial, is_answer, runs};
 use std::alloc::Global;
 use std::sync::Wait;
 use std::test::Fail;

@@ -1,6 +1,6 @@
 //! Calls by the texts of their programs.
 
-use super::trial::{Trial, is_answer, repeated};
+use crate::trial::{Trial, is_answer, repeated};
 use std::alloc::Global;
 use std::sync::Wait;
 use std::test::Fail;
