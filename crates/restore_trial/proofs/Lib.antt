@@ -1,1 +1,3 @@
 pub mod There
+pub mod Backs
+pub mod SavedPlaces
