@@ -1,0 +1,183 @@
+//! Runs by one worker, beside the drills of their turns.
+ghost use Rattle.std.specs.Prelude.{◌≤◌, ◌<◌};
+
+use super::program_of;
+use super::texts::{SUMS, TEXTS};
+use commit_book::Book;
+use lone_worker::{RunEnd, run};
+use schedule_drill::{DrillEnd, drill};
+use stab_base::{NoMemory, Seq, Value};
+use stab_code::Job;
+use stab_journal::{History, Label, What};
+use std::alloc::Global;
+use std::test::Fail;
+
+// How often values may fall due in a run.
+const ROUNDS: u32 = 1_000;
+
+fn job_of(alloc: Global, text: &str, probes: &[i64], fuel: u64) -> Option<Job>
+    requires some_fuel { 1 ≤ fuel }
+    requires fuel_within { fuel ≤ 16_000_000 }
+{
+    if probes.len() > 10 {
+        return None;
+    }
+    let program = program_of(alloc, text)?;
+    let probes = Vec::from_slice(alloc, probes).ok()?;
+    Some(Job::new(program, probes, fuel, 10))
+}
+
+// A run by one worker, how it ended, and the script of its turns.
+#[derive(Drop)]
+struct Alone {
+    book: Book,
+    end: RunEnd,
+    script: Vec<u8>,
+}
+
+// Turns until values are due or none comes: how many, and why no more.
+fn turns(book: &mut Book) -> Option<(u64, RunEnd)> {
+    let before = book.counts();
+    if before.leased != 0 {
+        return None;
+    }
+    let end = run(book);
+    let after = book.counts();
+    Some((after.commits.saturating_sub(before.commits), end))
+}
+
+// Whether values were due, and were released.
+fn release(book: &mut Book, out: &mut Vec<u8>) -> bool {
+    book.due() > 0 && book.release(1, out).is_ok()
+}
+
+// So many turns, and a lease that lends nobody.
+fn put_turns(script: &mut Vec<u8>, count: u64) -> Result<(), NoMemory> {
+    for _ in 0..count {
+        script.extend_from_slice(b"lease 1\ncommit 1\n")?;
+    }
+    script.extend_from_slice(b"lease 1\n")?;
+    Ok(())
+}
+
+fn run_alone(alloc: Global, job: Job) -> Result<Alone, Fail> {
+    let mut book = Book::new(alloc, job).map_err(|_| Fail::from("no memory"))?;
+    let mut script = Vec::new(alloc);
+    let mut out = Vec::new(alloc);
+    for _ in 0..ROUNDS {
+        let Some((count, end)) = turns(&mut book) else {
+            return Err(Fail::from("a lease is out"));
+        };
+        put_turns(&mut script, count)?;
+        if end != RunEnd::Due || !release(&mut book, &mut out) {
+            return Ok(Alone { book, end, script });
+        }
+    }
+    Err(Fail::from("too many rounds"))
+}
+
+fn same_events(one: &History, other: &History) -> bool {
+    for q in 1..=one.len() {
+        let q = Seq(q);
+        if one.get(q).copied() != other.get(q).copied() || one.is_live(q) != other.is_live(q) {
+            return false;
+        }
+    }
+    one.len() == other.len()
+}
+
+fn same_values(one: &[Value], other: &[Value]) -> bool {
+    one.len() == other.len() && one.iter().zip(other).all(|(v, w)| v.same(w))
+}
+
+// Whether a drill is a run.
+fn agree(alone: &Alone, drilled: &DrillEnd) -> bool {
+    same_events(alone.book.history(), drilled.book.history())
+        && same_values(alone.book.printed(), drilled.book.printed())
+        && alone.book.counts() == drilled.book.counts()
+        && ends_so(drilled.lines.as_slice(), alone.end)
+}
+
+// Whether the last line of a drill tells this end.
+fn ends_so(lines: &[u8], end: RunEnd) -> bool {
+    match end {
+        RunEnd::Quiet => lines.ends_with(b"\nlease 1 quiet\n"),
+        RunEnd::Spent => lines.ends_with(b"\nlease 1 spent\n"),
+        RunEnd::Due | RunEnd::NoMemory => false,
+    }
+}
+
+// The run of a text by one worker, and the drill of its turns.
+fn both(alloc: Global, text: &str, probes: &[i64], fuel: u64) -> Result<(Alone, DrillEnd), Fail>
+    requires some_fuel { 1 ≤ fuel }
+    requires fuel_within { fuel ≤ 16_000_000 }
+{
+    let Some(job) = job_of(alloc, text, probes, fuel) else {
+        return Err(Fail::from("the job of a text"));
+    };
+    let alone = run_alone(alloc, job)?;
+    let Some(job) = job_of(alloc, text, probes, fuel) else {
+        return Err(Fail::from("the job of a text"));
+    };
+    match drill(alloc, job, alone.script.as_slice()) {
+        Ok(drilled) => Ok((alone, drilled)),
+        Err(_) => Err(Fail::from("a script that can be played")),
+    }
+}
+
+const KINDS: usize = 16;
+
+fn kind(what: What) -> usize
+    ensures { result < 16 }
+{
+    match what {
+        What::Step(Label::Local(..)) => 0,
+        What::Step(Label::Spawn(..)) => 1,
+        What::Step(Label::NewChan(..)) => 2,
+        What::Step(Label::Comm(..)) => 3,
+        What::Step(Label::NewRef(..)) => 4,
+        What::Step(Label::Get(..)) => 5,
+        What::Step(Label::Set(..)) => 6,
+        What::Step(Label::Enter(_)) => 7,
+        What::Step(Label::Cut(_)) => 8,
+        What::Step(Label::Print(_)) => 9,
+        What::Step(Label::Probe(..)) => 10,
+        What::Step(Label::Refuse(_)) => 11,
+        What::Step(Label::Pin(_)) => 12,
+        What::Step(Label::Attempt(..)) => 13,
+        What::Undo(..) => 14,
+        What::Release(_) => 15,
+    }
+}
+
+// How many events of each kind there are.
+fn add_kinds(history: &History, kinds: &mut [u64; KINDS]) {
+    for q in 1..=history.len() {
+        if let Some(event) = history.get(Seq(q)) {
+            let count = &mut kinds[kind(event.what)];
+            *count = count.saturating_add(1);
+        }
+    }
+}
+
+#[test]
+fn one_worker_is_a_drill(rt: HostRuntime) -> Result<(), Fail> {
+    let mut kinds = [0; KINDS];
+    for (text, probes) in TEXTS {
+        let (alone, drilled) = both(rt.alloc(), text, probes, 3_000)?;
+        assert!(rt; agree(&alone, &drilled), "of {text}");
+        add_kinds(alone.book.history(), &mut kinds);
+    }
+    assert!(rt; kinds.iter().all(|count| *count > 0), "{kinds:?}");
+    // The sums up to 400: an undo at 1, 10, 19 and so on up to 397, and a release behind 25, 50 and so on up to 400.
+    let (alone, drilled) = both(rt.alloc(), SUMS, &[400], 100_000)?;
+    let mut kinds = [0; KINDS];
+    add_kinds(drilled.book.history(), &mut kinds);
+    assert!(rt; agree(&alone, &drilled));
+    assert_eq!(rt;
+        (drilled.book.printed().len(), kinds[14], kinds[15]),
+        (400, 45, 16)
+    );
+    assert!(rt; drilled.book.history().len() > 5_000);
+    Ok(())
+}
