@@ -122,7 +122,6 @@ fn lines_with(lines: &str, word: &str) -> u64 {
 struct Written {
     stale: u64,
     undone: u64,
-    released: u64,
 }
 
 impl Written {
@@ -130,7 +129,6 @@ impl Written {
         Written {
             stale: 0,
             undone: 0,
-            released: 0,
         }
     }
 
@@ -138,14 +136,12 @@ impl Written {
         Written {
             stale: lines_with(lines, " stale "),
             undone: lines_with(lines, " undone "),
-            released: lines_with(lines, " release "),
         }
     }
 
     fn add(&mut self, other: Written) {
         self.stale = self.stale.saturating_add(other.stale);
         self.undone = self.undone.saturating_add(other.undone);
-        self.released = self.released.saturating_add(other.released);
     }
 }
 
@@ -178,8 +174,7 @@ fn random_scripts(rt: HostRuntime) -> Result<(), Fail> {
     for (text, _) in &TEXTS[..5] {
         drill_often(&rt, text, &mut total)?;
     }
-    assert!(rt; total.stale > 50, "{total:?}");
-    assert!(rt; total.undone > 500, "{total:?}");
-    assert!(rt; total.released > 500, "{total:?}");
+    assert!(rt; total.stale > 100, "{total:?}");
+    assert!(rt; total.undone > 100, "{total:?}");
     Ok(())
 }
