@@ -1,5 +1,7 @@
 //! Runs by one worker, beside the drills of their turns.
-ghost use Rattle.std.specs.Prelude.{◌≤◌, ◌<◌};
+ghost use Rattle.std.specs.Prelude.{◌≡◌, ◌≤◌, ◌<◌, true};
+ghost use Rattle.commit_book.specs.Counts.{in_state};
+ghost use Rattle.thread_slots.specs.declared.state.State.TheVariants.{Leased};
 
 use super::program_of;
 use super::texts::{SUMS, TEXTS};
@@ -35,15 +37,26 @@ struct Alone {
     script: Vec<u8>,
 }
 
-// Turns until values are due or none comes: how many, and why no more.
+fn is_free(book: &Book) -> bool
+    ensures { result ≡ true → in_state Leased book.now ≡ 0 }
+{
+    book.counts().leased == 0
+}
+
+// A run until values are due or no turn comes, where no lease is out.
+fn run_free(book: &mut Book) -> Option<RunEnd> {
+    if is_free(book) { Some(run(book)) } else { None }
+}
+
+fn commits(book: &Book) -> u64 {
+    book.counts().commits
+}
+
+// How many turns there were in such a run, and why no more.
 fn turns(book: &mut Book) -> Option<(u64, RunEnd)> {
-    let before = book.counts();
-    if before.leased != 0 {
-        return None;
-    }
-    let end = run(book);
-    let after = book.counts();
-    Some((after.commits.saturating_sub(before.commits), end))
+    let before = commits(book);
+    let end = run_free(book)?;
+    Some((commits(book).saturating_sub(before), end))
 }
 
 // Whether values were due, and were released.
@@ -60,20 +73,42 @@ fn put_turns(script: &mut Vec<u8>, count: u64) -> Result<(), NoMemory> {
     Ok(())
 }
 
-fn run_alone(alloc: Global, job: Job) -> Result<Alone, Fail> {
-    let mut book = Book::new(alloc, job).map_err(|_| Fail::from("no memory"))?;
+// One round: turns, and the release of the values that were due; how the run ended, if it did.
+fn play_round(
+    book: &mut Book,
+    script: &mut Vec<u8>,
+    out: &mut Vec<u8>,
+) -> Result<Option<RunEnd>, Fail> {
+    let Some((count, end)) = turns(book) else {
+        return Err(Fail::from("a lease is out"));
+    };
+    put_turns(script, count)?;
+    if end == RunEnd::Due && release(book, out) {
+        return Ok(None);
+    }
+    Ok(Some(end))
+}
+
+// The rounds of a book: how they ended, and the script of their turns.
+fn play_rounds(alloc: Global, book: &mut Book) -> Result<(RunEnd, Vec<u8>), Fail> {
     let mut script = Vec::new(alloc);
     let mut out = Vec::new(alloc);
     for _ in 0..ROUNDS {
-        let Some((count, end)) = turns(&mut book) else {
-            return Err(Fail::from("a lease is out"));
-        };
-        put_turns(&mut script, count)?;
-        if end != RunEnd::Due || !release(&mut book, &mut out) {
-            return Ok(Alone { book, end, script });
+        if let Some(end) = play_round(book, &mut script, &mut out)? {
+            return Ok((end, script));
         }
     }
     Err(Fail::from("too many rounds"))
+}
+
+fn book_of(alloc: Global, job: Job) -> Result<Book, Fail> {
+    Book::new(alloc, job).map_err(|_| Fail::from("no memory"))
+}
+
+fn run_alone(alloc: Global, job: Job) -> Result<Alone, Fail> {
+    let mut book = book_of(alloc, job)?;
+    let (end, script) = play_rounds(alloc, &mut book)?;
+    Ok(Alone { book, end, script })
 }
 
 fn same_events(one: &History, other: &History) -> bool {
@@ -107,22 +142,32 @@ fn ends_so(lines: &[u8], end: RunEnd) -> bool {
     }
 }
 
+fn drill_of(alloc: Global, job: Job, script: &[u8]) -> Result<DrillEnd, Fail> {
+    drill(alloc, job, script).map_err(|_| Fail::from("a script that can be played"))
+}
+
+fn job_for(alloc: Global, text: &str, probes: &[i64], fuel: u64) -> Result<Job, Fail>
+    requires some_fuel { 1 ≤ fuel }
+    requires fuel_within { fuel ≤ 16_000_000 }
+{
+    match job_of(alloc, text, probes, fuel) {
+        Some(job) => Ok(job),
+        None => Err(Fail::from("the job of a text")),
+    }
+}
+
 // The run of a text by one worker, and the drill of its turns.
 fn both(alloc: Global, text: &str, probes: &[i64], fuel: u64) -> Result<(Alone, DrillEnd), Fail>
     requires some_fuel { 1 ≤ fuel }
     requires fuel_within { fuel ≤ 16_000_000 }
 {
-    let Some(job) = job_of(alloc, text, probes, fuel) else {
-        return Err(Fail::from("the job of a text"));
-    };
-    let alone = run_alone(alloc, job)?;
-    let Some(job) = job_of(alloc, text, probes, fuel) else {
-        return Err(Fail::from("the job of a text"));
-    };
-    match drill(alloc, job, alone.script.as_slice()) {
-        Ok(drilled) => Ok((alone, drilled)),
-        Err(_) => Err(Fail::from("a script that can be played")),
-    }
+    let alone = run_alone(alloc, job_for(alloc, text, probes, fuel)?)?;
+    let drilled = drill_of(
+        alloc,
+        job_for(alloc, text, probes, fuel)?,
+        alone.script.as_slice(),
+    )?;
+    Ok((alone, drilled))
 }
 
 const KINDS: usize = 16;
