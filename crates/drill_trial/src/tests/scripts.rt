@@ -2,6 +2,7 @@
 
 use super::program_of;
 use super::texts::TEXTS;
+use commit_book::Book;
 use schedule_drill::{DrillEnd, DrillFault, drill};
 use stab_base::NoMemory;
 use stab_code::{Job, Program};
@@ -145,6 +146,29 @@ impl Written {
     }
 }
 
+// How many commits were late, and how many undos there were, as the book counts.
+fn counted(book: &Book) -> (u64, u64) {
+    let counts = book.counts();
+    (counts.stale, counts.undos)
+}
+
+// What came of a drill.
+#[derive(Drop)]
+struct Trial {
+    is_judged: bool,
+    counted: (u64, u64),
+    written: Written,
+}
+
+fn try_one(alloc: Global, program: &Arc<Program>, seed: u64) -> Result<Trial, Fail> {
+    let end = random_drill(alloc, program, seed)?;
+    Ok(Trial {
+        is_judged: is_judged(alloc, &end),
+        counted: counted(&end.book),
+        written: Written::of(lines_of(&end)),
+    })
+}
+
 // Drills of a text.
 fn drill_often<R: AllocGlobal + Abort>(
     rt: &R,
@@ -155,15 +179,10 @@ fn drill_often<R: AllocGlobal + Abort>(
         return Err(Fail::from("the text of a program"));
     };
     for seed in 0..200 {
-        let end = random_drill(rt.alloc(), &program, seed)?;
-        let written = Written::of(lines_of(&end));
-        let counts = end.book.counts();
-        assert!(rt; is_judged(rt.alloc(), &end), "at {seed} of {text}");
-        assert_eq!(rt;
-            (counts.stale, counts.undos),
-            (written.stale, written.undone)
-        );
-        total.add(written);
+        let one = try_one(rt.alloc(), &program, seed)?;
+        assert!(rt; one.is_judged, "at {seed} of {text}");
+        assert_eq!(rt; one.counted, (one.written.stale, one.written.undone));
+        total.add(one.written);
     }
     Ok(())
 }

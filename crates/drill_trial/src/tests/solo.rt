@@ -205,24 +205,60 @@ fn add_kinds(history: &History, kinds: &mut [u64; KINDS]) {
     }
 }
 
+// What came of a run and its drill.
+#[derive(Drop)]
+struct Compared {
+    agree: bool,
+    printed: usize,
+    events: u64,
+}
+
+fn printed(book: &Book) -> usize {
+    book.printed().len()
+}
+
+// How many events a book has, after they were counted by their kinds.
+fn count_kinds(book: &Book, kinds: &mut [u64; KINDS]) -> u64 {
+    add_kinds(book.history(), kinds);
+    book.history().len()
+}
+
+fn compare(
+    alloc: Global,
+    text: &str,
+    probes: &[i64],
+    fuel: u64,
+    kinds: &mut [u64; KINDS],
+) -> Result<Compared, Fail>
+    requires some_fuel { 1 ≤ fuel }
+    requires fuel_within { fuel ≤ 16_000_000 }
+{
+    let (alone, drilled) = both(alloc, text, probes, fuel)?;
+    Ok(Compared {
+        agree: agree(&alone, &drilled),
+        printed: printed(&drilled.book),
+        events: count_kinds(&drilled.book, kinds),
+    })
+}
+
 #[test]
 fn one_worker_is_a_drill(rt: HostRuntime) -> Result<(), Fail> {
     let mut kinds = [0; KINDS];
     for (text, probes) in TEXTS {
-        let (alone, drilled) = both(rt.alloc(), text, probes, 3_000)?;
-        assert!(rt; agree(&alone, &drilled), "of {text}");
-        add_kinds(alone.book.history(), &mut kinds);
+        let one = compare(rt.alloc(), text, probes, 3_000, &mut kinds)?;
+        assert!(rt; one.agree, "of {text}");
     }
     assert!(rt; kinds.iter().all(|count| *count > 0), "{kinds:?}");
-    // The sums up to 400: an undo at 1, 10, 19 and so on up to 397, and a release behind 25, 50 and so on up to 400.
-    let (alone, drilled) = both(rt.alloc(), SUMS, &[400], 100_000)?;
+    Ok(())
+}
+
+// The sums up to 400: an undo at 1, 10, 19 and so on up to 397, and a release behind 25, 50 and so on up to 400.
+#[test]
+fn one_worker_sums_up_in_a_drill(rt: HostRuntime) -> Result<(), Fail> {
     let mut kinds = [0; KINDS];
-    add_kinds(drilled.book.history(), &mut kinds);
-    assert!(rt; agree(&alone, &drilled));
-    assert_eq!(rt;
-        (drilled.book.printed().len(), kinds[14], kinds[15]),
-        (400, 45, 16)
-    );
-    assert!(rt; drilled.book.history().len() > 5_000);
+    let sums = compare(rt.alloc(), SUMS, &[400], 100_000, &mut kinds)?;
+    assert!(rt; sums.agree);
+    assert_eq!(rt; (sums.printed, kinds[14], kinds[15]), (400, 45, 16));
+    assert!(rt; sums.events > 5_000);
     Ok(())
 }
