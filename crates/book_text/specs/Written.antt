@@ -36,4 +36,4 @@ fault_lines b (suc n) = fault_lines b n ++ fault_line_of b n
 abbrev pub count_text : BookView → List ℕ
 count_text b =
     counts (in_state Ended b - faulted_in b.job.program b.threads b.next.thread)
-      (faulted_in b.job.program b.threads b.next.thread) (in_state Parked b + in_state Ready b + in_state Leased b)
+    (faulted_in b.job.program b.threads b.next.thread) (in_state Parked b + in_state Ready b + in_state Leased b)
