@@ -16,6 +16,7 @@ fn idle(): unit { () }
 fn deep(n: int): bool { if n == 0 { true } else { !!!!!!!!!!!!!!!!!!!!!!!!!!!!!!!!!!!!!deep(n - 1) } }
 fn inner(): int { probe() }
 fn outer(): int { stable inner() + 1 }
+fn later(): unit { spawn sum(1, 2) }
 fn receiver(c: chan[int]): unit { recv(c) }
 fn sender(d: chan[int]): unit { send(d, 7) }
 ";

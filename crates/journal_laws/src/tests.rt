@@ -214,6 +214,12 @@ fn a_pin_in_a_partner(rt: HostRuntime) -> Result<(), Fail> {
 }
 
 #[test]
+fn a_thread_sends_to_a_section(rt: HostRuntime) -> Result<(), Fail> {
+    let lines = ["1 newchan 1 1; 2 spawn 1 2; 3 enter 1; 4 comm 2 1 1; 5 local 2 1"];
+    expect_reached(&rt, &lines, 3, &[3, 4, 5])
+}
+
+#[test]
 fn a_channel_passes_nothing_on(rt: HostRuntime) -> Result<(), Fail> {
     // Threads 3 and 4 meet on the channel on which the section sent.
     let lines = [

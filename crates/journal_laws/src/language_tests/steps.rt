@@ -13,6 +13,7 @@ use std::test::Fail;
 const PURE: &str = "\
 7; idle() -> idle()
 7; 8; idle() -> 8; idle()
+7; let x = 8; x -> let x = 8; x
 let x = 7; !x -> !7
 let x = 7; 8; x -> 8; 7
 if true { idle() } else { 1 } -> idle()
@@ -78,6 +79,7 @@ true != 1 -> true
 false != true -> true
 \"a\" == \"a\" -> true
 \"a\" != \"b\" -> true
+\"a\" == 0 -> false
 c == c -> true
 c == d -> false
 c == r -> false
@@ -123,6 +125,14 @@ print(7) | 20 print 1 | ()
 probe() | 20 probe 1 -5 | -5
 attempt() | 20 attempt 1 3 | 3
 stabilize() | 20 refuse 1 | fault NoSection";
+
+// A form, the labels of steps, another thread that they touch, and where it is after them.
+const OTHERS: &str = "\
+spawn sum(1, 2) | 20 spawn 1 8 | 8 | 1 + 2
+stable later() | 20 enter 1; 21 spawn 1 5 | 5 | 1 + 2
+send(c, 5) | 20 comm 1 2 1 | 2 | 5
+recv(d) | 20 comm 3 1 2 | 3 | ()
+pick(c, d) | 20 comm 3 1 2 | 3 | ()";
 
 // A form, and what is next for its thread.
 const LOOKS: &str = "\
@@ -228,6 +238,22 @@ fn steps_and_acts(rt: HostRuntime) -> Result<(), Fail> {
         let (form, rest) = row.split_once(" | ").ok_or("labels")?;
         let (labels, wanted) = rest.split_once(" | ").ok_or("an end")?;
         expect_both(&rt, rt.alloc(), form, labels, wanted)?;
+    }
+    Ok(())
+}
+
+#[test]
+fn where_others_stand(rt: HostRuntime) -> Result<(), Fail> {
+    let alloc = rt.alloc();
+    for row in OTHERS.lines() {
+        let (form, rest) = row.split_once(" | ").ok_or("labels")?;
+        let (labels, rest) = rest.split_once(" | ").ok_or("a thread")?;
+        let (thread, wanted) = rest.split_once(" | ").ok_or("an end")?;
+        let mut state = at(alloc, form)?;
+        play_all(&rt, alloc, &mut state, &[labels])?;
+        let found = place(alloc, &state, thread.parse().unwrap_or(0))?;
+        let wanted = place(alloc, &at(alloc, wanted)?, 1)?;
+        assert_eq!(rt; found.as_str(), wanted.as_str(), "{form}");
     }
     Ok(())
 }
