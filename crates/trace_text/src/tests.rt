@@ -211,7 +211,14 @@ end 01/ -> BadNumber(13)\n\
 + 1 ww1 print 1/end 1/ -> BadNumber(13)\n\
 + 1 w01 print 1/end 1/ -> BadNumber(13)\n\
 + 1 w1 local 1 01/end 1/ -> BadNumber(13)\n\
++ 1 w1 spawn 1 0/end 1/ -> BadNumber(13)\n\
++ 1 w1 newchan 1 4000000001/end 1/ -> BadNumber(13)\n\
++ 1 w1 comm 4000000001 2 1/end 1/ -> BadNumber(13)\n\
++ 1 w1 comm 1 0 1/end 1/ -> BadNumber(13)\n\
 + 2 w1 comm 1 2 4000000001/end 1/ -> BadNumber(13)\n\
++ 1 w1 newref 1 0/end 1/ -> BadNumber(13)\n\
++ 1 w1 get 1 4000000001/end 1/ -> BadNumber(13)\n\
++ 1 w1 set 1 0/end 1/ -> BadNumber(13)\n\
 + 1 w1 probe 1 -01/end 1/ -> BadNumber(13)\n\
 + 1 w1 probe 1 00/end 1/ -> BadNumber(13)\n\
 + 1 w1 print ²/end 1/ -> BadNumber(13)\n\
