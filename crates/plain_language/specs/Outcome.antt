@@ -19,7 +19,7 @@ pub data Outcome : Type 0 where
   fails : Fault → Outcome
   acts : Act Expr → Outcome
 
--- so many values, and operands of these kinds; of any other kind is WrongKind
+-- so many values, of these kinds; another number of values, or one of another kind, is WrongKind
 abbrev pub with_one : List Datum → (Datum → Outcome) → Outcome
 with_one (v ∷ []) k = k v
 with_one _ k = fails WrongKind

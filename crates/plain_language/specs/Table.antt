@@ -59,7 +59,7 @@ module _ {E : Type 0} (g : Language E) where
   local_by zero e = None
   local_by (suc n) e = option_map to (pure_steps (suc n) e)
 
-  -- the new thread stands at the body
+  -- the new thread stands at the body, whose forms are at most 200 deep and so within `cap`
   abbrev pub spawn_by : E → Look E → Option (Effect E)
   spawn_by e (act (spawns body)) = Some (record { mine = g.answered e unit; other = body; value = unit; printed = [] })
   spawn_by e _ = None

@@ -1,4 +1,4 @@
--- How often a thread was put back.
+-- How often steps were taken back in which a thread acts.
 use Rattle.std.specs.Prelude.{ℕ, suc, Bool, false, cond, ◌&&◌, ◌||◌, List, [], ◌∷◌}
 use Rattle.stab_journal.specs.declared.event.Numbered.{Numbered}
 use Rattle.stab_journal.specs.declared.event.What.{What}
