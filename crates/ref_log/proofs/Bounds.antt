@@ -1,5 +1,5 @@
 -- Writes below a number.
-use Rattle.std.proofs.Common.{◌≡◌, ℕ, ◌<◌, Bool, true, false, not, cond, ◌||◌, nat_eq, List, [], ◌∷◌, Option, Some, None, option_map, IsTrue, IsFalse, refl, sym, ap, ◌∙◌, arith, eq-eqb, ne_eqb}
+use Rattle.std.proofs.Common.{◌≡◌, ℕ, ◌<◌, true, false, not, cond, ◌||◌, nat_eq, List, [], ◌∷◌, Some, IsFalse, refl, sym, ap, ◌∙◌, arith, eq-eqb, ne_eqb}
 use Rattle.std.specs.Option.{option_map_or}
 use Rattle.std.specs.List.{All, AllByRecursion, last_or}
 use Rattle.std.proofs.lemmas.Bool.{or_right}

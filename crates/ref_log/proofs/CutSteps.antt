@@ -8,7 +8,7 @@ use Rattle.std.proofs.lemmas.List.Folds.{list_any-append}
 use Rattle.ref_log.specs.declared.places.Recent.{Recent}
 use Rattle.ref_log.specs.declared.places.Reference.{Reference}
 use Rattle.ref_log.specs.Log.{Write, has_below, kept, IsRising}
-use Rattle.ref_log.specs.Layout.{is_of, write_of, of_reference, settled_writes, settled_of, settled_at, head_at, held, IsLinked}
+use Rattle.ref_log.specs.Layout.{is_live, write_of, of_reference, settled_writes, settled_of, settled_at, head_at, held, IsLinked}
 use Rattle.ref_log.specs.Moved.{IsCutSoFar}
 use Rattle.ref_log.proofs.Recent.{of_reference-append, of_reference-push}
 use Rattle.ref_log.proofs.Links.{linked-none}
@@ -57,7 +57,7 @@ all-kept P q [] all = tt
 all-kept P q (w ∷ ws) all =
     elim (has_below q ws) as (λ b. AllByRecursion P (cond b (kept q ws) (w ∷ ws))) [ true ↦ all-kept P q ws all.1 | false ↦ all ]
 
-all-back : (P : Write → Type 0) (ws vs : List Write) → AllByRecursion P (ws ++ vs) → AllByRecursion P vs
+pub all-back : (P : Write → Type 0) (ws vs : List Write) → AllByRecursion P (ws ++ vs) → AllByRecursion P vs
 all-back P [] vs all = all
 all-back P (w ∷ ws) vs all = all-back P ws vs all.1
 
@@ -138,15 +138,15 @@ module _ (q : ℕ) (xs₀ : List Reference) (es₀ : List Recent) (i stay : ℕ)
   unfolding before
   unfold_before s = refl
 
-  one_more : (s : ℕ) → settled_at xs₀ s ++ of_reference s (take (i + 1) es₀) ≡ before s ++ cond (is_of s e) (write_of e ∷ []) []
+  one_more : (s : ℕ) → settled_at xs₀ s ++ of_reference s (take (i + 1) es₀) ≡ before s ++ cond (is_live s e) (write_of e ∷ []) []
   one_more s =
       ap (λ n. settled_at xs₀ s ++ of_reference s (take n es₀)) (add-one i)
       ∙ ap (λ ys. settled_at xs₀ s ++ of_reference s ys) (take-suc es₀ i e within)
-      ∙ ap (λ ws. settled_at xs₀ s ++ ws) (of_reference-push s (take i es₀) (slice_index_or es₀ i e) ∙ ap (λ (x : Recent). of_reference s (take i es₀) ++ cond (is_of s x) (write_of x ∷ []) []) here)
-      ∙ sym (append_assoc (settled_at xs₀ s) (of_reference s (take i es₀)) (cond (is_of s e) (write_of e ∷ []) []))
-      ∙ ap (λ ws. ws ++ cond (is_of s e) (write_of e ∷ []) []) (sym (unfold_before s))
+      ∙ ap (λ ws. settled_at xs₀ s ++ ws) (of_reference-push s (take i es₀) (slice_index_or es₀ i e) ∙ ap (λ (x : Recent). of_reference s (take i es₀) ++ cond (is_live s x) (write_of x ∷ []) []) here)
+      ∙ sym (append_assoc (settled_at xs₀ s) (of_reference s (take i es₀)) (cond (is_live s e) (write_of e ∷ []) []))
+      ∙ ap (λ ws. ws ++ cond (is_live s e) (write_of e ∷ []) []) (sym (unfold_before s))
 
-  whole : (s : ℕ) → settled_at xs₀ s ++ of_reference s es₀ ≡ before s ++ (cond (is_of s e) (write_of e ∷ []) [] ++ of_reference s (drop (suc i) es₀))
+  whole : (s : ℕ) → settled_at xs₀ s ++ of_reference s es₀ ≡ before s ++ (cond (is_live s e) (write_of e ∷ []) [] ++ of_reference s (drop (suc i) es₀))
   whole s =
       ap (λ ys. settled_at xs₀ s ++ of_reference s ys) (sym (take-append-drop i es₀))
       ∙ ap (λ ys. settled_at xs₀ s ++ of_reference s (take i es₀ ++ ys)) (drop-cons es₀ i e within ∙ ap (λ (x : Recent). x ∷ drop (suc i) es₀) here)
@@ -155,34 +155,39 @@ module _ (q : ℕ) (xs₀ : List Reference) (es₀ : List Recent) (i stay : ℕ)
       ∙ ap (λ ws. ws ++ of_reference s (e ∷ drop (suc i) es₀)) (sym (unfold_before s))
 
   -- all writes before one that rises are below it
-  below : ((s : ℕ) → IsRising (settled_at xs₀ s ++ of_reference s es₀)) → (s : ℕ) → is_of s e ≡ true → AllByRecursion (λ w. w.number < e.number.0) (before s)
+  below : ((s : ℕ) → IsRising (settled_at xs₀ s ++ of_reference s es₀)) → (s : ℕ) → is_live s e ≡ true → AllByRecursion (λ w. w.number < e.number.0) (before s)
   below rising s there = rising-below (before s) (write_of e) (of_reference s (drop (suc i) es₀))
       (subst IsRising (whole s ∙ ap (λ b. before s ++ (cond b (write_of e ∷ []) [] ++ of_reference s (drop (suc i) es₀))) there) (rising s))
 
-  -- of a reference whose write goes below q nothing stays yet
-  none_stays : ((s : ℕ) → IsRising (settled_at xs₀ s ++ of_reference s es₀)) → (s : ℕ) → is_of s e ≡ true → e.number.0 < q → of_reference s (take stay es) ≡ []
-  none_stays rising s there low =
-      none-between e.number.0 q (of_reference s (take stay es)) low
+  -- and so are those that stay
+  pub stay-below : ((s : ℕ) → IsRising (settled_at xs₀ s ++ of_reference s es₀)) → (s : ℕ) → is_live s e ≡ true → AllByRecursion (λ w. w.number < e.number.0) (of_reference s (take stay (slice_set es i h)))
+  stay-below rising s there =
+      subst (λ ps. AllByRecursion (λ w. w.number < e.number.0) (of_reference s ps)) (sym prefix)
       (all-back (λ w. w.number < e.number.0) (settled_at xs s) (of_reference s (take stay es))
       (subst (AllByRecursion (λ w. w.number < e.number.0)) (ap (kept q) (unfold_before s) ∙ sym (so.writes s)) (all-kept (λ w. w.number < e.number.0) q (before s) (below rising s there))))
-      (so.above s)
 
-  module _ (rising : (s : ℕ) → IsRising (settled_at xs₀ s ++ of_reference s es₀)) (next : ℕ) (ys : List Reference) (fs : List Recent) (more : (stay ≤ next) × (next ≤ stay + 1)) (recent : (s : ℕ) → of_reference s (take next fs) ≡ cond (is_of s e && not (nat_lt e.number.0 q)) (of_reference s (take stay (slice_set es i h)) ++ write_of e ∷ []) (of_reference s (take stay (slice_set es i h)))) (settled : (s : ℕ) → settled_at ys s ≡ cond (is_of s e && nat_lt e.number.0 q) (write_of e ∷ []) (settled_at xs s)) (linked : IsLinked ys (take next fs)) (behind : drop (stay + 1) fs ≡ drop (stay + 1) (slice_set es i h)) (long : length fs ≡ length es) (places : length ys ≡ length xs) where
+  -- of a reference whose write goes below q nothing stays yet
+  none_stays : ((s : ℕ) → IsRising (settled_at xs₀ s ++ of_reference s es₀)) → (s : ℕ) → is_live s e ≡ true → e.number.0 < q → of_reference s (take stay es) ≡ []
+  none_stays rising s there low =
+      none-between e.number.0 q (of_reference s (take stay es)) low
+      (subst (λ ps. AllByRecursion (λ w. w.number < e.number.0) (of_reference s ps)) prefix (stay-below rising s there)) (so.above s)
+
+  module _ (rising : (s : ℕ) → IsRising (settled_at xs₀ s ++ of_reference s es₀)) (next : ℕ) (ys : List Reference) (fs : List Recent) (more : (stay ≤ next) × (next ≤ stay + 1)) (recent : (s : ℕ) → of_reference s (take next fs) ≡ cond (is_live s e && not (nat_lt e.number.0 q)) (of_reference s (take stay (slice_set es i h)) ++ write_of e ∷ []) (of_reference s (take stay (slice_set es i h)))) (settled : (s : ℕ) → settled_at ys s ≡ cond (is_live s e && nat_lt e.number.0 q) (write_of e ∷ []) (settled_at xs s)) (linked : IsLinked ys (take next fs)) (behind : drop (stay + 1) fs ≡ drop (stay + 1) (slice_set es i h)) (long : length fs ≡ length es) (places : length ys ≡ length xs) where
     -- the three ways of an entry
-    recent_is : (s : ℕ) (b l : Bool) → is_of s e ≡ b → nat_lt e.number.0 q ≡ l → of_reference s (take next fs) ≡ cond (b && not l) (of_reference s (take stay es) ++ write_of e ∷ []) (of_reference s (take stay es))
+    recent_is : (s : ℕ) (b l : Bool) → is_live s e ≡ b → nat_lt e.number.0 q ≡ l → of_reference s (take next fs) ≡ cond (b && not l) (of_reference s (take stay es) ++ write_of e ∷ []) (of_reference s (take stay es))
     recent_is s b l there low =
         recent s
-        ∙ ap (λ ps. cond (is_of s e && not (nat_lt e.number.0 q)) (of_reference s ps ++ write_of e ∷ []) (of_reference s ps)) prefix
+        ∙ ap (λ ps. cond (is_live s e && not (nat_lt e.number.0 q)) (of_reference s ps ++ write_of e ∷ []) (of_reference s ps)) prefix
         ∙ ap (λ c. cond (c && not (nat_lt e.number.0 q)) (of_reference s (take stay es) ++ write_of e ∷ []) (of_reference s (take stay es))) there
         ∙ ap (λ c. cond (b && not c) (of_reference s (take stay es) ++ write_of e ∷ []) (of_reference s (take stay es))) low
 
-    settled_is : (s : ℕ) (b l : Bool) → is_of s e ≡ b → nat_lt e.number.0 q ≡ l → settled_at ys s ≡ cond (b && l) (write_of e ∷ []) (settled_at xs s)
+    settled_is : (s : ℕ) (b l : Bool) → is_live s e ≡ b → nat_lt e.number.0 q ≡ l → settled_at ys s ≡ cond (b && l) (write_of e ∷ []) (settled_at xs s)
     settled_is s b l there low =
         settled s
         ∙ ap (λ c. cond (c && nat_lt e.number.0 q) (write_of e ∷ []) (settled_at xs s)) there
         ∙ ap (λ c. cond (b && c) (write_of e ∷ []) (settled_at xs s)) low
 
-    writes_by : (s : ℕ) (b l : Bool) → is_of s e ≡ b → nat_lt e.number.0 q ≡ l → settled_at ys s ++ of_reference s (take next fs) ≡ kept q (before s ++ cond b (write_of e ∷ []) [])
+    writes_by : (s : ℕ) (b l : Bool) → is_live s e ≡ b → nat_lt e.number.0 q ≡ l → settled_at ys s ++ of_reference s (take next fs) ≡ kept q (before s ++ cond b (write_of e ∷ []) [])
     writes_by s false l there low =
         ap (λ ws. ws ++ of_reference s (take next fs)) (settled_is s false l there low)
         ∙ ap (λ ws. settled_at xs s ++ ws) (recent_is s false l there low)
@@ -199,12 +204,12 @@ module _ (q : ℕ) (xs₀ : List Reference) (es₀ : List Recent) (i stay : ℕ)
         ∙ ap (λ ws. ws ++ write_of e ∷ []) (so.writes s ∙ ap (kept q) (sym (unfold_before s)))
         ∙ sym (kept-high q (before s) (write_of e) (ge_is e.number.0 q low))
 
-    above_by : (s : ℕ) (b l : Bool) → is_of s e ≡ b → nat_lt e.number.0 q ≡ l → AllByRecursion (λ w. q ≤ w.number) (of_reference s (take next fs))
+    above_by : (s : ℕ) (b l : Bool) → is_live s e ≡ b → nat_lt e.number.0 q ≡ l → AllByRecursion (λ w. q ≤ w.number) (of_reference s (take next fs))
     above_by s false l there low = subst (AllByRecursion (λ w. q ≤ w.number)) (sym (recent_is s false l there low)) (so.above s)
     above_by s true true there low = subst (AllByRecursion (λ w. q ≤ w.number)) (sym (recent_is s true true there low)) (so.above s)
     above_by s true false there low = subst (AllByRecursion (λ w. q ≤ w.number)) (sym (recent_is s true false there low)) (all-push (λ w. q ≤ w.number) (of_reference s (take stay es)) (write_of e) (so.above s) (ge_is e.number.0 q low))
 
-    settled_by : (s : ℕ) (b l : Bool) → is_of s e ≡ b → nat_lt e.number.0 q ≡ l → AllByRecursion (λ w. w.number ≤ q) (settled_at ys s)
+    settled_by : (s : ℕ) (b l : Bool) → is_live s e ≡ b → nat_lt e.number.0 q ≡ l → AllByRecursion (λ w. w.number ≤ q) (settled_at ys s)
     settled_by s false l there low = subst (AllByRecursion (λ w. w.number ≤ q)) (sym (settled_is s false l there low)) (so.settled s)
     settled_by s true true there low = subst (AllByRecursion (λ w. w.number ≤ q)) (sym (settled_is s true true there low)) ((let less = lt_is e.number.0 q low in omega arith), tt)
     settled_by s true false there low = subst (AllByRecursion (λ w. w.number ≤ q)) (sym (settled_is s true false there low)) (so.settled s)
@@ -213,9 +218,9 @@ module _ (q : ℕ) (xs₀ : List Reference) (es₀ : List Recent) (i stay : ℕ)
     pub cut-more : IsCutSoFar q xs₀ es₀ (i + 1) next ys fs
     cut-more = record {
       few = let few = so.few in omega (arith, more.1);
-      writes = λ s. writes_by s (is_of s e) (nat_lt e.number.0 q) refl refl ∙ ap (kept q) (sym (one_more s));
-      above = λ s. above_by s (is_of s e) (nat_lt e.number.0 q) refl refl;
-      settled = λ s. settled_by s (is_of s e) (nat_lt e.number.0 q) refl refl;
+      writes = λ s. writes_by s (is_live s e) (nat_lt e.number.0 q) refl refl ∙ ap (kept q) (sym (one_more s));
+      above = λ s. above_by s (is_live s e) (nat_lt e.number.0 q) refl refl;
+      settled = λ s. settled_by s (is_live s e) (nat_lt e.number.0 q) refl refl;
       linked = linked;
       rest =
           (let few = so.few in drop_more (stay + 1) (i + 1) fs (slice_set es i h) behind (omega arith))

@@ -3,6 +3,7 @@ pub mod CutSteps
 pub mod Found
 pub mod LawLemmas
 pub mod Links
+pub mod Passed
 pub mod Recent
 pub mod References
 pub mod SoundLemmas

@@ -1,10 +1,10 @@
 -- Lists of recent writes: what each reference has of them, and the place of its last one.
-use Rattle.std.proofs.Common.{◌≡◌, ℕ, zero, suc, ◌+◌, ◌<◌, ◌≤◌, Bool, true, false, cond, nat_eq, List, [], ◌∷◌, ◌++◌, length, take, refl, sym, ap, ◌∙◌, arith, append_assoc, append-nil, add-one}
-use Rattle.std.specs.List.{slice_index_or, slice_set}
+use Rattle.std.proofs.Common.{◌≡◌, ℕ, zero, suc, ◌+◌, ◌<◌, ◌≤◌, Bool, true, false, cond, not, ◌&&◌, nat_eq, List, [], ◌∷◌, ◌++◌, length, take, refl, sym, ap, subst, ◌∙◌, arith, append_assoc, append-nil, add-one}
+use Rattle.std.specs.List.{slice_index_or, slice_set, AllByRecursion}
 use Rattle.std.proofs.lemmas.Bool.Decides.{nat_tests}
 use Rattle.ref_log.specs.declared.places.Recent.{Recent}
 use Rattle.ref_log.specs.Log.{Write}
-use Rattle.ref_log.specs.Layout.{is_of, write_of, of_reference, place_with, last_place}
+use Rattle.ref_log.specs.Layout.{is_of, is_live, write_of, of_reference, place_with, last_place}
 
 place_more : (b c : Bool) (n l : ℕ) → place_with c (cond b (n + 1) l) ≡ cond b (suc n + 1) (place_with c l)
 place_more true c n l = ap (place_with c) (add-one n) ∙ sym (add-one (suc n))
@@ -25,31 +25,31 @@ last_place-within r (e ∷ es) = place_small (is_of r e) (length es) (last_place
 
 pub of_reference-append : (r : ℕ) (es fs : List Recent) → of_reference r (es ++ fs) ≡ of_reference r es ++ of_reference r fs
 of_reference-append r [] fs = refl
-of_reference-append r (e ∷ es) fs = ap (λ ws. cond (is_of r e) (write_of e ∷ []) [] ++ ws) (of_reference-append r es fs) ∙ sym (append_assoc (cond (is_of r e) (write_of e ∷ []) []) (of_reference r es) (of_reference r fs))
+of_reference-append r (e ∷ es) fs = ap (λ ws. cond (is_live r e) (write_of e ∷ []) [] ++ ws) (of_reference-append r es fs) ∙ sym (append_assoc (cond (is_live r e) (write_of e ∷ []) []) (of_reference r es) (of_reference r fs))
 
-pub of_reference-push : (r : ℕ) (es : List Recent) (e : Recent) → of_reference r (es ++ e ∷ []) ≡ of_reference r es ++ cond (is_of r e) (write_of e ∷ []) []
-of_reference-push r es e = of_reference-append r es (e ∷ []) ∙ ap (λ ws. of_reference r es ++ ws) (append-nil (cond (is_of r e) (write_of e ∷ []) []))
+pub of_reference-push : (r : ℕ) (es : List Recent) (e : Recent) → of_reference r (es ++ e ∷ []) ≡ of_reference r es ++ cond (is_live r e) (write_of e ∷ []) []
+of_reference-push r es e = of_reference-append r es (e ∷ []) ∙ ap (λ ws. of_reference r es ++ ws) (append-nil (cond (is_live r e) (write_of e ∷ []) []))
 
 -- the last recent write of the reference r stands at i
 pub record IsLast (r : ℕ) (es : List Recent) (i : ℕ) : Type 0 where
   pub within : i < length es
   pub here : (d : Recent) → is_of r (slice_index_or es i d) ≡ true
-  pub writes : (d : Recent) → of_reference r es ≡ of_reference r (take i es) ++ write_of (slice_index_or es i d) ∷ []
+  pub writes : (d : Recent) → of_reference r es ≡ of_reference r (take i es) ++ cond (is_live r (slice_index_or es i d)) (write_of (slice_index_or es i d) ∷ []) []
 
-none_by : (b : Bool) (l : ℕ) (w : Write) (ws : List Write) → place_with b l ≡ 0 → (l ≡ 0 → ws ≡ []) → cond b (w ∷ []) [] ++ ws ≡ []
-none_by true zero w ws e none = cc
-none_by false zero w ws e none = none refl
-none_by b (suc l) w ws e none = cc
+none_by : (b live : Bool) (l : ℕ) (w : Write) (ws : List Write) → place_with b l ≡ 0 → (l ≡ 0 → ws ≡ []) → cond (b && live) (w ∷ []) [] ++ ws ≡ []
+none_by true live zero w ws e none = cc
+none_by false live zero w ws e none = none refl
+none_by b live (suc l) w ws e none = cc
 
 pub none_there : (r : ℕ) (es : List Recent) → last_place r es ≡ 0 → of_reference r es ≡ []
 none_there r [] e = refl
-none_there r (x ∷ es) e = none_by (is_of r x) (last_place r es) (write_of x) (of_reference r es) e (none_there r es)
+none_there r (x ∷ es) e = none_by (is_of r x) (not x.struck) (last_place r es) (write_of x) (of_reference r es) e (none_there r es)
 
 last_by : (r : ℕ) (e : Recent) (es : List Recent) (i l : ℕ) (b : Bool) → is_of r e ≡ b → last_place r es ≡ l → place_with b l ≡ suc i → ((j : ℕ) → last_place r es ≡ suc j → IsLast r es j) → IsLast r (e ∷ es) i
 last_by r e es zero zero true here place is later = record {
   within = omega arith;
   here = λ d. here;
-  writes = λ d. ap (λ c. cond c (write_of e ∷ []) [] ++ of_reference r es) here ∙ ap (λ ws. write_of e ∷ ws) (none_there r es place);
+  writes = λ d. ap (λ ws. cond (is_live r e) (write_of e ∷ []) [] ++ ws) (none_there r es place) ∙ append-nil (cond (is_live r e) (write_of e ∷ []) []);
 }
 last_by r e es (suc i) zero true here place is later = cc
 last_by r e es i zero false here place is later = cc
@@ -60,8 +60,8 @@ last_by r e es (suc i) (suc l) b here place is later =
       within = let inside = last.within in omega arith;
       here = last.here;
       writes = λ d.
-          ap (λ ws. cond (is_of r e) (write_of e ∷ []) [] ++ ws) (last.writes d)
-          ∙ sym (append_assoc (cond (is_of r e) (write_of e ∷ []) []) (of_reference r (take i es)) (write_of (slice_index_or es i d) ∷ []));
+          ap (λ ws. cond (is_live r e) (write_of e ∷ []) [] ++ ws) (last.writes d)
+          ∙ sym (append_assoc (cond (is_live r e) (write_of e ∷ []) []) (of_reference r (take i es)) (cond (is_live r (slice_index_or es i d)) (write_of (slice_index_or es i d) ∷ []) []));
     }
 
 pub last_there : (r : ℕ) (es : List Recent) (i : ℕ) → last_place r es ≡ suc i → IsLast r es i
@@ -83,6 +83,16 @@ not_behind r [] i d within here = absurd (omega arith)
 not_behind r (e ∷ es) zero d within here = some_there (is_of r e) (last_place r es) here
 not_behind r (e ∷ es) (suc i) d within here = more_there (is_of r e) (last_place r es) i (not_behind r es i d (omega arith) here)
 
+pub all_at : (P : Write → Type 0) (r : ℕ) (es : List Recent) (k : ℕ) (d : Recent) → k < length es → is_live r (slice_index_or es k d) ≡ true → AllByRecursion P (of_reference r es) → P (write_of (slice_index_or es k d))
+all_at P r [] k d within here all = absurd (omega arith)
+all_at P r (e ∷ es) zero d within here all =
+    let first : AllByRecursion P (write_of e ∷ of_reference r es) = subst (λ b. AllByRecursion P (cond b (write_of e ∷ []) [] ++ of_reference r es)) here all in first.0
+all_at P r (e ∷ es) (suc k) d within here all =
+    (elim (is_live r e) as (λ b. AllByRecursion P (cond b (write_of e ∷ []) [] ++ of_reference r es) → P (write_of (slice_index_or es k d))) [
+      | true ↦ λ a. all_at P r es k d (omega arith) here a.1
+      | false ↦ λ a. all_at P r es k d (omega arith) here a
+    ]) all
+
 zero_only : (n : ℕ) → n ≤ 0 → n ≡ 0
 zero_only n h = omega arith
 
@@ -101,13 +111,13 @@ pub writes-take : (r : ℕ) (es : List Recent) (n : ℕ) → last_place r es ≤
 writes-take r [] zero h = refl
 writes-take r [] (suc n) h = refl
 writes-take r (e ∷ es) zero h = sym (none_there r (e ∷ es) (zero_only _ h))
-writes-take r (e ∷ es) (suc n) h = ap (λ ws. cond (is_of r e) (write_of e ∷ []) [] ++ ws) (writes-take r es n (less_by (is_of r e) (last_place r es) n h))
+writes-take r (e ∷ es) (suc n) h = ap (λ ws. cond (is_live r e) (write_of e ∷ []) [] ++ ws) (writes-take r es n (less_by (is_of r e) (last_place r es) n h))
 
 -- another entry in its place
-pub same-writes : (s : ℕ) (es : List Recent) (k : ℕ) (h : Recent) → cond (is_of s h) (write_of h ∷ []) [] ≡ (let e = slice_index_or es k h in cond (is_of s e) (write_of e ∷ []) []) → of_reference s (slice_set es k h) ≡ of_reference s es
+pub same-writes : (s : ℕ) (es : List Recent) (k : ℕ) (h : Recent) → cond (is_live s h) (write_of h ∷ []) [] ≡ (let e = slice_index_or es k h in cond (is_live s e) (write_of e ∷ []) []) → of_reference s (slice_set es k h) ≡ of_reference s es
 same-writes s [] k h same = refl
 same-writes s (e ∷ es) zero h same = ap (λ ws. ws ++ of_reference s es) same
-same-writes s (e ∷ es) (suc k) h same = ap (λ ws. cond (is_of s e) (write_of e ∷ []) [] ++ ws) (same-writes s es k h same)
+same-writes s (e ∷ es) (suc k) h same = ap (λ ws. cond (is_live s e) (write_of e ∷ []) [] ++ ws) (same-writes s es k h same)
 
 pub same-place : (s : ℕ) (es : List Recent) (n k : ℕ) (h : Recent) → is_of s h ≡ is_of s (slice_index_or es k h) → last_place s (take n (slice_set es k h)) ≡ last_place s (take n es)
 same-place s [] n k h same = refl

@@ -1,6 +1,6 @@
 -- What the places of references keep, and what a write that joins changes.
-use Rattle.std.proofs.Common.{◌≡◌, ℕ, zero, suc, ◌+◌, ◌<◌, ◌≤◌, Bool, true, false, cond, not, ◌&&◌, nat_eq, nat_lt, List, [], ◌∷◌, ◌++◌, length, take, drop, Option, Some, None, slice_get, refl, sym, ap, ◌∙◌, arith, add-one, drop-cons}
-use Rattle.std.specs.List.{slice_index_or, slice_set, last_or}
+use Rattle.std.proofs.Common.{◌≡◌, ℕ, zero, suc, ◌+◌, ◌<◌, ◌≤◌, Bool, true, false, cond, not, ◌&&◌, nat_eq, nat_lt, List, [], ◌∷◌, ◌++◌, length, take, drop, Option, Some, None, slice_get, refl, sym, ap, subst, ◌∙◌, arith, add-one, drop-cons}
+use Rattle.std.specs.List.{slice_index_or, slice_set, last_or, AllByRecursion}
 use Rattle.std.proofs.Math.Seq.{take-suc-set}
 use Rattle.std.proofs.lemmas.Bool.Decides.{nat_tests}
 use Rattle.std.proofs.lemmas.Bool.{eqb-true}
@@ -10,9 +10,9 @@ use Rattle.ref_log.specs.declared.places.Recent.{Recent}
 use Rattle.ref_log.specs.declared.places.Reference.{Reference}
 use Rattle.ref_log.specs.Log.{Write, last_of}
 use Rattle.ref_log.specs.Calls.{written}
-use Rattle.ref_log.specs.Layout.{is_of, write_of, of_reference, place_with, last_place, settled_writes, settled_of, settled_at, head_of, head_at, held, IsLinked}
+use Rattle.ref_log.specs.Layout.{is_of, is_live, write_of, of_reference, place_with, last_place, settled_writes, settled_of, settled_at, head_of, head_at, held, IsLinked}
 use Rattle.ref_log.proofs.Recent.{of_reference-push}
-use Rattle.ref_log.proofs.Links.{at-set, linked-push}
+use Rattle.ref_log.proofs.Links.{at-set, linked-push, linked-same}
 use Rattle.ref_log.proofs.Views.{written-held}
 
 pub by_cond : {A B : Type 0} (f : A → B) (b : Bool) (x y : A) → f (cond b x y) ≡ cond b (f x) (f y)
@@ -49,16 +49,24 @@ new_by a n r s same some = grind (arith, nat_tests)
 pub is_of-new : (r s : ℕ) (e : Recent) → e.reference.0 ≡ r → 1 ≤ e.number.0 → is_of s e ≡ nat_eq r s
 is_of-new r s e same some = new_by e.reference.0 e.number.0 r s same some
 
--- a write joins the recent ones, and its reference leads to it
-pub linked-append : (xs : List Reference) (es : List Recent) (r : ℕ) (y : Reference) (e : Recent) → IsLinked xs es → r < length xs → e.reference.0 ≡ r → 1 ≤ e.number.0 → e.before ≡ head_at xs r → y.head ≡ length es + 1 → IsLinked (slice_set xs r y) (es ++ e ∷ [])
-linked-append xs es r y e linked within same some before head =
-    linked-push xs (slice_set xs r y) es e linked (before ∙ linked.heads r ∙ ap (λ s. last_place s es) (sym same)) (λ s.
-    head-set xs r y s within ∙ ap (λ b. cond b y.head (head_at xs s)) (sym (is_of-new r s e same some)) ∙ ap (λ n. cond (is_of s e) n (head_at xs s)) head)
+and_true : (b c : Bool) → c ≡ false → (b && not c) ≡ b
+and_true true c live = ap not live
+and_true false c live = refl
 
-pub held-append : (xs ys : List Reference) (es : List Recent) (r : ℕ) (e : Recent) (s : ℕ) → settled_at ys s ≡ settled_at xs s → e.reference.0 ≡ r → 1 ≤ e.number.0 → held ys (es ++ e ∷ []) s ≡ cond (nat_eq r s) (written (held xs es s) e.number.0 e.value) (held xs es s)
-held-append xs ys es r e s settled same some =
+pub is_live-new : (r s : ℕ) (e : Recent) → e.reference.0 ≡ r → 1 ≤ e.number.0 → e.struck ≡ false → is_live s e ≡ nat_eq r s
+is_live-new r s e same some live = and_true (is_of s e) e.struck live ∙ is_of-new r s e same some
+
+-- a write joins the recent ones, and its reference leads to it
+pub linked-append : (xs : List Reference) (es : List Recent) (r : ℕ) (y : Reference) (e : Recent) → IsLinked xs es → r < length xs → e.reference.0 ≡ r → 1 ≤ e.number.0 → e.before ≡ head_at xs r → y.head ≡ length es + 1 → AllByRecursion (λ w. w.number < e.number.0) (of_reference r es) → e.struck ≡ false → IsLinked (slice_set xs r y) (es ++ e ∷ [])
+linked-append xs es r y e linked within same some before head above live =
+    linked-push xs (slice_set xs r y) es e linked (before ∙ linked.chained.heads r ∙ ap (λ s. last_place s es) (sym same)) (λ s.
+    head-set xs r y s within ∙ ap (λ b. cond b y.head (head_at xs s)) (sym (is_of-new r s e same some)) ∙ ap (λ n. cond (is_of s e) n (head_at xs s)) head)
+    (subst (λ s. AllByRecursion (λ w. w.number < e.number.0) (of_reference s es)) (sym same) above) live
+
+pub held-append : (xs ys : List Reference) (es : List Recent) (r : ℕ) (e : Recent) (s : ℕ) → settled_at ys s ≡ settled_at xs s → e.reference.0 ≡ r → 1 ≤ e.number.0 → e.struck ≡ false → held ys (es ++ e ∷ []) s ≡ cond (nat_eq r s) (written (held xs es s) e.number.0 e.value) (held xs es s)
+held-append xs ys es r e s settled same some live =
     ap (λ ws. ws ++ of_reference s (es ++ e ∷ [])) settled
-    ∙ ap (λ ws. settled_at xs s ++ ws) (of_reference-push s es e ∙ ap (λ b. of_reference s es ++ cond b (write_of e ∷ []) []) (is_of-new r s e same some))
+    ∙ ap (λ ws. settled_at xs s ++ ws) (of_reference-push s es e ∙ ap (λ b. of_reference s es ++ cond b (write_of e ∷ []) []) (is_live-new r s e same some live))
     ∙ written-held (nat_eq r s) (settled_at xs s) (of_reference s es) (write_of e)
 
 -- a write is put behind the first n
@@ -81,18 +89,18 @@ low_by true n q low = grind (arith, nat_tests)
 low_by false n q low = refl
 
 -- what a write that stays adds to those of each reference
-pub stays : (s q : ℕ) (es : List Recent) (e entry : Recent) → is_of s e ≡ is_of s entry → write_of e ≡ write_of entry → q ≤ entry.number.0 → of_reference s (es ++ e ∷ []) ≡ cond (is_of s entry && not (nat_lt entry.number.0 q)) (of_reference s es ++ write_of entry ∷ []) (of_reference s es)
+pub stays : (s q : ℕ) (es : List Recent) (e entry : Recent) → is_live s e ≡ is_live s entry → write_of e ≡ write_of entry → q ≤ entry.number.0 → of_reference s (es ++ e ∷ []) ≡ cond (is_live s entry && not (nat_lt entry.number.0 q)) (of_reference s es ++ write_of entry ∷ []) (of_reference s es)
 stays s q es e entry same write high =
     of_reference-push s es e
-    ∙ written-held (is_of s e) [] (of_reference s es) (write_of e)
-    ∙ ap (λ b. cond b (of_reference s es ++ write_of e ∷ []) (of_reference s es)) (same ∙ sym (high_by (is_of s entry) entry.number.0 q high))
-    ∙ ap (λ w. cond (is_of s entry && not (nat_lt entry.number.0 q)) (of_reference s es ++ w ∷ []) (of_reference s es)) write
+    ∙ written-held (is_live s e) [] (of_reference s es) (write_of e)
+    ∙ ap (λ b. cond b (of_reference s es ++ write_of e ∷ []) (of_reference s es)) (same ∙ sym (high_by (is_live s entry) entry.number.0 q high))
+    ∙ ap (λ w. cond (is_live s entry && not (nat_lt entry.number.0 q)) (of_reference s es ++ w ∷ []) (of_reference s es)) write
 
-pub stays-settled : (s q : ℕ) (entry : Recent) (ws vs : List Write) → q ≤ entry.number.0 → vs ≡ cond (is_of s entry && nat_lt entry.number.0 q) ws vs
-stays-settled s q entry ws vs high = ap (λ b. cond b ws vs) (sym (none_by (is_of s entry) entry.number.0 q high))
+pub stays-settled : (s q : ℕ) (entry : Recent) (ws vs : List Write) → q ≤ entry.number.0 → vs ≡ cond (is_live s entry && nat_lt entry.number.0 q) ws vs
+stays-settled s q entry ws vs high = ap (λ b. cond b ws vs) (sym (none_by (is_live s entry) entry.number.0 q high))
 
-pub goes-settled : (s q : ℕ) (entry : Recent) (r : ℕ) (ws vs : List Write) → entry.reference.0 ≡ r → 1 ≤ entry.number.0 → entry.number.0 < q → cond (nat_eq r s) ws vs ≡ cond (is_of s entry && nat_lt entry.number.0 q) ws vs
-goes-settled s q entry r ws vs same some low = ap (λ b. cond b ws vs) (sym (low_by (is_of s entry) entry.number.0 q low ∙ is_of-new r s entry same some))
+pub goes-settled : (s q : ℕ) (entry : Recent) (r : ℕ) (ws vs : List Write) → entry.reference.0 ≡ r → 1 ≤ entry.number.0 → entry.number.0 < q → entry.struck ≡ false → cond (nat_eq r s) ws vs ≡ cond (is_live s entry && nat_lt entry.number.0 q) ws vs
+goes-settled s q entry r ws vs same some low live = ap (λ b. cond b ws vs) (sym (low_by (is_live s entry) entry.number.0 q low ∙ is_live-new r s entry same some live))
 
 pub head-past : (xs : List Reference) (r s : ℕ) → length xs ≤ r → head_at xs s ≡ cond (nat_eq r s) 0 (head_at xs s)
 head-past xs r s past =
@@ -118,16 +126,12 @@ forget-more xs ys es i e within is forgot heads s none =
 
 -- another settled write alone
 pub linked-heads : (xs : List Reference) (es : List Recent) (r : ℕ) (x y : Reference) → IsLinked xs es → r < length xs → x ≡ slice_index_or xs r x → y.head ≡ x.head → IsLinked (slice_set xs r y) es
-linked-heads xs es r x y linked within is same = record {
-  heads = λ s.
-      head-set xs r y s within
-      ∙ (elim (nat_eq r s) as (λ b. nat_eq r s ≡ b → cond b y.head (head_at xs s) ≡ head_at xs s) [
-        | true ↦ λ here. same ∙ ap (λ (z : Reference). z.head) is ∙ sym (head-here xs r x within) ∙ ap (head_at xs) (eqb-true r s here)
-        | false ↦ λ _. refl
-      ] refl)
-      ∙ linked.heads s;
-  links = linked.links;
-}
+linked-heads xs es r x y linked within is same = linked-same xs (slice_set xs r y) es (λ s.
+    head-set xs r y s within
+    ∙ (elim (nat_eq r s) as (λ b. nat_eq r s ≡ b → cond b y.head (head_at xs s) ≡ head_at xs s) [
+      | true ↦ λ here. same ∙ ap (λ (z : Reference). z.head) is ∙ sym (head-here xs r x within) ∙ ap (head_at xs) (eqb-true r s here)
+      | false ↦ λ _. refl
+    ] refl)) linked
 
 last_end_or : (o : Option Write) (ws : List Write) (w : Write) → last_or o (ws ++ w ∷ []) ≡ Some w
 last_end_or o [] w = refl

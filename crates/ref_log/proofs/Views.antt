@@ -78,7 +78,7 @@ none_led o n head none = sym head ∙ ap head_of none
 pub writes-held : {Z : Type 0} (n : ℕ) (xs : List Reference) (recent : Vec Recent Z) (r : ℕ) → IsLinked xs recent.items → writes_of (log_of n xs recent) r ≡ held xs recent.items r
 writes-held n xs recent r linked =
     ap (λ o. unwrap_or o []) (get_is xs recent.items r)
-    ∙ some_is (slice_get xs r) (of_reference r recent.items) (λ none. none_there r recent.items (none_led (slice_get xs r) _ (linked.heads r) none))
+    ∙ some_is (slice_get xs r) (of_reference r recent.items) (λ none. none_there r recent.items (none_led (slice_get xs r) _ (linked.chained.heads r) none))
 
 never_empty : (ws : List Write) → if_any ws ≢ Some []
 never_empty [] e = cc
@@ -174,7 +174,7 @@ below_by n r h = grind arith
 -- a reference that has writes has a place
 pub there-held : (xs : List Reference) (es : List Recent) (r : ℕ) → IsLinked xs es → held xs es r ≢ [] → r < length xs
 there-held xs es r linked some = below_by (length xs) r (λ past. some
-    (ap (λ o. settled_of o ++ of_reference r es) (slice_get_past xs r past) ∙ none_there r es (sym (linked.heads r) ∙ ap head_of (slice_get_past xs r past))))
+    (ap (λ o. settled_of o ++ of_reference r es) (slice_get_past xs r past) ∙ none_there r es (sym (linked.chained.heads r) ∙ ap head_of (slice_get_past xs r past))))
 
 -- what has the same writes is kept as before
 pub kept-same : {Z : Type 0} (n : ℕ) (xs ys : List Reference) (recent new : Vec Recent Z) → IsKept n xs recent → IsLinked ys new.items → ((s : ℕ) → held ys new.items s ≡ held xs recent.items s) → ((s : ℕ) → settled_at ys s ≡ settled_at xs s) → length new.items ≤ 4294967295 → IsKept n ys new

@@ -1,5 +1,5 @@
 -- What callers see, from how it is kept: by the number of a reference its settled write and the place of its last recent one, and all recent writes in the order in which they came.
-use Rattle.std.specs.Prelude.{◌≡◌, ℕ, zero, suc, ◌-◌, ◌<◌, ◌≤◌, Bool, false, not, cond, ◌&&◌, List, [], ◌∷◌, ◌++◌, Option, Some, None, length, take, nat_eq, min, vec_len, vec_capacity, slice_get, Vec}
+use Rattle.std.specs.Prelude.{◌≡◌, ℕ, zero, suc, ◌-◌, ◌<◌, ◌≤◌, Bool, true, false, not, cond, ◌&&◌, List, [], ◌∷◌, ◌++◌, Option, Some, None, length, take, nat_eq, min, vec_len, vec_capacity, slice_get, Vec}
 use Rattle.std.specs.List.{AllByRecursion, slice_index_or}
 use Rattle.std.specs.Ordering.{nat_cmp}
 use Rattle.std.specs.FinMap as map
@@ -9,17 +9,21 @@ use Rattle.ref_log.specs.declared.places.Reference.{Reference}
 use Rattle.ref_log.specs.declared.places.Settled.{Settled}
 use Rattle.ref_log.specs.Log.{Write, Log, IsInOrder}
 
--- a recent write of the reference r, and no hole
+-- a recent write of the reference r, struck or not, and no hole
 abbrev pub is_of : ℕ → Recent → Bool
 is_of r e = nat_eq e.reference.0 r && not (nat_eq e.number.0 0)
+
+-- one that wasn't struck
+abbrev pub is_live : ℕ → Recent → Bool
+is_live r e = is_of r e && not e.struck
 
 abbrev pub write_of : Recent → Write
 write_of e = record { number = e.number.0; value = e.value }
 
--- the recent writes of the reference r
+-- the recent writes of the reference r that weren't struck
 abbrev pub of_reference : ℕ → List Recent → List Write
 of_reference r [] = []
-of_reference r (e ∷ es) = cond (is_of r e) (write_of e ∷ []) [] ++ of_reference r es
+of_reference r (e ∷ es) = cond (is_live r e) (write_of e ∷ []) [] ++ of_reference r es
 
 -- the place of the last of an entry and those behind it, where theirs is n
 abbrev pub place_with : Bool → ℕ → ℕ
@@ -55,10 +59,19 @@ head_at xs r = head_of (slice_get xs r)
 abbrev pub held : List Reference → List Recent → ℕ → List Write
 held xs es r = settled_at xs r ++ of_reference r es
 
--- each reference and each recent write keeps the place of the last recent write before it
-pub record IsLinked (xs : List Reference) (es : List Recent) : Type 0 where
+-- each reference and each recent write keeps the place of the last recent write before it, and those of a reference rise, the struck ones too
+pub record IsChained (xs : List Reference) (es : List Recent) : Type 0 where
   pub heads : (r : ℕ) → head_at xs r ≡ last_place r es
   pub links : (i : ℕ) (d : Recent) → i < length es → nat_eq (slice_index_or es i d).number.0 0 ≡ false → (slice_index_or es i d).before ≡ last_place (slice_index_or es i d).reference.0 (take i es)
+  pub rising : (r i j : ℕ) (d : Recent) → i < j → j < length es → is_of r (slice_index_or es i d) ≡ true → is_of r (slice_index_or es j d) ≡ true → (slice_index_or es i d).number.0 < (slice_index_or es j d).number.0
+
+-- the last one of the reference r wasn't struck
+abbrev pub IsLiveAtEnd : ℕ → List Recent → Type 0
+IsLiveAtEnd r es = (i : ℕ) (d : Recent) → last_place r es ≡ suc i → (slice_index_or es i d).struck ≡ false
+
+pub record IsLinked (xs : List Reference) (es : List Recent) : Type 0 where
+  pub chained : IsChained xs es
+  pub ends : (r : ℕ) → IsLiveAtEnd r es
 
 -- for how many more recent writes there is room: a place has 32 bits
 abbrev pub spare_in : {Z : Type 0} → Vec Recent Z → ℕ

@@ -1,10 +1,10 @@
 //! What a cut leaves of the writes.
-ghost use Rattle.std.specs.Prelude.{◌≡◌, ◌≢◌, ◌<◌, ◌≤◌, ◌+◌, ◌∷◌, ◌++◌, [], ℕ, false, length, take, drop, nat_eq, nat_lt, not, ◌&&◌, if◌then◌else◌};
+ghost use Rattle.std.specs.Prelude.{◌≡◌, ◌≢◌, ◌<◌, ◌≤◌, ◌+◌, ◌∷◌, ◌++◌, [], ℕ, true, false, length, take, drop, nat_eq, nat_lt, not, ◌&&◌, if◌then◌else◌};
 ghost use Rattle.std.specs.List.{AllByRecursion};
 ghost use Rattle.ref_log.specs.Log.{kept, IsRising};
-ghost use Rattle.ref_log.specs.Layout.{held, is_of, write_of, of_reference, settled_at, head_at, spare_in, IsLinked};
+ghost use Rattle.ref_log.specs.Layout.{held, is_live, write_of, of_reference, settled_at, head_at, spare_in, IsLinked};
 
-use crate::places::{Recent, Reference, Settled};
+use crate::places::{self, Recent, Reference, Settled};
 use stab_base::{RefId, Seq, Value};
 use std::mem;
 
@@ -40,6 +40,9 @@ fn hole() -> Recent
         value: Value::unit(),
         reference: RefId(0),
         before: 0,
+        far: 0,
+        rank: 0,
+        struck: false,
     }
 }
 
@@ -69,15 +72,16 @@ fn move_over(
     requires few { length recent.old ≤ 4294967295 }
     requires linked { IsLinked references.old (take stay recent.old) }
     requires there { nat_eq entry.number.0 0 ≡ false → entry.reference.0 < length references.old }
+    requires above { is_live entry.reference.0 entry ≡ true → AllByRecursion (λ w. w.number < entry.number.0) (of_reference entry.reference.0 (take stay recent.old)) }
     ensures stay { (stay ≤ result) × (result ≤ stay + 1) }
     ensures recent { (s : ℕ) → of_reference s (take result recent.new)
-        ≡ (if is_of s entry && not (nat_lt entry.number.0 q.0) then of_reference s (take stay recent.old) ++ write_of entry ∷ [] else of_reference s (take stay recent.old)) }
+        ≡ (if is_live s entry && not (nat_lt entry.number.0 q.0) then of_reference s (take stay recent.old) ++ write_of entry ∷ [] else of_reference s (take stay recent.old)) }
     ensures settled { (s : ℕ) → settled_at references.new s
-        ≡ (if is_of s entry && nat_lt entry.number.0 q.0 then write_of entry ∷ [] else settled_at references.old s) }
+        ≡ (if is_live s entry && nat_lt entry.number.0 q.0 then write_of entry ∷ [] else settled_at references.old s) }
     ensures linked { IsLinked references.new (take result recent.new) }
     ensures behind { drop (stay + 1) recent.new ≡ drop (stay + 1) recent.old }
 {
-    if entry.number.0 == 0 {
+    if entry.number.0 == 0 || entry.struck {
         return stay;
     }
     let reference = &mut references[entry.reference.0 as usize];
@@ -90,6 +94,12 @@ fn move_over(
     }
     let before = reference.head;
     reference.head = stay as u32 + 1;
-    recent[stay] = Recent { before, ..entry };
+    let (far, rank) = places::far_from(recent, before);
+    recent[stay] = Recent {
+        before,
+        far,
+        rank,
+        ..entry
+    };
     stay + 1
 }

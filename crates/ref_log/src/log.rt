@@ -12,9 +12,9 @@ use std::marker::Model;
 /// The writes of references, each under the number of its event: those above the last cut, and of
 /// each reference the last one below it.
 ///
-/// `make`, `write` and `read` take constant time, `strike` as long as the reference has recent writes
-/// from there on, and `cut` as long as there are recent writes. So a caller that strikes several strikes
-/// the last one first: each then takes constant time.
+/// `make`, `write` and `read` take constant time, and `cut` as long as there are recent writes. `strike`
+/// takes constant time at the reference's last write, counted over all calls, and at an earlier one a
+/// time that is logarithmic in those behind it.
 #[derive(Drop)]
 pub struct RefLog {
     last_cut: Seq,

@@ -1,8 +1,9 @@
 //! Where the writes stand: one of each reference that a cut settled, and all that are recent in one vector.
-ghost use Rattle.std.specs.Prelude.{◌≡◌, ◌<◌, ◌≤◌, ◌+◌, ◌-◌, ℕ, length, nat_eq, option_map, OnOk, OnErr, IsOk, if◌then◌else◌, vec_len};
+ghost use Rattle.std.specs.Prelude.{◌≡◌, ◌<◌, ◌≤◌, ◌+◌, ◌-◌, ℕ, length, nat_eq, option_map, OnOk, OnErr, IsOk, IfSome, if◌then◌else◌, vec_len};
+ghost use Rattle.std.specs.List.{AllByRecursion, slice_index_or};
 ghost use Rattle.ref_log.specs.Log.{last_of};
 ghost use Rattle.ref_log.specs.Calls.{written};
-ghost use Rattle.ref_log.specs.Layout.{held, settled_at, head_at, spare_in, IsLinked};
+ghost use Rattle.ref_log.specs.Layout.{held, of_reference, settled_at, head_at, spare_in, IsLinked};
 
 use stab_base::{NoMemory, RefId, Seq, Value};
 
@@ -13,7 +14,8 @@ pub struct Settled {
     pub value: Value,
 }
 
-/// A write since the last cut, or a hole where that was struck: its number is 0 then.
+/// A write since the last cut. One that was struck stays, without its value, as long as one behind it isn't
+/// struck. Then it is a hole: its number is 0.
 #[derive(Drop)]
 pub struct Recent {
     pub number: Seq,
@@ -21,6 +23,11 @@ pub struct Recent {
     pub reference: RefId,
     /// The place of the reference's recent write before this one, counted from 1, or 0.
     pub before: u32,
+    /// The place of one further back, or 0.
+    pub far: u32,
+    /// It is `2 ^ rank - 1` recent writes of the reference further back.
+    pub rank: u8,
+    pub struck: bool,
 }
 
 /// What the place of a reference's number has.
@@ -61,6 +68,7 @@ pub fn append(references: &mut Vec<Reference>, recent: &mut Vec<Recent>, r: RefI
     requires some { 1 ≤ q.0 }
     requires spare { 1 ≤ spare_in recent.old }
     requires linked { IsLinked references.old.items recent.old.items }
+    requires above { AllByRecursion (λ w. w.number < q.0) (of_reference r.0 recent.old.items) }
     ensures writes { (s : ℕ) → held references.new.items recent.new.items s
         ≡ (if nat_eq r.0 s then written (held references.old.items recent.old.items s) q.0 v else held references.old.items recent.old.items s) }
     ensures settled { (s : ℕ) → settled_at references.new.items s ≡ settled_at references.old.items s }
@@ -70,13 +78,40 @@ pub fn append(references: &mut Vec<Reference>, recent: &mut Vec<Recent>, r: RefI
     ensures few { length recent.new.items ≤ 4294967295 }
 {
     let reference = &mut references[r.0 as usize];
+    let before = reference.head;
+    let (far, rank) = far_from(recent, before);
     recent.push_reserved(Recent {
         number: q,
         value: v,
         reference: r,
-        before: reference.head,
+        before,
+        far,
+        rank,
+        struck: false,
     });
     reference.head = recent.len() as u32;
+}
+
+/// The place further back to which a write leads whose reference's last one stands at `before`, and how
+/// far that is. Two ways of one length that follow each other become one, so that any write is found
+/// from the last one in a number of steps that is logarithmic in those between.
+pub fn far_from(recent: &[Recent], before: u32) -> (u32, u8) {
+    if let Some(last) = entry_at(recent, before) {
+        if let Some(other) = entry_at(recent, last.far) {
+            if last.rank == other.rank {
+                return (other.far, last.rank.saturating_add(1));
+            }
+        }
+    }
+    (before, 1)
+}
+
+/// The entry at a place that is counted from 1.
+pub fn entry_at(recent: &[Recent], place: u32) -> Option<&Recent>
+    ensures { IfSome result (λ e. (1 ≤ place) × (place ≤ length recent.now) × (e.now ≡ slice_index_or recent.now (place - 1) e.now)) }
+{
+    let i = (place as usize).checked_sub(1)?;
+    recent.get(i)
 }
 
 /// The last write of a reference.

@@ -1,8 +1,10 @@
-use Rattle.std.proofs.Common.{◌≤◌, refl, sym, ap, subst, ◌∙◌}
+use Rattle.std.proofs.Common.{◌<◌, ◌≤◌, refl, sym, ap, subst, ◌∙◌}
 use Rattle.std.specs.List.{AllByRecursion}
+use Rattle.std.proofs.lemmas.List.Elements.{recursion_from_All}
 use Rattle.ref_log.specs.Log.{writes_of}
 use Rattle.ref_log.specs.Calls.{wrote, IsAfter}
-use Rattle.ref_log.specs.Layout.{log_of}
+use Rattle.ref_log.specs.Layout.{log_of, settled_at, of_reference}
+use Rattle.ref_log.proofs.CutSteps.{all-back}
 use Rattle.ref_log.proofs.Views.{writes-held, after-held, kept-after, there-held}
 use Rattle.ref_log.proofs.log.RefLog.write.Goals as goal
 
@@ -11,6 +13,13 @@ append-requires-clause-there c =
     let a = c.self.inside in
     there-held a.references.items a.recent.items c.args.r.0 c.self.invariant.linked (λ none.
     c.requires.allowed.0 (ap (λ l. writes_of l c.args.r.0) (sym c.self.view_is) ∙ writes-held a.last_cut.0 a.references.items a.recent c.args.r.0 c.self.invariant.linked ∙ none))
+
+pub append-requires-clause-above : goal.append-requires-clause-above
+append-requires-clause-above c =
+    let a = c.self.inside in
+    let seen = ap (λ l. writes_of l c.args.r.0) (sym c.self.view_is) ∙ writes-held a.last_cut.0 a.references.items a.recent c.args.r.0 c.self.invariant.linked in
+    all-back (λ w. w.number < c.args.q.0) (settled_at a.references.items c.args.r.0) (of_reference c.args.r.0 a.recent.items)
+    (subst (AllByRecursion (λ w. w.number < c.args.q.0)) seen (recursion_from_All (λ w. w.number < c.args.q.0) (writes_of c.args.self.now c.args.r.0) c.requires.allowed.1))
 
 pub invariant_of-self : goal.invariant_of-self
 invariant_of-self c =
