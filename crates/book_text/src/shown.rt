@@ -7,7 +7,8 @@ ghost use Rattle.plain_language.specs.Table.{fault as failed};
 ghost use Rattle.book_text.specs.Written.{IsRestText, IsShownText, count_text, fault_line_of, fault_lines};
 
 use commit_book::{Book, Counts};
-use stab_base::{Fault, NoMemory, Texts, ThreadId, Value};
+use print_log::Values;
+use stab_base::{Fault, NoMemory, Texts, ThreadId};
 use std::alloc::Global;
 
 /// What a run shows that ends with the book: each printed value, each thread that failed, and how many threads ended,
@@ -27,16 +28,15 @@ pub fn rest_text(alloc: Global, book: &Book) -> Result<Vec<u8>, NoMemory>
     ensures { IfOk result (λ text. IsRestText book.now text.items) }
 {
     let mut text = Vec::new(alloc);
-    let (_released, values) = book.printed().split_at(book.released() as usize);
-    put_values(book.job().program().texts(), values, &mut text)?;
+    put_values(book.job().program().texts(), book.unreleased(), &mut text)?;
     put_faults(alloc, book, &mut text)?;
     put_counts(alloc, book, &mut text)?;
     Ok(text)
 }
 
 // Each value on a line.
-fn put_values(texts: &Texts, values: &[Value], text: &mut Vec<u8>) -> Result<(), NoMemory>
-    ensures { OnOk result (text.new.items ≡ text.old.items ++ flat_map (λ v. line (printed texts.now v)) values.now) }
+fn put_values(texts: &Texts, values: Values<'_>, text: &mut Vec<u8>) -> Result<(), NoMemory>
+    ensures { OnOk result (text.new.items ≡ text.old.items ++ flat_map (λ v. line (printed texts.now v)) values.entry) }
 {
     for value in values {
         value.put_text(texts, text)?;

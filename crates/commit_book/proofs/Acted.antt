@@ -55,11 +55,12 @@ reserved old h is = record {
   references = refl;
   saved = refl;
   nodes = refl;
-  printed = refl;
+  finals = refl;
+  recent = refl;
   chan = refl;
   ref = refl;
   tallies = refl;
-  read = record { read = refl; floor = refl; own = λ t. refl; prints = refl; lost = refl };
+  read = record { read = refl; floor = refl; own = λ t. refl; lost = refl };
 }
 
 -- a thread by its number

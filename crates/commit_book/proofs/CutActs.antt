@@ -1,6 +1,7 @@
 -- A commit at a cut, from what its calls leave: what it does, and that the book shows it.
-use Rattle.std.proofs.Common.{◌≡◌, ℕ, ◌+◌, ◌<◌, true, false, cond, nat_eq, [], ◌∷◌, ◌++◌, length, Some, None, refl, sym, ap, subst, ◌∙◌, append-nil, length-append, arith}
+use Rattle.std.proofs.Common.{◌≡◌, ℕ, ◌≤◌, ◌+◌, ◌<◌, true, false, cond, nat_eq, [], ◌∷◌, ◌++◌, length, map as each, Some, None, refl, sym, ap, subst, ◌∙◌, length-append, arith}
 use Rattle.std.specs.Prelude.{count_by, filter, nat_le, nat_lt, if◌then◌else◌}
+use Rattle.std.specs.List.{AllByRecursion}
 use Rattle.std.specs.FinMap as map
 use Rattle.std.proofs.lemmas.Bool.{false≢true}
 use Rattle.linked_lists.specs.Lists.{without}
@@ -33,6 +34,7 @@ use Rattle.step_eval.specs.declared.act.Act.TheVariants as own
 use Rattle.step_eval.specs.ControlView.{ControlView, expr_of}
 use Rattle.step_eval.specs.Progress.{ProgressView}
 use Rattle.journal_laws.proofs.Undone.{stands_run}
+use Rattle.print_log.specs.Log.{Print, Prints, values}
 use Rattle.commit_book.specs.declared.counts.Tallies.{Tallies}
 use Rattle.commit_book.specs.declared.parts.Parts.{Parts}
 use Rattle.commit_book.specs.declared.rollback.Rollback.{Rollback}
@@ -44,6 +46,7 @@ use Rattle.commit_book.specs.Layout.{IsKept, view_of}
 use Rattle.commit_book.specs.Leases.{LeaseView}
 use Rattle.own_steps.specs.Own.{steps_of}
 use Rattle.commit_book.specs.OwnSteps.{IsRead}
+use Rattle.commit_book.specs.Printing.{ArePrints, numbers_of, prints_above}
 use Rattle.commit_book.specs.Rows.{alone, events_by, local_of, thread}
 use Rattle.commit_book.specs.Saved.{saved_of}
 use Rattle.commit_book.proofs.Acted.{answered_so, thread_is}
@@ -57,7 +60,9 @@ use Rattle.commit_book.proofs.Going.{apply_one, get_other, shows_alone, still_pu
 use Rattle.commit_book.proofs.KeptLocal.{IsReady}
 use Rattle.commit_book.proofs.KeptSteps.{next_same, few_same, script_now}
 use Rattle.commit_book.proofs.KeptTallies.{probes_now, released_now, undos_now}
+use Rattle.commit_book.proofs.LostSteps.{survivors_up_to}
 use Rattle.commit_book.proofs.PrintCounts.{finals_cut, run_printed}
+use Rattle.commit_book.proofs.Prints.{prints_none}
 use Rattle.commit_book.proofs.Queueing.{queue_one}
 use Rattle.commit_book.proofs.ReadCut.{read_from_cut}
 use Rattle.commit_book.proofs.SeenAfter.{journal_after, pushed_of}
@@ -87,13 +92,14 @@ module _ (job : JobParts) (old : Parts) (lease : LeaseView) (progress : Progress
     pub saved : (k u : ℕ) → saved_of done.store.controls k u ≡ cond (nat_lt k (length begins.history.events + 1)) None (saved_of begins.store.controls k u)
     pub last_cut : done.log.last_cut ≡ length begins.history.events + 1
     pub writes : (r : ℕ) → writes_of done.log r ≡ kept (length begins.history.events + 1) (writes_of begins.log r)
-    pub finals : done.tallies ≡ record begins.tallies { finals = length begins.printed.items }
+    pub finals : done.tallies ≡ record begins.tallies { finals = length (values begins.printed) }
     pub read : done.rollback.read ≡ length begins.history.events + 1
     pub floor : done.rollback.floor.0 ≡ length begins.history.events + 1
     pub own : (t : ℕ) → steps_of done.rollback.own t ≡ []
-    pub prints : done.rollback.prints.items ≡ []
+    pub printed : done.printed.finals ≡ values begins.printed
+    pub unprinted : done.printed.recent ≡ []
     pub lost : done.rollback.lost.items ≡ begins.rollback.lost.items
-    pub others : done ≡ record begins { history = done.history; graph = done.graph; store = done.store; log = done.log; tallies = done.tallies; rollback = done.rollback }
+    pub others : done ≡ record begins { history = done.history; graph = done.graph; store = done.store; log = done.log; tallies = done.tallies; rollback = done.rollback; printed = done.printed }
 
   module _ (done new : Parts) (is : IsCutBy done) (at : StandsAt job.program progress.end own.Cut) (has : HasAnswered job.program done new lease.thread (answered (expr_of job.program progress.end) unit)) where
     low : lease.thread < begins.slots.next
@@ -113,7 +119,7 @@ module _ (job : JobParts) (old : Parts) (lease : LeaseView) (progress : Progress
           channels = λ c. ap (λ (k : Parts). map.contains_key k.offers.lines c) is.others;
           last_cut = is.last_cut;
           writes = is.writes;
-          printed = ap (λ (k : Parts). k.printed.items) is.others ∙ sym (append-nil begins.printed.items);
+          printed = ap (λ ps. done.printed.finals ++ each (λ (p : Print). p.value) ps) is.unprinted ∙ ap (λ fs. fs ++ []) is.printed;
           next = next_same (view_of job begins) (view_of job done) ready.run ready.state lease.worker ready.journal cut_label pushed (ap (λ (k : Parts). (view_of job k).next) is.others) (record { threads = (low, tt); chans = tt; refs = tt });
           few = few_same (view_of job begins) (view_of job done) ready.run ready.state lease.worker ready.journal cut_label pushed (ap (λ (k : Parts). (view_of job k).next) is.others);
           saved = is.saved;
@@ -146,10 +152,10 @@ module _ (job : JobParts) (old : Parts) (lease : LeaseView) (progress : Progress
     abbrev more : ℕ
     more = fails_now (is_failed (expr_of job.program has.before)) (is_failed (expr_of job.program has.control))
 
-    tallies_now : new.tallies ≡ record old.tallies { finals = length begins.printed.items; faulted = old.tallies.faulted + more }
+    tallies_now : new.tallies ≡ record old.tallies { finals = length (values begins.printed); faulted = old.tallies.faulted + more }
     tallies_now =
         has.gone.tallies
-        ∙ ap (λ (k : Tallies). record k { faulted = k.faulted + more }) (is.finals ∙ ap (λ (k : Tallies). record k { finals = length begins.printed.items }) (ap (λ (k : Parts). k.tallies) rest ∙ before.tallies))
+        ∙ ap (λ (k : Tallies). record k { faulted = k.faulted + more }) (is.finals ∙ ap (λ (k : Tallies). record k { finals = length (values begins.printed) }) (ap (λ (k : Parts). k.tallies) rest ∙ before.tallies))
 
     longer_now : IsLonger begins.history new.history lease.worker (cut_label ∷ [])
     longer_now = subst (λ j. IsLonger begins.history j lease.worker (cut_label ∷ [])) (sym history_now) is.history
@@ -202,11 +208,23 @@ module _ (job : JobParts) (old : Parts) (lease : LeaseView) (progress : Progress
         let after = stands_run job.program new.history.events (ready.run ++ cut_at number (thread lease.thread) ∷ []) (apply ready.state cut_label eff) journal_new.history.stands in
         let printed : length ready.state.output ≡ length (start job.program).output + count_by (λ (n : Numbered). is_print n.label) ready.run = run_printed job.program ready.run (start job.program) ready.state runs.1.ends in
         let none : length (start job.program).output ≡ 0 = refl in
-        let all : length begins.printed.items ≡ count_by (λ (n : Numbered). is_print n.label) ready.run = ap length ready.journal.printed ∙ omega (arith, printed, none) in
+        let all : length (values begins.printed) ≡ count_by (λ (n : Numbered). is_print n.label) ready.run = ap length ready.journal.printed ∙ omega (arith, printed, none) in
         ap (λ k. k.finals) tallies_now
         ∙ all
         ∙ sym (finals_cut ready.run number (thread lease.thread) after.1.rises)
         ∙ sym (ap final_prints journal_new.history.left)
+
+    -- no print is above the cut
+    prints_cut : ArePrints new.history new.printed
+    prints_cut =
+        let same : new.printed ≡ done.printed = ap (λ (k : Parts). k.printed) has.gone.rest in
+        let long : length new.history.events ≡ number = ap length longer_now.events ∙ length-append begins.history.events (events_by lease.worker (cut_label ∷ [])) in
+        let low : AllByRecursion (λ (n : Numbered). n.seq.0 ≤ number) (survivors new.history) = subst (λ k. AllByRecursion (λ (n : Numbered). n.seq.0 ≤ k) (survivors new.history)) long (survivors_up_to new.history) in
+        let cut : floor (survivors new.history) ≡ number = ap floor journal_new.history.left ∙ floor_cut 0 ready.run (cut_at number (thread lease.thread)) refl in
+        record {
+          finals = ap (λ (p : Prints). length p.finals) same ∙ ap length is.printed ∙ sym (ap (λ k. k.finals) tallies_now) ∙ finals_new;
+          recent = ap (λ (p : Prints). numbers_of p.recent) same ∙ ap numbers_of is.unprinted ∙ sym (ap (λ f. prints_above f (survivors new.history)) cut ∙ prints_none number (survivors new.history) low);
+        }
 
     pub kept_cut : IsKept job new
     kept_cut =
@@ -245,10 +263,11 @@ module _ (job : JobParts) (old : Parts) (lease : LeaseView) (progress : Progress
           };
           read =
               subst (IsRead new.history) (sym (ap (λ (x : Parts). x.rollback) has.gone.rest))
-              (read_from_cut new.history done.rollback number is.read is.floor is.own is.prints
+              (read_from_cut new.history done.rollback number is.read is.floor is.own
               (is.lost ∙ ap (λ (x : Parts). x.rollback.lost.items) rest ∙ before.read.lost ∙ may.kept.read.lost)
               (sym (ap length longer_now.events ∙ length-append begins.history.events (events_by lease.worker (cut_label ∷ []))))
               (ap floor journal_new.history.left ∙ floor_cut 0 ready.run (cut_at number (thread lease.thread)) refl));
+          prints = prints_cut;
         }
 
   -- the calls of a cut, in the words of the job, the lease and the progress
@@ -256,10 +275,10 @@ module _ (job : JobParts) (old : Parts) (lease : LeaseView) (progress : Progress
       (graph : NodeList) (nodes : graph.nodes ≡ filter (λ (k : Node). nat_le q.0 k.number) pushed.graph.nodes)
       (store : Saved ControlView) (saved : (k : Seq) (v : ThreadId) → saved_at store k v ≡ (if nat_lt k.0 q.0 then None else saved_at pushed.store k v))
       (log : Log) (after : IsAfter (cut q.0) pushed.log log)
-      (rollback : Rollback) (read : rollback.read ≡ q.0) (floor_is : rollback.floor ≡ q) (own_is : (t : ℕ) → steps_of rollback.own t ≡ []) (prints_are : rollback.prints.items ≡ []) (lost_is : rollback.lost ≡ pushed.rollback.lost) (n : ℕ) (all : n ≡ length pushed.printed.items) where
+      (rollback : Rollback) (read : rollback.read ≡ q.0) (floor_is : rollback.floor ≡ q) (own_is : (t : ℕ) → steps_of rollback.own t ≡ []) (lost_is : rollback.lost ≡ pushed.rollback.lost) (printed : Prints) (all_final : printed.finals ≡ values pushed.printed) (none_recent : printed.recent ≡ []) (n : ℕ) (all : n ≡ length printed.finals) where
     -- what is kept then
     abbrev pub cut_parts : Parts
-    cut_parts = record pushed { graph = graph; store = store; log = log; rollback = rollback; tallies = record pushed.tallies { finals = n } }
+    cut_parts = record pushed { graph = graph; store = store; log = log; rollback = rollback; printed = printed; tallies = record pushed.tallies { finals = n } }
 
     is_cut_by : IsCutBy cut_parts
     is_cut_by = record {
@@ -268,13 +287,14 @@ module _ (job : JobParts) (old : Parts) (lease : LeaseView) (progress : Progress
       saved = λ k v. saved (record { 0 = k }) (record { 0 = v }) ∙ ap (λ (j : ℕ). cond (nat_lt k j) None (saved_of pushed.store.controls k v)) q_is ∙ ap (λ (x : Parts). cond (nat_lt k (length begins.history.events + 1)) None (saved_of x.store.controls k v)) more;
       last_cut = after.last_cut ∙ q_is;
       writes = λ r. after.writes r ∙ ap (λ (j : ℕ). kept j (writes_of pushed.log r)) q_is ∙ ap (λ (x : Parts). kept (length begins.history.events + 1) (writes_of x.log r)) more;
-      finals = ap (λ (x : Parts). record x.tallies { finals = n }) more ∙ ap (λ (j : ℕ). record begins.tallies { finals = j }) (all ∙ ap (λ (x : Parts). length x.printed.items) more);
+      finals = ap (λ (x : Parts). record x.tallies { finals = n }) more ∙ ap (λ (j : ℕ). record begins.tallies { finals = j }) (all ∙ ap length all_final ∙ ap (λ (x : Parts). length (values x.printed)) more);
       read = read ∙ q_is;
       floor = ap (λ (k : Seq). k.0) floor_is ∙ q_is;
       own = own_is;
-      prints = prints_are;
+      printed = all_final ∙ ap (λ (x : Parts). values x.printed) more;
+      unprinted = none_recent;
       lost = (let same : rollback.lost.items ≡ pushed.rollback.lost.items = cc in same) ∙ ap (λ (x : Parts). x.rollback.lost.items) more;
-      others = ap (λ (x : Parts). record x { history = pushed.history; graph = graph; store = store; log = log; rollback = rollback; tallies = record pushed.tallies { finals = n } }) more;
+      others = ap (λ (x : Parts). record x { history = pushed.history; graph = graph; store = store; log = log; rollback = rollback; printed = printed; tallies = record pushed.tallies { finals = n } }) more;
     }
 
     pub cut_lasts : (new : Parts) (p : ProgramParts) (x : ThreadId) (c : ControlView) (v : Datum) → p ≡ job.program → x.0 ≡ lease.thread → c ≡ progress.end → v ≡ unit → StandsAt job.program progress.end own.Cut

@@ -23,6 +23,7 @@ use Rattle.journal_laws.proofs.Held.{cuts_hold}
 use Rattle.journal_laws.proofs.Stepping.{step_of}
 use Rattle.journal_laws.proofs.Surviving.{some_is, some_none, no_steps}
 use Rattle.journal_laws.proofs.Undone.{stands_run}
+use Rattle.print_log.specs.Log.{values}
 use Rattle.commit_book.specs.declared.parts.Parts.{Parts}
 use Rattle.commit_book.specs.Layout.{IsKept}
 use Rattle.commit_book.proofs.EventSteps.{released_snoc}
@@ -298,11 +299,20 @@ module _ (p : ProgramParts) where
       omega (arith, so_far, now, up)
 
 -- so many are printed
-pub released_printed : (job : JobParts) (parts : Parts) → IsKept job parts → parts.tallies.released ≤ length parts.printed.items
+pub released_printed : (job : JobParts) (parts : Parts) → IsKept job parts → parts.tallies.released ≤ length (values parts.printed)
 released_printed job parts kept =
     let journal = kept.shown.shows.journal in
     let final : released parts.history.events ≤ final_prints kept.shown.run = released_final job.program parts.history.events kept.shown.run kept.shown.state journal.history.stands in
     let fit : final_prints kept.shown.run ≤ length kept.shown.state.output = finals_printed job.program parts.history.events kept.shown.run kept.shown.state journal.history.stands in
     let same : parts.tallies.released ≡ released parts.history.events = kept.tallied.released in
-    let out : length parts.printed.items ≡ length kept.shown.state.output = ap length journal.printed in
+    let out : length (values parts.printed) ≡ length kept.shown.state.output = ap length journal.printed in
     omega (arith, final, fit, same, out)
+
+-- so many are final
+pub released_final_values : (job : JobParts) (parts : Parts) → IsKept job parts → parts.tallies.released ≤ length parts.printed.finals
+released_final_values job parts kept =
+    let journal = kept.shown.shows.journal in
+    let final : released parts.history.events ≤ final_prints kept.shown.run = released_final job.program parts.history.events kept.shown.run kept.shown.state journal.history.stands in
+    let same : parts.tallies.released ≡ released parts.history.events = kept.tallied.released in
+    let all : length parts.printed.finals ≡ final_prints kept.shown.run = kept.prints.finals ∙ ap final_prints journal.history.left in
+    omega (arith, final, same, all)

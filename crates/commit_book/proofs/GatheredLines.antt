@@ -174,7 +174,7 @@ listed_seqs q [] = refl
 listed_seqs q (k ∷ qs) = ap (λ b. nat_eq q k.0 || b) (listed_seqs q qs)
 
 -- the touched threads are all done, and what was taken out is sorted
-pub gathered_all : (old new : Rollback) (lost : List Seq) → IsGatheredFrom old.plan.lines old.own new.own lost (map.keys old.plan.lines) → IsPermutation lost new.lost.items → IsNonDecreasingBy (λ (q : Seq). q.0) new.lost.items → (new.read ≡ old.read) × (new.floor ≡ old.floor) × (new.prints.items ≡ old.prints.items) × (new.plan ≡ old.plan) → IsGathered old new
+pub gathered_all : (old new : Rollback) (lost : List Seq) → IsGatheredFrom old.plan.lines old.own new.own lost (map.keys old.plan.lines) → IsPermutation lost new.lost.items → IsNonDecreasingBy (λ (q : Seq). q.0) new.lost.items → (new.read ≡ old.read) × (new.floor ≡ old.floor) × (new.plan ≡ old.plan) → IsGathered old new
 gathered_all old new lost is moved order rest =
     let lines = old.plan.lines in
     let touched : (t : ℕ) → is_touched lines t ≡ is_listed t (map.keys lines) = λ t. sym (listed_key lines t) in

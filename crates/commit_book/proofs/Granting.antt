@@ -179,7 +179,8 @@ module _ (job : JobParts) (old : Parts) (lease : LeaseView) (progress : Progress
       references = again.references ∙ before.references;
       saved = again.saved ∙ before.saved;
       nodes = again.nodes ∙ before.nodes;
-      printed = again.printed ∙ before.printed;
+      finals = again.finals ∙ before.finals;
+      recent = again.recent ∙ before.recent;
       chan = again.chan ∙ before.chan;
       ref = again.ref ∙ before.ref;
       tallies = again.tallies ∙ before.tallies;
@@ -187,7 +188,6 @@ module _ (job : JobParts) (old : Parts) (lease : LeaseView) (progress : Progress
         read = again.read.read ∙ before.read.read;
         floor = again.read.floor ∙ before.read.floor;
         own = λ t. again.read.own t ∙ before.read.own t;
-        prints = again.read.prints ∙ before.read.prints;
         lost = again.read.lost ∙ before.read.lost;
       };
     }
@@ -205,7 +205,6 @@ pub room_fewer : (r : Rollback) (events fewer last : ℕ) → fewer ≤ events �
 room_fewer r events fewer last low room = record {
   own = let is = room.own in omega (arith, is, low);
   places = room.places;
-  prints = let is = room.prints in omega (arith, is, low);
   lost = let is = room.lost in omega (arith, is, low);
   plan = room.plan;
 }

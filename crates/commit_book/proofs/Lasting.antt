@@ -35,6 +35,7 @@ use Rattle.commit_book.specs.Leases.{LeaseView}
 use Rattle.commit_book.specs.Rows.{alone, local_of, thread}
 use Rattle.commit_book.proofs.Acted.{both_answered, generation_at, thread_is}
 use Rattle.commit_book.proofs.KeptLocal.{IsReady}
+use Rattle.commit_book.proofs.Prints.{IsPutBehind}
 use Rattle.commit_book.proofs.SingleActs.{ready_at}
 use Rattle.commit_book.proofs.SingleLabels.{attempted, made_new, pinned, probed_next, set_to}
 use Rattle.commit_book.proofs.SinglePrints.{printed_at}
@@ -78,10 +79,10 @@ module _ (job : JobParts) (old : Parts) (lease : LeaseView) (progress : Progress
         (ap (λ k. k.offers) more) p x c v (int next) program x_is end (value ∙ ap int same) refl has
 
     pub print_lasts : StandsAt job.program progress.end own.Print → IsLonger begins.history pushed.history lease.worker (Print u ∷ [])
-        → (done : Parts) → done ≡ record pushed { printed = done.printed } → done.printed.items ≡ pushed.printed.items ++ first_of (operands_of progress.end) ∷ []
+        → (done : Parts) → done ≡ record pushed { printed = done.printed } → (q : ℕ) → q ≡ length begins.history.events + 1 → IsPutBehind pushed.printed done.printed q (first_of (operands_of progress.end))
         → (v : Datum) → v ≡ unit → HasAnswered p done new x.0 (answered (expr_of p c) v)
         → IsDone job old new lease progress (alone (Some (Print (thread lease.thread)))) × IsKept job new
-    print_lasts at history done is printed v value has =
+    print_lasts at history done is q q_is printed v value has =
         let history_so : IsLonger begins.history done.history lease.worker (Print (thread lease.thread) ∷ []) =
         subst (λ (j : Journal). IsLonger begins.history j lease.worker (Print (thread lease.thread) ∷ [])) (sym (ap (λ (k : Parts). k.history) is)) (by_thread pushed.history Print u u_is history) in
         let whole : done ≡ record begins { history = done.history; printed = done.printed } =
@@ -89,7 +90,7 @@ module _ (job : JobParts) (old : Parts) (lease : LeaseView) (progress : Progress
         both_answered job old lease progress may planned begins before longer rest done new own.Print at refl (Print (thread lease.thread))
         (record { mine = answered (expr_of job.program progress.end) unit; other = expr_of job.program progress.end; value = unit; printed = first_of (operands_of progress.end) ∷ [] })
         (printed_at job old lease progress may planned begins before longer rest done at history_so
-        (printed ∙ ap (λ (k : Parts). k.printed.items ++ first_of (operands_of progress.end) ∷ []) more)
+        (subst (λ (n : ℕ). IsPutBehind begins.printed done.printed n (first_of (operands_of progress.end))) q_is (subst (λ (k : Parts). IsPutBehind k.printed done.printed q (first_of (operands_of progress.end))) more printed))
         whole)
         (ap (λ (k : Parts). k.offers) whole) p x c v unit program x_is end value refl has
 

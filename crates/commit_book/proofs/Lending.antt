@@ -90,6 +90,7 @@ kept_requeued job old new rest next is once kept =
         faulted = kept.tallied.faulted ∙ sym (faulted_requeued job.program old.slots.threads new.slots.threads old.slots.next is);
       };
       read = kept.read;
+      prints = kept.prints;
     })
 
 module _ {C : Type 0} where

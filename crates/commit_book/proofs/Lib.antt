@@ -111,8 +111,6 @@ pub mod UndoLasts
 pub mod Granting
 pub mod StrikeCalls
 pub mod Uncounted
-pub mod PrintKeeping
-pub mod LostPrints
 pub mod UndoCalls
 pub mod TakeBack
 pub mod Releasing
@@ -122,3 +120,4 @@ pub mod Chosen
 pub mod Crossing
 pub mod Firm
 pub mod LawfulBooks
+pub mod Prints

@@ -226,14 +226,6 @@ module _ (old : BookView) (run : List Numbered) (s : PlainState) (shown : ShowsR
           ] refl
         ] refl
 
--- the prints that are left
-pub prints_left : (f e : ℕ) (p : Label → Bool) (gone : ℕ → Bool) (run : List Numbered) → filter (λ q. not (gone q)) (steps_within f e p run) ≡ steps_within f e p (rest gone run)
-prints_left f e p gone run = stay_within f e p gone gone run (λ before n after cut passes. refl)
-
--- where a number among them stands
-pub within_step : (f e : ℕ) (p : Label → Bool) (run : List Numbered) (q : ℕ) → has (steps_within f e p run) q ≡ true → IsStepAt run q
-within_step f e p run q h = (within_at f e p run q h).at
-
 -- no step of a journal has a greater number than its last event
 pub survivors_up_to : (j : Journal) → AllByRecursion (λ (n : Numbered). n.seq.0 ≤ length j.events) (survivors j)
 survivors_up_to j = by (survivors j) (are_survivors j).each

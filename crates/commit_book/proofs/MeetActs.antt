@@ -132,6 +132,9 @@ module _ (job : JobParts) (old : Parts) (lease : LeaseView) (progress : Progress
     pub rollback_met : new.rollback ≡ begins.rollback
     rollback_met = ap (λ (k : Parts). k.rollback) whole
 
+    pub printed_met : new.printed ≡ begins.printed
+    printed_met = ap (λ (k : Parts). k.printed) whole
+
     offers_are : new.offers ≡ withdrawn.offers
     offers_are = ap (λ k. k.offers) whole
 

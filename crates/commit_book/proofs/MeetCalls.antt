@@ -1,5 +1,5 @@
 -- What the calls of a meeting leave, put together.
-use Rattle.std.proofs.Common.{◌≡◌, ◌⊎◌, inl, inr, ℕ, ◌<◌, Bool, true, false, cond, nat_eq, [], ◌∷◌, ◌++◌, Some, refl, sym, ap, subst, ◌∙◌}
+use Rattle.std.proofs.Common.{◌≡◌, ◌⊎◌, inl, inr, ℕ, ◌+◌, ◌<◌, Bool, true, false, cond, nat_eq, [], ◌∷◌, ◌++◌, length, Some, refl, sym, ap, subst, ◌∙◌}
 use Rattle.std.specs.Prelude.{is_some, option_map}
 use Rattle.std.specs.Cmp.{nat_eq_equiv}
 use Rattle.std.specs.FinMap as map
@@ -34,8 +34,9 @@ use Rattle.commit_book.proofs.Going.{apply_two, put_turned}
 use Rattle.commit_book.proofs.KeptLocal.{IsReady}
 use Rattle.commit_book.proofs.KeptSteps.{AreBoth, both_turned, comm_step}
 use Rattle.commit_book.proofs.Matched.{Receives, Sends, partner_receives, partner_sends, receives_from, roles}
-use Rattle.commit_book.proofs.MeetActs.{HaveMoved, channels_met, done_met, kept_met, nodes_met, pushed_met, rollback_met, view_met}
+use Rattle.commit_book.proofs.MeetActs.{HaveMoved, channels_met, done_met, kept_met, nodes_met, printed_met, pushed_met, rollback_met, view_met}
 use Rattle.commit_book.proofs.PairActs.{IsStepped, others_by}
+use Rattle.commit_book.proofs.Prints.{unprinting}
 use Rattle.commit_book.proofs.RoomHere.{thread_below}
 use Rattle.commit_book.proofs.SeenAfter.{pushed_of}
 use Rattle.commit_book.proofs.Standing.{of_some, put}
@@ -110,6 +111,7 @@ module _ (job : JobParts) (old : Parts) (lease : LeaseView) (progress : Progress
       stepped_sends = record {
         uncut = refl;
         rollback = rollback_met job old lease progress may planned begins before longer rest ready noted withdrawn first second new u mate l mine other was_other was_mine is.moves;
+        prints = unprinting begins.printed new.printed (length begins.history.events + 1) l refl (printed_met job old lease progress may planned begins before longer rest ready noted withdrawn first second new u mate l mine other was_other was_mine is.moves);
         unprobed = refl;
         may_step = tt;
         effect = comm_effect job.program ready.state (next_seq (view_of job begins)) m.sender m.receiver m.chan (expr_of job.program progress.end) (expr_of job.program mate.control) (expr_of job.program other) (second_of (operands_of progress.end))
@@ -137,6 +139,7 @@ module _ (job : JobParts) (old : Parts) (lease : LeaseView) (progress : Progress
       stepped_gets = record {
         uncut = refl;
         rollback = rollback_met job old lease progress may planned begins before longer rest ready noted withdrawn first second new u mate l mine other was_other was_mine is.moves;
+        prints = unprinting begins.printed new.printed (length begins.history.events + 1) l refl (printed_met job old lease progress may planned begins before longer rest ready noted withdrawn first second new u mate l mine other was_other was_mine is.moves);
         unprobed = refl;
         may_step = tt;
         effect = comm_effect job.program ready.state (next_seq (view_of job begins)) m.sender m.receiver m.chan (expr_of job.program mate.control) (expr_of job.program progress.end) (expr_of job.program mine) (second_of (operands_of mate.control))

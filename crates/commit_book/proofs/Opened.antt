@@ -1,5 +1,5 @@
 -- What is left of a book once a thread has made a channel, whose lines were made with the room for its step.
-use Rattle.std.proofs.Common.{◌≡◌, ℕ, ◌+◌, Bool, true, false, cond, not, nat_eq, [], ◌∷◌, Option, Some, None, refl, sym, ap, subst, ◌∙◌}
+use Rattle.std.proofs.Common.{◌≡◌, ℕ, ◌+◌, Bool, true, false, cond, not, nat_eq, [], ◌∷◌, length, Option, Some, None, refl, sym, ap, subst, ◌∙◌}
 use Rattle.std.specs.Prelude.{IfSome, is_some}
 use Rattle.std.specs.FinMap as map
 use Rattle.std.specs.FinSet as set
@@ -34,6 +34,7 @@ use Rattle.commit_book.proofs.Effects.{chan_effect}
 use Rattle.commit_book.proofs.JournalSteps.{journal_step}
 use Rattle.commit_book.proofs.KeptLocal.{IsReady}
 use Rattle.commit_book.proofs.KeptSteps.{chan_step}
+use Rattle.commit_book.proofs.Prints.{unprinting}
 use Rattle.commit_book.proofs.RoomHere.{channel_away, line_away}
 use Rattle.commit_book.proofs.SeenAfter.{pushed_of}
 use Rattle.commit_book.proofs.SingleActs.{IsActed, IsStepped, done_alone, journal_at, kept_alone, ready_at, slot_at}
@@ -117,6 +118,7 @@ module _ (job : JobParts) (old : Parts) (lease : LeaseView) (progress : Progress
                 (pushed_of job begins done lease.worker l history) (low_now job old lease progress may planned begins before longer rest_so) same refl lines_now seen_now);
             slots = ap (λ k. k.slots) more;
             rollback = ap (λ k. k.rollback) more;
+            prints = unprinting begun.printed done.printed (length begun.history.events + 1) l refl (ap (λ (k : Parts). k.printed) more);
             probes = ap (λ k. k.tallies) more ∙ none_more begins.tallies;
           }
 

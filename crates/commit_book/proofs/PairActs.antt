@@ -57,6 +57,7 @@ use Rattle.commit_book.proofs.JournalSteps.{journal_step, numbered}
 use Rattle.commit_book.proofs.KeptLocal.{IsReady}
 use Rattle.commit_book.proofs.KeptSteps.{spawn_step}
 use Rattle.commit_book.proofs.KeptTallies.{finals_now, probes_now, released_now, undos_now}
+use Rattle.commit_book.proofs.Prints.{IsPrintedBy, begun_prints, stepped_prints, unprinting}
 use Rattle.commit_book.proofs.Queueing.{queue_started}
 use Rattle.commit_book.proofs.RoomHere.{thread_away}
 use Rattle.commit_book.proofs.SeenAfter.{journal_after, pushed_of}
@@ -107,6 +108,7 @@ module _ (job : JobParts) (old : Parts) (lease : LeaseView) (progress : Progress
     pub history : IsLonger begins.history new.history lease.worker (l ∷ [])
     pub step : IsStepOf (view_of job begins) (view_of job new) ready.run ready.state lease.worker l e
     pub rollback : new.rollback ≡ begins.rollback
+    pub prints : IsPrintedBy begins.printed new.printed (length begins.history.events + 1) l
 
   -- nobody was put back
   pub put_back_by : (new : Parts) (l : Label) (e : Effect Expr) → IsStepped new l e → (u : ℕ) → generation u new.history.events ≡ generation u old.history.events
@@ -154,6 +156,9 @@ module _ (job : JobParts) (old : Parts) (lease : LeaseView) (progress : Progress
         read =
             stepped_read begins new lease.worker l is.history is.uncut is.rollback
             (begun_read old planned begins lease.worker lease.thread progress.steps before longer rest may.kept.read);
+        prints =
+            stepped_prints begins new lease.worker l is.history is.uncut is.prints
+            (begun_prints old planned begins lease.worker lease.thread progress.steps before longer rest may.kept.prints);
       }
 
   -- ---- a child is started
@@ -272,6 +277,7 @@ module _ (job : JobParts) (old : Parts) (lease : LeaseView) (progress : Progress
     stepped = record {
       uncut = refl;
       rollback = ap (λ (k : Parts). k.rollback) whole;
+      prints = unprinting begins.printed new.printed (length begins.history.events + 1) l refl (ap (λ (k : Parts). k.printed) whole);
       unprobed = refl;
       may_step = tt;
       effect = spawn_effect job.program ready.state (next_seq (view_of job begins)) (thread lease.thread) (expr_of job.program progress.end) ready.stands u (called (body job.program) f.0 (operands_of progress.end)) is.looks;

@@ -4,12 +4,10 @@ use Rattle.std.specs.Prelude.{filter, nat_le, nat_lt}
 use Rattle.std.proofs.lemmas.Bool.Decides.{nat_tests}
 use Rattle.stab_journal.specs.declared.event.Label.{Label}
 use Rattle.stab_journal.specs.declared.event.Numbered.{Numbered}
-use Rattle.stab_journal.specs.Due.{is_print}
 use Rattle.stab_journal.specs.Floor.{floor}
 use Rattle.stab_journal.specs.Journal.{Journal, survivors}
 use Rattle.stab_journal.specs.Label.{actors}
 use Rattle.stab_journal.specs.Names.{has}
-use Rattle.reach_line.specs.MarkList.{numbers}
 use Rattle.own_steps.specs.Own.{steps_of}
 use Rattle.commit_book.specs.declared.rollback.Rollback.{Rollback}
 use Rattle.commit_book.specs.OwnSteps.{IsRead, steps_within}
@@ -34,13 +32,12 @@ none_within f p [] = refl
 none_within f p (n ∷ ns) = ap (λ b. numbers_of (cond b (n ∷ filter_of f p ns) (filter_of f p ns))) (between_none f n.seq.0 (p n.label)) ∙ none_within f p ns
 
 -- nothing is read after a cut, which is the last event
-pub read_from_cut : (j : Journal) (r : Rollback) (q : ℕ) → r.read ≡ q → r.floor.0 ≡ q → ((t : ℕ) → steps_of r.own t ≡ []) → r.prints.items ≡ [] → r.lost.items ≡ [] → q ≡ length j.events → floor (survivors j) ≡ q → IsRead j r
-read_from_cut j r q read floor_is own prints lost last cut = record {
+pub read_from_cut : (j : Journal) (r : Rollback) (q : ℕ) → r.read ≡ q → r.floor.0 ≡ q → ((t : ℕ) → steps_of r.own t ≡ []) → r.lost.items ≡ [] → q ≡ length j.events → floor (survivors j) ≡ q → IsRead j r
+read_from_cut j r q read floor_is own lost last cut = record {
   read = omega (arith, read, last);
   floor = floor_is ∙ sym cut;
   cut = omega (arith, read, floor_is);
   own = λ t. own t ∙ sym (nothing (λ l. has (actors l) t));
-  prints = ap numbers prints ∙ sym (nothing is_print);
   lost = lost;
 }
   where

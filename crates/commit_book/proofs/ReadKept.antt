@@ -1,11 +1,9 @@
 -- What was read stays read while the journal grows.
 use Rattle.std.proofs.Common.{◌≡◌, ℕ, suc, ◌<◌, ◌≤◌, Bool, false, cond, List, [], ◌∷◌, ◌++◌, length, refl, sym, ap, ◌∙◌, arith, append-nil}
 use Rattle.std.specs.List.{AllByRecursion}
-use Rattle.reach_line.specs.MarkList.{numbers}
 use Rattle.stab_base.specs.declared.numbers.Seq.{Seq}
 use Rattle.stab_journal.specs.declared.event.Label.{Label}
 use Rattle.stab_journal.specs.declared.event.Numbered.{Numbered}
-use Rattle.stab_journal.specs.Due.{is_print}
 use Rattle.stab_journal.specs.Floor.{floor, floor_from, is_cut}
 use Rattle.stab_journal.specs.Journal.{Journal, RiseFrom, survivors}
 use Rattle.stab_journal.specs.Label.{actors}
@@ -40,7 +38,6 @@ read_more old new r k ns is longer more rise late uncut =
       floor = is.floor ∙ sym (ap floor more ∙ floor_more 0 (survivors old) ns uncut);
       cut = is.cut;
       own = λ t. is.own t ∙ sym (ap (steps_within r.floor.0 r.read (λ l. has (actors l) t)) more ∙ within_more r.floor.0 r.read k (λ l. has (actors l) t) (survivors old) ns rise low);
-      prints = is.prints ∙ sym (ap (steps_within r.floor.0 r.read is_print) more ∙ within_more r.floor.0 r.read k is_print (survivors old) ns rise low);
       lost = is.lost;
     }
 
@@ -59,7 +56,6 @@ read_kept j old new same is =
       floor = floor_is ∙ is.floor;
       cut = omega (arith, is.cut, same.read);
       own = λ t. same.own t ∙ is.own t ∙ within (λ l. has (actors l) t);
-      prints = ap numbers same.prints ∙ is.prints ∙ within is_print;
       lost = same.lost ∙ is.lost;
     }
 
@@ -70,6 +66,5 @@ read_none_yet j r none is = record {
   floor = is.floor ∙ sym (ap floor none);
   cut = let zero = is.floor in omega arith;
   own = λ t. is.own t ∙ sym (ap (steps_within r.floor.0 r.read (λ l. has (actors l) t)) none);
-  prints = ap numbers is.prints ∙ sym (ap (steps_within r.floor.0 r.read is_print) none);
   lost = is.lost;
 }

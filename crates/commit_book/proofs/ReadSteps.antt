@@ -12,7 +12,6 @@ use Rattle.stab_journal.specs.declared.event.Label.{Label}
 use Rattle.stab_journal.specs.declared.event.Numbered.{Numbered}
 use Rattle.stab_journal.specs.declared.event.What.{What}
 use Rattle.stab_journal.specs.declared.event.What.TheVariants.{Step, Undo, Release}
-use Rattle.stab_journal.specs.Due.{is_print}
 use Rattle.stab_journal.specs.Event.{label_of}
 use Rattle.stab_journal.specs.Journal.{AreSurvivors, IsLive, IsSurvivor, Journal, RiseFrom, label_at, survivors}
 use Rattle.stab_journal.specs.Label.{actors, touched}
@@ -134,13 +133,12 @@ read_none j r is are within none =
       floor = is.floor;
       cut = let low = is.cut in omega arith;
       own = λ t. is.own t ∙ more (λ l. has (actors l) t);
-      prints = is.prints ∙ more is_print;
       lost = is.lost;
     }
 
 -- the next event is a step
-pub read_one : (j : Journal) (old new : Rollback) (l : Label) → IsRead j old → AreSurvivors j (survivors j) → old.read < length j.events → IsLive j (old.read + 1) → label_at j.events (old.read + 1) ≡ Some l → new.read ≡ old.read + 1 → new.floor ≡ old.floor → ((t : ℕ) → steps_of new.own t ≡ steps_of old.own t ++ cond (has (actors l) t) ((old.read + 1) ∷ []) []) → each (λ (q : Seq). q.0) new.prints.items ≡ each (λ (q : Seq). q.0) old.prints.items ++ cond (is_print l) ((old.read + 1) ∷ []) [] → new.lost.items ≡ old.lost.items → IsRead j new
-read_one j old new l is are within live at read floor own prints lost =
+pub read_one : (j : Journal) (old new : Rollback) (l : Label) → IsRead j old → AreSurvivors j (survivors j) → old.read < length j.events → IsLive j (old.read + 1) → label_at j.events (old.read + 1) ≡ Some l → new.read ≡ old.read + 1 → new.floor ≡ old.floor → ((t : ℕ) → steps_of new.own t ≡ steps_of old.own t ++ cond (has (actors l) t) ((old.read + 1) ∷ []) []) → new.lost.items ≡ old.lost.items → IsRead j new
+read_one j old new l is are within live at read floor own lost =
     let low = is.cut in
     let next = add-one old.read in
     let there = are.every (suc old.read) (subst (IsLive j) next live) in
@@ -153,7 +151,6 @@ read_one j old new l is are within live at read floor own prints lost =
       floor = ap (λ (q : Seq). q.0) floor ∙ is.floor;
       cut = let same = ap (λ (q : Seq). q.0) floor in omega arith;
       own = λ t. own t ∙ ap (λ qs. qs ++ cond (has (actors l) t) ((old.read + 1) ∷ []) []) (is.own t) ∙ more (λ k. has (actors k) t);
-      prints = prints ∙ ap (λ qs. qs ++ cond (is_print l) ((old.read + 1) ∷ []) []) is.prints ∙ more is_print;
       lost = lost ∙ is.lost;
     }
 

@@ -52,4 +52,5 @@ kept_recounted job parts commits stale is = record {
     faulted = is.tallied.faulted;
   };
   read = is.read;
+  prints = is.prints;
 }

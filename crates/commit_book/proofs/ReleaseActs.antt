@@ -28,6 +28,7 @@ use Rattle.commit_book.specs.Numbers.{threads_by, AreNext, AreFew}
 use Rattle.commit_book.proofs.EventSteps.{generation_snoc, probed_snoc, released_snoc, script_step}
 use Rattle.commit_book.proofs.Named.{few_more}
 use Rattle.commit_book.proofs.NumberSteps.{greatest_snoc}
+use Rattle.commit_book.proofs.Prints.{keep_prints}
 use Rattle.commit_book.proofs.ReadKept.{read_same}
 use Rattle.commit_book.specs.OwnSteps.{IsRead}
 
@@ -140,4 +141,5 @@ module _ (job : JobParts) (old new : Parts) (worker : ℕ) (kept : IsKept job ol
     read =
         let long : length new.history.events ≡ length old.history.events + 1 = ap length is.events ∙ length_push old.history.events (release_of worker k) in
         subst (IsRead new.history) (sym (ap (λ (x : Parts). x.rollback) is.others)) (read_same old.history new.history old.rollback kept.read (omega (arith, long)) same_survivors);
+    prints = keep_prints old.history new.history old.printed new.printed same_survivors (ap (λ (x : Parts). x.printed.finals) is.others) (ap (λ (x : Parts). x.printed.recent) is.others) kept.prints;
   }

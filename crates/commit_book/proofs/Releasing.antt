@@ -1,5 +1,5 @@
 -- What a release needs of a book, and what its calls leave.
-use Rattle.std.proofs.Common.{◌≡◌, ℕ, suc, ◌+◌, ◌-◌, ◌*◌, ◌^◌, ◌<◌, ◌≤◌, Bool, true, false, cond, ◌&&◌, List, [], ◌∷◌, ◌++◌, length, take, drop, refl, sym, ap, subst, ◌∙◌, arith}
+use Rattle.std.proofs.Common.{◌≡◌, ℕ, suc, ◌+◌, ◌-◌, ◌*◌, ◌^◌, ◌<◌, ◌≤◌, Bool, true, false, cond, ◌&&◌, List, [], ◌∷◌, ◌++◌, length, take, drop, map as each, sym, ap, subst, ◌∙◌, arith}
 use Rattle.std.specs.Prelude.{count_by, nat_lt}
 use Rattle.std.specs.List.{AllByRecursion, flat_map}
 use Rattle.std.proofs.lemmas.Bool.Decides.{nat_tests}
@@ -18,10 +18,10 @@ use Rattle.stab_journal.specs.Floor.{floor}
 use Rattle.stab_journal.specs.Journal.{IsValid, Journal, RiseFrom, survivors}
 use Rattle.stab_journal.specs.Surviving.{run_of}
 use Rattle.stab_journal.proofs.Surviving.{are_survivors}
-use Rattle.plain_language.specs.Plain.{start}
 use Rattle.plain_language.specs.Shown.{line}
 use Rattle.plain_language.specs.Standing.{event}
 use Rattle.journal_laws.proofs.Undone.{stands_run}
+use Rattle.print_log.specs.Log.{Print, values}
 use Rattle.commit_book.specs.declared.counts.Tallies.{Tallies}
 use Rattle.commit_book.specs.declared.parts.Parts.{Parts}
 use Rattle.commit_book.specs.Acting.{AreAsBefore}
@@ -32,7 +32,8 @@ use Rattle.commit_book.specs.Releases.{IsReleased, IsReleasedBy, due_lines}
 use Rattle.commit_book.proofs.Acted.{reserved}
 use Rattle.commit_book.proofs.Choosing.{due_is}
 use Rattle.commit_book.proofs.LostSteps.{survivors_up_to}
-use Rattle.commit_book.proofs.PrintCounts.{counted, run_printed}
+use Rattle.commit_book.proofs.PrintCounts.{counted}
+use Rattle.commit_book.proofs.Prints.{take_front}
 use Rattle.commit_book.proofs.ReleaseActs.{kept_released}
 use Rattle.commit_book.proofs.Room.{step_weighs}
 use Rattle.commit_book.proofs.SeenAfter.{kept_same, view_same}
@@ -114,16 +115,8 @@ module _ (job : JobParts) (old : Parts) (kept : IsKept job old) where
   finals_are = kept.tallied.finals ∙ ap final_prints run_same
 
   -- all final values are there
-  pub finals_fit : old.tallies.finals ≤ length old.printed.items
-  finals_fit =
-      let journal = kept.shown.shows.journal in
-      let run = (stands_run job.program old.history.events kept.shown.run kept.shown.state journal.history.stands).1 in
-      let none : length (start job.program).output ≡ 0 = refl in
-      let all : length kept.shown.state.output ≡ length (start job.program).output + count_by (λ (n : Numbered). is_print n.label) kept.shown.run = run_printed job.program kept.shown.run (start job.program) kept.shown.state run.ends in
-      let some : final_prints kept.shown.run ≤ count_by (λ (n : Numbered). is_print n.label) kept.shown.run = and_fewer (λ (n : Numbered). is_print n.label) (λ (n : Numbered). nat_lt n.seq.0 (floor kept.shown.run)) kept.shown.run in
-      let same : old.tallies.finals ≡ final_prints kept.shown.run = kept.tallied.finals ∙ ap final_prints journal.history.left in
-      let out : length old.printed.items ≡ length kept.shown.state.output = ap length journal.printed in
-      omega (arith, none, all, some, same, out)
+  pub finals_same : old.tallies.finals ≡ length old.printed.finals
+  finals_same = kept.tallied.finals ∙ sym kept.prints.finals
 
   -- there are no more than events
   pub finals_few : old.tallies.finals ≤ length old.history.events
@@ -150,12 +143,14 @@ module _ (job : JobParts) (old : Parts) (kept : IsKept job old) where
       omega (arith, few, weight)
 
   -- the values that are due
-  pub lines_so : (values : List Datum) → values ≡ drop old.tallies.released (take old.tallies.finals old.printed.items) → flat_map (λ (v : Datum). line (printed job.program.texts v)) values ≡ due_lines (view_of job old)
-  lines_so values is =
+  pub lines_so : (vs : List Datum) → vs ≡ drop old.tallies.released old.printed.finals → flat_map (λ (v : Datum). line (printed job.program.texts v)) vs ≡ due_lines (view_of job old)
+  lines_so vs is =
+      let front : take old.tallies.finals (values old.printed) ≡ old.printed.finals = ap (λ n. take n (values old.printed)) finals_same ∙ take_front old.printed.finals (each (λ (p : Print). p.value) old.printed.recent) in
       ap (flat_map (λ (v : Datum). line (printed job.program.texts v)))
       (is
-      ∙ ap (λ n. drop n (take old.tallies.finals old.printed.items)) kept.tallied.released
-      ∙ ap (λ n. drop (released old.history.events) (take n old.printed.items)) finals_are)
+      ∙ ap (drop old.tallies.released) (sym front)
+      ∙ ap (λ n. drop n (take old.tallies.finals (values old.printed))) kept.tallied.released
+      ∙ ap (λ n. drop (released old.history.events) (take n (values old.printed))) finals_are)
 
   -- with more room
   module _ (h : Journal) (room : h ≡ record old.history { spare = h.spare }) where

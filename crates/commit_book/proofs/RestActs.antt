@@ -32,6 +32,7 @@ use Rattle.commit_book.proofs.Adding.{resting_ended, resting_state, resting_unpa
 use Rattle.commit_book.proofs.Faulted.{faulted_goes}
 use Rattle.commit_book.proofs.Going.{get_other, shows_one}
 use Rattle.commit_book.proofs.KeptLocal.{IsReady}
+use Rattle.commit_book.proofs.Prints.{begun_prints, still_prints}
 use Rattle.commit_book.proofs.Queueing.{queue_one}
 use Rattle.commit_book.proofs.SeenAfter.{journal_after}
 use Rattle.commit_book.proofs.SeenRead.{begun_read, still_read}
@@ -139,6 +140,7 @@ module _ (job : JobParts) (old : Parts) (lease : LeaseView) (progress : Progress
                 ∙ ap (faulted_in p new.slots.threads) (sym next_is);
           };
           read = still_read begins new history_is (ap (λ (k : Parts). k.rollback) gone.rest) (begun_read old planned begins lease.worker lease.thread progress.steps before longer rest may.kept.read);
+          prints = still_prints begins new history_is (ap (λ (k : Parts). k.printed) gone.rest) (begun_prints old planned begins lease.worker lease.thread progress.steps before longer rest may.kept.prints);
         }
 
     pub done_resting : IsDone job old new lease progress (alone None)

@@ -1,5 +1,5 @@
 -- What callers see of a book stays while room is made, and what they see once the steps of a commit are pushed.
-use Rattle.std.proofs.Common.{◌≡◌, ℕ, zero, suc, ◌+◌, List, [], ◌∷◌, ◌++◌, length, refl, sym, ap, subst, ◌∙◌, append-nil, append_assoc, arith}
+use Rattle.std.proofs.Common.{◌≡◌, ℕ, zero, suc, ◌+◌, List, [], ◌∷◌, ◌++◌, length, map as each, refl, sym, ap, subst, ◌∙◌, append-nil, append_assoc, arith}
 use Rattle.std.specs.Prelude.{count_by}
 use Rattle.std.specs.Ordering.{nat_cmp}
 use Rattle.std.specs.FinMap.{FinMap}
@@ -19,6 +19,7 @@ use Rattle.rendezvous.specs.Line.{Seen}
 use Rattle.thread_slots.specs.Slot.{Slot}
 use Rattle.plain_language.specs.Standing.{event}
 use Rattle.step_eval.specs.ControlView.{ControlView}
+use Rattle.print_log.specs.Log.{Print, values}
 use Rattle.commit_book.specs.declared.counts.Tallies.{Tallies}
 use Rattle.commit_book.specs.declared.parts.Parts.{Parts}
 use Rattle.commit_book.specs.Acting.{AreAsBefore, IsLonger}
@@ -28,6 +29,7 @@ use Rattle.commit_book.specs.Layout.{IsKept, view_of, without_spare}
 use Rattle.commit_book.specs.Rows.{local_of, thread, events_by}
 use Rattle.commit_book.proofs.KeptLocal.{IsBegun}
 use Rattle.commit_book.proofs.KeptSteps.{IsPushed}
+use Rattle.commit_book.proofs.Prints.{same_prints}
 use Rattle.commit_book.proofs.SeenRead.{same_read}
 use Rattle.commit_book.proofs.Pushing.{local_some}
 
@@ -47,22 +49,27 @@ seen job h a q o k r s g p n c f y = record {
   answered = record { commits = y.commits; stale = y.stale };
 }
 
+printed_same : (old new : Parts) → AreAsBefore old new → values new.printed ≡ values old.printed
+printed_same old new before =
+    ap (λ fs. fs ++ each (λ (p : Print). p.value) new.printed.recent) before.finals
+    ∙ ap (λ ps. old.printed.finals ++ each (λ (p : Print). p.value) ps) before.recent
+
 -- room isn't seen
 pub view_same : (job : JobParts) (old new : Parts) → AreAsBefore old new → view_of job new ≡ view_of job old
 view_same job old new before =
-    ap (λ x. seen job x new.slots.threads new.slots.queue new.offers new.log.last_cut new.log.references new.store.controls new.graph.nodes new.printed.items new.slots.next new.next_chan new.next_ref new.tallies) (ap without_spare before.history)
-    ∙ ap (λ x. seen job (without_spare old.history) x new.slots.queue new.offers new.log.last_cut new.log.references new.store.controls new.graph.nodes new.printed.items new.slots.next new.next_chan new.next_ref new.tallies) before.threads
-    ∙ ap (λ x. seen job (without_spare old.history) old.slots.threads x new.offers new.log.last_cut new.log.references new.store.controls new.graph.nodes new.printed.items new.slots.next new.next_chan new.next_ref new.tallies) before.queue
-    ∙ ap (λ x. seen job (without_spare old.history) old.slots.threads old.slots.queue x new.log.last_cut new.log.references new.store.controls new.graph.nodes new.printed.items new.slots.next new.next_chan new.next_ref new.tallies) before.offers
-    ∙ ap (λ x. seen job (without_spare old.history) old.slots.threads old.slots.queue old.offers x new.log.references new.store.controls new.graph.nodes new.printed.items new.slots.next new.next_chan new.next_ref new.tallies) before.last_cut
-    ∙ ap (λ x. seen job (without_spare old.history) old.slots.threads old.slots.queue old.offers old.log.last_cut x new.store.controls new.graph.nodes new.printed.items new.slots.next new.next_chan new.next_ref new.tallies) before.references
-    ∙ ap (λ x. seen job (without_spare old.history) old.slots.threads old.slots.queue old.offers old.log.last_cut old.log.references x new.graph.nodes new.printed.items new.slots.next new.next_chan new.next_ref new.tallies) before.saved
-    ∙ ap (λ x. seen job (without_spare old.history) old.slots.threads old.slots.queue old.offers old.log.last_cut old.log.references old.store.controls x new.printed.items new.slots.next new.next_chan new.next_ref new.tallies) before.nodes
-    ∙ ap (λ x. seen job (without_spare old.history) old.slots.threads old.slots.queue old.offers old.log.last_cut old.log.references old.store.controls old.graph.nodes x new.slots.next new.next_chan new.next_ref new.tallies) before.printed
-    ∙ ap (λ x. seen job (without_spare old.history) old.slots.threads old.slots.queue old.offers old.log.last_cut old.log.references old.store.controls old.graph.nodes old.printed.items x new.next_chan new.next_ref new.tallies) before.next
-    ∙ ap (λ x. seen job (without_spare old.history) old.slots.threads old.slots.queue old.offers old.log.last_cut old.log.references old.store.controls old.graph.nodes old.printed.items old.slots.next x new.next_ref new.tallies) before.chan
-    ∙ ap (λ x. seen job (without_spare old.history) old.slots.threads old.slots.queue old.offers old.log.last_cut old.log.references old.store.controls old.graph.nodes old.printed.items old.slots.next old.next_chan x new.tallies) before.ref
-    ∙ ap (λ x. seen job (without_spare old.history) old.slots.threads old.slots.queue old.offers old.log.last_cut old.log.references old.store.controls old.graph.nodes old.printed.items old.slots.next old.next_chan old.next_ref x) before.tallies
+    ap (λ x. seen job x new.slots.threads new.slots.queue new.offers new.log.last_cut new.log.references new.store.controls new.graph.nodes (values new.printed) new.slots.next new.next_chan new.next_ref new.tallies) (ap without_spare before.history)
+    ∙ ap (λ x. seen job (without_spare old.history) x new.slots.queue new.offers new.log.last_cut new.log.references new.store.controls new.graph.nodes (values new.printed) new.slots.next new.next_chan new.next_ref new.tallies) before.threads
+    ∙ ap (λ x. seen job (without_spare old.history) old.slots.threads x new.offers new.log.last_cut new.log.references new.store.controls new.graph.nodes (values new.printed) new.slots.next new.next_chan new.next_ref new.tallies) before.queue
+    ∙ ap (λ x. seen job (without_spare old.history) old.slots.threads old.slots.queue x new.log.last_cut new.log.references new.store.controls new.graph.nodes (values new.printed) new.slots.next new.next_chan new.next_ref new.tallies) before.offers
+    ∙ ap (λ x. seen job (without_spare old.history) old.slots.threads old.slots.queue old.offers x new.log.references new.store.controls new.graph.nodes (values new.printed) new.slots.next new.next_chan new.next_ref new.tallies) before.last_cut
+    ∙ ap (λ x. seen job (without_spare old.history) old.slots.threads old.slots.queue old.offers old.log.last_cut x new.store.controls new.graph.nodes (values new.printed) new.slots.next new.next_chan new.next_ref new.tallies) before.references
+    ∙ ap (λ x. seen job (without_spare old.history) old.slots.threads old.slots.queue old.offers old.log.last_cut old.log.references x new.graph.nodes (values new.printed) new.slots.next new.next_chan new.next_ref new.tallies) before.saved
+    ∙ ap (λ x. seen job (without_spare old.history) old.slots.threads old.slots.queue old.offers old.log.last_cut old.log.references old.store.controls x (values new.printed) new.slots.next new.next_chan new.next_ref new.tallies) before.nodes
+    ∙ ap (λ x. seen job (without_spare old.history) old.slots.threads old.slots.queue old.offers old.log.last_cut old.log.references old.store.controls old.graph.nodes x new.slots.next new.next_chan new.next_ref new.tallies) (printed_same old new before)
+    ∙ ap (λ x. seen job (without_spare old.history) old.slots.threads old.slots.queue old.offers old.log.last_cut old.log.references old.store.controls old.graph.nodes (values old.printed) x new.next_chan new.next_ref new.tallies) before.next
+    ∙ ap (λ x. seen job (without_spare old.history) old.slots.threads old.slots.queue old.offers old.log.last_cut old.log.references old.store.controls old.graph.nodes (values old.printed) old.slots.next x new.next_ref new.tallies) before.chan
+    ∙ ap (λ x. seen job (without_spare old.history) old.slots.threads old.slots.queue old.offers old.log.last_cut old.log.references old.store.controls old.graph.nodes (values old.printed) old.slots.next old.next_chan x new.tallies) before.ref
+    ∙ ap (λ x. seen job (without_spare old.history) old.slots.threads old.slots.queue old.offers old.log.last_cut old.log.references old.store.controls old.graph.nodes (values old.printed) old.slots.next old.next_chan old.next_ref x) before.tallies
 
 pub kept_same : (job : JobParts) (old new : Parts) → AreAsBefore old new → IsKept job old → IsKept job new
 kept_same job old new before kept = record {
@@ -79,6 +86,7 @@ kept_same job old new before kept = record {
         ∙ sym (ap (faulted_in job.program new.slots.threads) before.next);
   };
   read = same_read old new before kept.read;
+  prints = same_prints old new before kept.prints;
 }
 
 events_same : (old new : Parts) → AreAsBefore old new → new.history.events ≡ old.history.events
@@ -97,10 +105,10 @@ abbrev with_history : BookView → Journal → BookView
 with_history b j = record b { history = j }
 
 -- what callers see where nothing was printed
-pub unprinted : (job : JobParts) (begins done : Parts) → view_of job done ≡ record (view_of job begins) { history = without_spare done.history } → view_of job done ≡ record (view_of job begins) { history = without_spare done.history; printed = done.printed.items }
+pub unprinted : (job : JobParts) (begins done : Parts) → view_of job done ≡ record (view_of job begins) { history = without_spare done.history } → view_of job done ≡ record (view_of job begins) { history = without_spare done.history; printed = (values done.printed) }
 unprinted job begins done is =
-    let same : begins.printed.items ≡ done.printed.items = sym (ap (λ (b : BookView). b.printed) is) in
-    let also : record (view_of job begins) { history = without_spare done.history } ≡ record (view_of job begins) { history = without_spare done.history; printed = done.printed.items } = ap (with_printed (with_history (view_of job begins) (without_spare done.history))) same in
+    let same : (values begins.printed) ≡ (values done.printed) = sym (ap (λ (b : BookView). b.printed) is) in
+    let also : record (view_of job begins) { history = without_spare done.history } ≡ record (view_of job begins) { history = without_spare done.history; printed = (values done.printed) } = ap (with_printed (with_history (view_of job begins) (without_spare done.history))) same in
     is ∙ also
 
 -- the pure steps were pushed once there was room

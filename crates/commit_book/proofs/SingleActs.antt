@@ -23,6 +23,7 @@ use Rattle.plain_language.specs.Plain.{PlainState, standing}
 use Rattle.plain_language.specs.Steps.{Effect, apply}
 use Rattle.step_eval.specs.ControlView.{ControlView, Fits, expr_of}
 use Rattle.step_eval.specs.Progress.{ProgressView}
+use Rattle.print_log.specs.Log.{Prints}
 use Rattle.commit_book.specs.declared.counts.Tallies.{Tallies}
 use Rattle.commit_book.specs.declared.parts.Parts.{Parts}
 use Rattle.commit_book.specs.Acting.{AreAsBefore, HasGoneOn, IsDone, IsLonger, MayAct, MayBegin, fails_now}
@@ -36,6 +37,7 @@ use Rattle.commit_book.specs.Rows.{alone, local_of, thread}
 use Rattle.commit_book.specs.Step.{next_seq}
 use Rattle.commit_book.proofs.Adding.{resting_ended, resting_state, resting_unparked}
 use Rattle.commit_book.proofs.SeenAfter.{begun_of, journal_after}
+use Rattle.commit_book.proofs.Prints.{IsPrintedBy, begun_prints, stepped_prints}
 use Rattle.commit_book.proofs.SeenRead.{begun_read, stepped_read}
 use Rattle.commit_book.proofs.Faulted.{faulted_goes}
 use Rattle.commit_book.proofs.Going.{apply_one, get_other, shows_alone, still_put_back}
@@ -148,6 +150,7 @@ module _ (job : JobParts) (old : Parts) (lease : LeaseView) (progress : Progress
       pub journal : ShowsJournal (view_of job done) (ready_at.run ++ numbered (next_seq (view_of job begins)) l ∷ []) (apply ready_at.state l e)
       pub slots : done.slots ≡ begins.slots
       pub rollback : done.rollback ≡ begins.rollback
+      pub prints : IsPrintedBy begins.printed done.printed (length begins.history.events + 1) l
       pub probes : done.tallies ≡ record begins.tallies { probes = begins.tallies.probes + length (probed_by (Step l)) }
 
     -- so it was, and the thread, which stood at no offer and wasn't over, stands at the control c
@@ -273,4 +276,8 @@ module _ (job : JobParts) (old : Parts) (lease : LeaseView) (progress : Progress
             read =
                 stepped_read begins new lease.worker l longer_now is.stepped.uncut (ap (λ (k : Parts). k.rollback) is.gone.rest ∙ is.stepped.rollback)
                 (begun_read old planned begins lease.worker lease.thread progress.steps before longer rest may.kept.read);
+            prints =
+                stepped_prints begins new lease.worker l longer_now is.stepped.uncut
+                (subst (λ (k : Prints). IsPrintedBy begins.printed k (length begins.history.events + 1) l) (sym (ap (λ (k : Parts). k.printed) is.gone.rest)) is.stepped.prints)
+                (begun_prints old planned begins lease.worker lease.thread progress.steps before longer rest may.kept.prints);
           }

@@ -31,6 +31,7 @@ use Rattle.step_eval.specs.Acts.{act_of, first_of, second_of}
 use Rattle.step_eval.specs.Asked.{operands_of}
 use Rattle.step_eval.specs.ControlView.{expr_of}
 use Rattle.step_eval.specs.Progress.{ProgressView}
+use Rattle.print_log.specs.Log.{values}
 use Rattle.commit_book.specs.declared.counts.Tallies.{Tallies}
 use Rattle.commit_book.specs.declared.parts.Parts.{Parts}
 use Rattle.commit_book.specs.Acting.{AreAsBefore, IsLonger, MayAct, StandsAt}
@@ -46,6 +47,7 @@ use Rattle.commit_book.proofs.JournalSteps.{journal_step}
 use Rattle.commit_book.proofs.KeptLocal.{IsReady}
 use Rattle.commit_book.proofs.KeptParts.{writes_made, writes_wrote}
 use Rattle.commit_book.proofs.KeptSteps.{attempt_plain, probe_plain, refuse_plain, plain_step, pin_step, enter_step, get_step, ref_step, set_step, script_now}
+use Rattle.commit_book.proofs.Prints.{unprinting}
 use Rattle.commit_book.proofs.SeenAfter.{pushed_of, unprinted}
 use Rattle.commit_book.proofs.SingleActs.{IsStepped, low_at, ready_at}
 
@@ -82,10 +84,11 @@ module _ (job : JobParts) (old : Parts) (lease : LeaseView) (progress : Progress
               (plain_step (view_of job begins) (view_of job done) ready.run ready.state lease.worker ready.journal l (to (language_of job.program) (failed NoSection)) (refuse_plain (thread lease.thread)) pushed
               (record { threads = (low_now, tt); chans = tt; refs = tt })
               (script_now (view_of job begins) (view_of job done) ready.run ready.state lease.worker ready.journal l pushed refl)
-              (ap (λ b. b.printed) seen ∙ sym (append-nil begins.printed.items))
+              (ap (λ b. b.printed) seen ∙ sym (append-nil (values begins.printed)))
               (unprinted job begins done seen));
           slots = ap (λ k. k.slots) is;
           rollback = ap (λ k. k.rollback) is;
+          prints = unprinting begins.printed done.printed (length begins.history.events + 1) l refl (ap (λ (k : Parts). k.printed) is);
           probes = ap (λ k. k.tallies) is ∙ none_more begins.tallies;
         }
 
@@ -109,10 +112,11 @@ module _ (job : JobParts) (old : Parts) (lease : LeaseView) (progress : Progress
               (plain_step (view_of job begins) (view_of job done) ready.run ready.state lease.worker ready.journal l e (attempt_plain (thread lease.thread) g) pushed
               (record { threads = (low_now, tt); chans = tt; refs = tt })
               (script_now (view_of job begins) (view_of job done) ready.run ready.state lease.worker ready.journal l pushed refl)
-              (ap (λ b. b.printed) seen ∙ sym (append-nil begins.printed.items))
+              (ap (λ b. b.printed) seen ∙ sym (append-nil (values begins.printed)))
               (unprinted job begins done seen));
           slots = ap (λ k. k.slots) is;
           rollback = ap (λ k. k.rollback) is;
+          prints = unprinting begins.printed done.printed (length begins.history.events + 1) l refl (ap (λ (k : Parts). k.printed) is);
           probes = ap (λ k. k.tallies) is ∙ none_more begins.tallies;
         }
 
@@ -137,10 +141,11 @@ module _ (job : JobParts) (old : Parts) (lease : LeaseView) (progress : Progress
               (record { threads = (low_now, tt); chans = tt; refs = tt })
               (subst (λ (es : List Event). FollowsScript job.script es) (sym pushed.events)
               (script_probe job.script begins.history.events (event lease.worker (Step l)) i refl next ready.journal.script))
-              (ap (λ b. b.printed) seen ∙ sym (append-nil begins.printed.items))
+              (ap (λ b. b.printed) seen ∙ sym (append-nil (values begins.printed)))
               (unprinted job begins done seen));
           slots = ap (λ k. k.slots) is;
           rollback = ap (λ k. k.rollback) is;
+          prints = unprinting begins.printed done.printed (length begins.history.events + 1) l refl (ap (λ (k : Parts). k.printed) is);
           probes = ap (λ k. k.tallies) is;
         }
 
@@ -164,6 +169,7 @@ module _ (job : JobParts) (old : Parts) (lease : LeaseView) (progress : Progress
               (pushed_of job begins done lease.worker l history) low_now refl nodes (ap (view_of job) is));
           slots = ap (λ k. k.slots) is;
           rollback = ap (λ k. k.rollback) is;
+          prints = unprinting begins.printed done.printed (length begins.history.events + 1) l refl (ap (λ (k : Parts). k.printed) is);
           probes = ap (λ k. k.tallies) is ∙ none_more begins.tallies;
         }
 
@@ -188,6 +194,7 @@ module _ (job : JobParts) (old : Parts) (lease : LeaseView) (progress : Progress
               (pushed_of job begins done lease.worker l history) low_now refl (sym ready.stands) may.made.fits saved nodes (ap (view_of job) is));
           slots = ap (λ k. k.slots) is;
           rollback = ap (λ k. k.rollback) is;
+          prints = unprinting begins.printed done.printed (length begins.history.events + 1) l refl (ap (λ (k : Parts). k.printed) is);
           probes = ap (λ k. k.tallies) is ∙ none_more begins.tallies;
         }
 
@@ -213,6 +220,7 @@ module _ (job : JobParts) (old : Parts) (lease : LeaseView) (progress : Progress
               (pushed_of job begins done lease.worker l history) low_now there refl (sym ready.stands) may.made.fits saved last nodes (ap (view_of job) is));
           slots = ap (λ k. k.slots) is;
           rollback = ap (λ k. k.rollback) is;
+          prints = unprinting begins.printed done.printed (length begins.history.events + 1) l refl (ap (λ (k : Parts). k.printed) is);
           probes = ap (λ k. k.tallies) is ∙ none_more begins.tallies;
         }
 
@@ -242,6 +250,7 @@ module _ (job : JobParts) (old : Parts) (lease : LeaseView) (progress : Progress
               (seen ∙ uncut_by));
           slots = ap (λ k. k.slots) is;
           rollback = ap (λ k. k.rollback) is;
+          prints = unprinting begins.printed done.printed (length begins.history.events + 1) l refl (ap (λ (k : Parts). k.printed) is);
           probes = ap (λ k. k.tallies) is ∙ none_more begins.tallies;
         }
 
@@ -273,5 +282,6 @@ module _ (job : JobParts) (old : Parts) (lease : LeaseView) (progress : Progress
               (seen ∙ uncut_by));
           slots = ap (λ k. k.slots) is;
           rollback = ap (λ k. k.rollback) is;
+          prints = unprinting begins.printed done.printed (length begins.history.events + 1) l refl (ap (λ (k : Parts). k.printed) is);
           probes = ap (λ k. k.tallies) is ∙ none_more begins.tallies;
         }

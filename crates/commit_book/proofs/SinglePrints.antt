@@ -1,5 +1,5 @@
 -- The step of a print, from what its calls leave.
-use Rattle.std.proofs.Common.{◌≡◌, ℕ, ◌≤◌, [], ◌∷◌, ◌++◌, Some, refl, ap, ◌∙◌, arith}
+use Rattle.std.proofs.Common.{◌≡◌, ℕ, ◌+◌, ◌≤◌, [], ◌∷◌, length, Some, refl, ap, ◌∙◌, arith}
 use Rattle.stab_base.specs.Datum.{unit}
 use Rattle.stab_code.specs.JobParts.{JobParts}
 use Rattle.stab_journal.specs.declared.event.Label.TheVariants.{Print}
@@ -19,6 +19,7 @@ use Rattle.commit_book.proofs.Effects.{print_effect}
 use Rattle.commit_book.proofs.JournalSteps.{journal_step}
 use Rattle.commit_book.proofs.KeptLocal.{IsReady}
 use Rattle.commit_book.proofs.KeptSteps.{plain_step, print_plain, script_now}
+use Rattle.commit_book.proofs.Prints.{IsPutBehind, printing, values_more}
 use Rattle.commit_book.proofs.SeenAfter.{pushed_of}
 use Rattle.commit_book.proofs.SingleActs.{IsStepped, ready_at}
 use Rattle.commit_book.proofs.SingleLabels.{none_more, low_now}
@@ -33,7 +34,7 @@ module _ (job : JobParts) (old : Parts) (lease : LeaseView) (progress : Progress
 
   pub printed_at : (done : Parts) → StandsAt job.program progress.end own.Print
       → IsLonger begins.history done.history lease.worker (Print (thread lease.thread) ∷ [])
-      → done.printed.items ≡ begins.printed.items ++ first_of (operands_of progress.end) ∷ []
+      → IsPutBehind begins.printed done.printed (length begins.history.events + 1) (first_of (operands_of progress.end))
       → done ≡ record begins { history = done.history; printed = done.printed }
       → IsStepped job old lease progress may planned begins before longer rest done (Print (thread lease.thread)) (record { mine = answered (expr_of job.program progress.end) unit; other = expr_of job.program progress.end; value = unit; printed = first_of (operands_of progress.end) ∷ [] })
   printed_at done at history printed is =
@@ -50,9 +51,10 @@ module _ (job : JobParts) (old : Parts) (lease : LeaseView) (progress : Progress
             (plain_step (view_of job begins) (view_of job done) ready.run ready.state lease.worker ready.journal l (record { mine = answered (expr_of job.program progress.end) unit; other = expr_of job.program progress.end; value = unit; printed = first_of (operands_of progress.end) ∷ [] }) (print_plain (thread lease.thread)) pushed
             (record { threads = (low_now job old lease progress may planned begins before longer rest, tt); chans = tt; refs = tt })
             (script_now (view_of job begins) (view_of job done) ready.run ready.state lease.worker ready.journal l pushed refl)
-            printed
+            (values_more begins.printed done.printed (length begins.history.events + 1) (first_of (operands_of progress.end)) printed)
             (ap (view_of job) is));
         slots = ap (λ k. k.slots) is;
         rollback = ap (λ k. k.rollback) is;
+        prints = printing begins.printed done.printed (length begins.history.events + 1) (first_of (operands_of progress.end)) l refl printed;
         probes = ap (λ k. k.tallies) is ∙ none_more begins.tallies;
       }

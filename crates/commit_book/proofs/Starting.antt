@@ -1,5 +1,5 @@
 -- A book shows its start.
-use Rattle.std.proofs.Common.{◌≡◌, inl, ℕ, zero, suc, ◌+◌, max, ℤ, Bool, true, false, cond, nat_eq, List, [], ◌∷◌, ◌++◌, length, Option, Some, None, refl, sym, ap, subst, ◌∙◌, arith}
+use Rattle.std.proofs.Common.{◌≡◌, inl, ℕ, zero, suc, ◌+◌, max, ℤ, Bool, true, false, cond, nat_eq, List, [], ◌∷◌, ◌++◌, length, map as each, Option, Some, None, refl, sym, ap, subst, ◌∙◌, arith}
 use Rattle.std.specs.Prelude.{IfSome, IsSomeAnd, count_by, is_some, option_and_then, option_map, slice_get, unwrap_or, nat_lt, if◌then◌else◌}
 use Rattle.std.specs.List.{IsDistinct}
 use Rattle.std.specs.Option.{option_map_or}
@@ -10,9 +10,11 @@ use Rattle.std.specs.FinSet as set
 use Rattle.stab_code.specs.JobParts.{JobParts}
 use Rattle.stab_code.specs.Program.{ProgramParts}
 use Rattle.stab_journal.specs.declared.event.Event.{Event}
+use Rattle.stab_journal.specs.declared.event.Numbered.{Numbered}
 use Rattle.stab_journal.specs.Generation.{generation}
 use Rattle.stab_journal.specs.Due.{final_prints, released}
-use Rattle.stab_journal.specs.Journal.{survivors_from}
+use Rattle.stab_journal.specs.Floor.{floor}
+use Rattle.stab_journal.specs.Journal.{survivors, survivors_from}
 use Rattle.stab_journal.specs.Script.{FollowsScript, script_at, probed}
 use Rattle.thread_slots.specs.Slot.{Slot, started, same_state}
 use Rattle.thread_slots.specs.declared.state.State.TheVariants.{Parked}
@@ -26,12 +28,14 @@ use Rattle.plain_language.specs.Plain.{start}
 use Rattle.plain_language.specs.Standing.{StandsFor, nothing}
 use Rattle.plain_language.proofs.Applying.{get_inserted}
 use Rattle.step_eval.specs.ControlView.{ControlView, Fits, RedexIsFound, expr_of}
+use Rattle.print_log.specs.Log.{Print}
 use Rattle.commit_book.specs.declared.parts.Parts.{Parts}
 use Rattle.commit_book.specs.Book.{ShowsJournal, ShowsThreads, ShowsRun, over, offered}
 use Rattle.commit_book.specs.Counts.{faulted_in, is_undo}
 use Rattle.commit_book.specs.Doing.{IsDoing, is_over, is_failed, waits_with}
 use Rattle.commit_book.specs.Layout.{AreTallied, IsKept, view_of}
 use Rattle.commit_book.specs.Numbers.{greatest, threads_by, named_by, chans_in, refs_in}
+use Rattle.commit_book.specs.Printing.{ArePrints, numbers_of, prints_above}
 use Rattle.commit_book.specs.Started.{IsStarted}
 use Rattle.commit_book.proofs.ReadKept.{read_none_yet}
 
@@ -109,7 +113,7 @@ start_journal job parts is = let p = job.program in record {
   channels = λ c. ap (λ m. map.contains_key m c) is.lines ∙ ap is_some (get-empty nat_cmp c) ∙ sym (set.contains-empty nat_cmp c);
   writes = record { cut = is.last_cut; writes = is.writes };
   references = λ r. ap (λ ws. option_map (λ w. w.value) (last_of ws)) (is.writes r) ∙ sym (get-empty nat_cmp r);
-  printed = is.printed;
+  printed = ap (λ fs. fs ++ each (λ (p : Print). p.value) parts.printed.recent) is.finals ∙ ap (each (λ (p : Print). p.value)) is.recent;
   next = record {
     thread = is.next ∙ sym (ap (λ es. max 1 (greatest threads_by es) + 1) is.events);
     chan = is.chan ∙ sym (ap (λ es. greatest (named_by chans_in) es + 1) is.events);
@@ -163,5 +167,13 @@ start_tallied p parts is = record {
   faulted = ap (λ t. t.faulted) is.tallies ∙ sym (ap (λ n. faulted_in p parts.slots.threads n) is.next ∙ ap (λ m. faulted_in p m 2) is.threads ∙ at_one (λ slot. is_failed (expr_of p slot.control)) (started is.main (is_over (expr_of p is.main))));
 }
 
+pub start_prints : (p : ProgramParts) (parts : Parts) → IsStarted p parts → ArePrints parts.history parts.printed
+start_prints p parts is =
+    let none : survivors parts.history ≡ [] = ap (survivors_from parts.history.struck 1) is.events in
+    record {
+      finals = ap length is.finals ∙ sym (ap final_prints none);
+      recent = ap numbers_of is.recent ∙ sym (ap (λ (run : List Numbered). prints_above (floor run) run) none);
+    }
+
 pub start_kept : (job : JobParts) (parts : Parts) → IsStarted job.program parts → IsKept job parts
-start_kept job parts is = record { valid = is.valid; shown = record { run = []; state = start job.program; shows = start_shown job parts is }; tallied = start_tallied job.program parts is; read = read_none_yet parts.history parts.rollback (ap (survivors_from parts.history.struck 1) is.events) is.unread }
+start_kept job parts is = record { valid = is.valid; shown = record { run = []; state = start job.program; shows = start_shown job parts is }; tallied = start_tallied job.program parts is; read = read_none_yet parts.history parts.rollback (ap (survivors_from parts.history.struck 1) is.events) is.unread; prints = start_prints job.program parts is }

@@ -1,6 +1,6 @@
 -- Of the printed values those stay whose prints stay, of which only the ones since the last cut need to be known.
 use Rattle.std.proofs.Common.{◌≡◌, ℕ, suc, ◌+◌, ◌-◌, ◌<◌, ◌≤◌, Bool, true, false, cond, not, ◌&&◌, List, [], ◌∷◌, ◌++◌, length, take, drop, map as each, Option, Some, None, refl, sym, ap, ◌∙◌, append_assoc, length-append, arith}
-use Rattle.std.specs.Prelude.{filter, nat_le, nat_lt}
+use Rattle.std.specs.Prelude.{filter, nat_lt}
 use Rattle.std.specs.List.{AllByRecursion}
 use Rattle.std.proofs.lemmas.Bool.Decides.{nat_tests}
 use Rattle.stab_base.specs.Datum.{Datum}
@@ -13,8 +13,16 @@ use Rattle.plain_language.specs.Steps.{after_steps, effect_in, plain}
 use Rattle.journal_laws.specs.Surviving.{printed_of, prints}
 use Rattle.journal_laws.proofs.Stepping.{step_of}
 use Rattle.journal_laws.proofs.Surviving.{some_is, some_none, no_steps}
-use Rattle.commit_book.specs.OwnSteps.{stay_of, stay_printed, steps_within}
+use Rattle.commit_book.specs.Printing.{prints_above}
 use Rattle.commit_book.proofs.PrintCounts.{effect_long}
+
+-- of printed values, whose last ones have these numbers, those whose prints stay
+abbrev pub stay_of : (ℕ → Bool) → List ℕ → List Datum → List Datum
+stay_of stays (q ∷ qs) (v ∷ vs) = cond (stays q) (v ∷ stay_of stays qs vs) (stay_of stays qs vs)
+stay_of stays _ _ = []
+
+abbrev pub stay_printed : (ℕ → Bool) → List ℕ → List Datum → List Datum
+stay_printed stays qs vs = take (length vs - length qs) vs ++ stay_of stays qs (drop (length vs - length qs) vs)
 
 -- the numbers of all prints of some steps
 abbrev print_numbers : List Numbered → List ℕ
@@ -119,46 +127,39 @@ module _ (p : ProgramParts) where
 lt_is : (a b : ℕ) → a < b → nat_lt a b ≡ true
 lt_is a b h = grind (arith, nat_tests)
 
-le_is : (a b : ℕ) → a ≤ b → nat_le a b ≡ true
-le_is a b h = grind (arith, nat_tests)
-
 is_low : (f k : ℕ) → nat_lt f k ≡ false → k ≤ f
 is_low f k h = grind (arith, nat_tests)
 
 is_high : (f k : ℕ) → nat_lt f k ≡ true → f < k
 is_high f k h = grind (arith, nat_tests)
 
--- a list of numbers up to e
-abbrev pub AreUpTo : ℕ → List Numbered → Type 0
-AreUpTo e ns = AllByRecursion (λ (n : Numbered). n.seq.0 ≤ e) ns
-
-all_high : (f e q : ℕ) (ns : List Numbered) → f < q → RiseFrom q ns → AreUpTo e ns → print_numbers ns ≡ steps_within f e is_print ns
-all_high f e q [] low rise upto = refl
-all_high f e q (n ∷ ns) low rise upto =
+all_high : (f q : ℕ) (ns : List Numbered) → f < q → RiseFrom q ns → print_numbers ns ≡ prints_above f ns
+all_high f q [] low rise = refl
+all_high f q (n ∷ ns) low rise =
     let over : f < n.seq.0 = let first = rise.0 in omega (arith, first, low) in
-    let more : print_numbers ns ≡ steps_within f e is_print ns = all_high f e (suc n.seq.0) ns (omega (arith, over)) rise.1 upto.1 in
-    let passes : (nat_lt f n.seq.0 && nat_le n.seq.0 e && is_print n.label) ≡ is_print n.label = ap (λ b. b && nat_le n.seq.0 e && is_print n.label) (lt_is f n.seq.0 over) ∙ ap (λ b. b && is_print n.label) (le_is n.seq.0 e upto.0) in
-    (elim (is_print n.label) as (λ b. each (λ (k : Numbered). k.seq.0) (cond b (n ∷ filter (λ (k : Numbered). is_print k.label) ns) (filter (λ (k : Numbered). is_print k.label) ns)) ≡ each (λ (k : Numbered). k.seq.0) (cond b (n ∷ filter (λ (k : Numbered). nat_lt f k.seq.0 && nat_le k.seq.0 e && is_print k.label) ns) (filter (λ (k : Numbered). nat_lt f k.seq.0 && nat_le k.seq.0 e && is_print k.label) ns))) [ true ↦ ap (λ l. n.seq.0 ∷ l) more | false ↦ more ])
-    ∙ ap (λ b. each (λ (k : Numbered). k.seq.0) (cond b (n ∷ filter (λ (k : Numbered). nat_lt f k.seq.0 && nat_le k.seq.0 e && is_print k.label) ns) (filter (λ (k : Numbered). nat_lt f k.seq.0 && nat_le k.seq.0 e && is_print k.label) ns))) (sym passes)
+    let more : print_numbers ns ≡ prints_above f ns = all_high f (suc n.seq.0) ns (omega (arith, over)) rise.1 in
+    let passes : (nat_lt f n.seq.0 && is_print n.label) ≡ is_print n.label = ap (λ b. b && is_print n.label) (lt_is f n.seq.0 over) in
+    (elim (is_print n.label) as (λ b. each (λ (k : Numbered). k.seq.0) (cond b (n ∷ filter (λ (k : Numbered). is_print k.label) ns) (filter (λ (k : Numbered). is_print k.label) ns)) ≡ each (λ (k : Numbered). k.seq.0) (cond b (n ∷ filter (λ (k : Numbered). nat_lt f k.seq.0 && is_print k.label) ns) (filter (λ (k : Numbered). nat_lt f k.seq.0 && is_print k.label) ns))) [ true ↦ ap (λ l. n.seq.0 ∷ l) more | false ↦ more ])
+    ∙ ap (λ b. each (λ (k : Numbered). k.seq.0) (cond b (n ∷ filter (λ (k : Numbered). nat_lt f k.seq.0 && is_print k.label) ns) (filter (λ (k : Numbered). nat_lt f k.seq.0 && is_print k.label) ns))) (sym passes)
 
 -- the numbers of the prints: those up to f, and then the others
-record IsSplit (f e : ℕ) (ns : List Numbered) : Type 0 where
+record IsSplit (f : ℕ) (ns : List Numbered) : Type 0 where
   front : List ℕ
-  is : print_numbers ns ≡ front ++ steps_within f e is_print ns
+  is : print_numbers ns ≡ front ++ prints_above f ns
   low : AllByRecursion (λ q. q ≤ f) front
 
-split_at : (f e q : ℕ) (ns : List Numbered) → RiseFrom q ns → AreUpTo e ns → IsSplit f e ns
-split_at f e q [] rise upto = record { front = []; is = refl; low = tt }
-split_at f e q (n ∷ ns) rise upto =
-    elim (nat_lt f n.seq.0) as (λ b. nat_lt f n.seq.0 ≡ b → IsSplit f e (n ∷ ns)) [
-      | true ↦ λ high. record { front = []; is = all_high f e n.seq.0 (n ∷ ns) (is_high f n.seq.0 high) (omega arith, rise.1) upto; low = tt }
+split_at : (f q : ℕ) (ns : List Numbered) → RiseFrom q ns → IsSplit f ns
+split_at f q [] rise = record { front = []; is = refl; low = tt }
+split_at f q (n ∷ ns) rise =
+    elim (nat_lt f n.seq.0) as (λ b. nat_lt f n.seq.0 ≡ b → IsSplit f (n ∷ ns)) [
+      | true ↦ λ high. record { front = []; is = all_high f n.seq.0 (n ∷ ns) (is_high f n.seq.0 high) (omega arith, rise.1); low = tt }
       | false ↦ λ under.
-          let more = split_at f e (suc n.seq.0) ns rise.1 upto.1 in
-          let skips : steps_within f e is_print (n ∷ ns) ≡ steps_within f e is_print ns = ap (λ b. each (λ (k : Numbered). k.seq.0) (cond (b && nat_le n.seq.0 e && is_print n.label) (n ∷ filter (λ (k : Numbered). nat_lt f k.seq.0 && nat_le k.seq.0 e && is_print k.label) ns) (filter (λ (k : Numbered). nat_lt f k.seq.0 && nat_le k.seq.0 e && is_print k.label) ns))) under in
+          let more = split_at f (suc n.seq.0) ns rise.1 in
+          let skips : prints_above f (n ∷ ns) ≡ prints_above f ns = ap (λ b. each (λ (k : Numbered). k.seq.0) (cond (b && is_print n.label) (n ∷ filter (λ (k : Numbered). nat_lt f k.seq.0 && is_print k.label) ns) (filter (λ (k : Numbered). nat_lt f k.seq.0 && is_print k.label) ns))) under in
           by_print n ns more.front more.is more.low (is_low f n.seq.0 under) skips (is_print n.label) refl
     ] refl
   where
-    by_print : (n : Numbered) (ns : List Numbered) (front : List ℕ) → print_numbers ns ≡ front ++ steps_within f e is_print ns → AllByRecursion (λ q. q ≤ f) front → n.seq.0 ≤ f → steps_within f e is_print (n ∷ ns) ≡ steps_within f e is_print ns → (b : Bool) → is_print n.label ≡ b → IsSplit f e (n ∷ ns)
+    by_print : (n : Numbered) (ns : List Numbered) (front : List ℕ) → print_numbers ns ≡ front ++ prints_above f ns → AllByRecursion (λ q. q ≤ f) front → n.seq.0 ≤ f → prints_above f (n ∷ ns) ≡ prints_above f ns → (b : Bool) → is_print n.label ≡ b → IsSplit f (n ∷ ns)
     by_print n ns front is low under skips true prints_it = record {
       front = n.seq.0 ∷ front;
       is = ap (λ b. each (λ (k : Numbered). k.seq.0) (cond b (n ∷ filter (λ (k : Numbered). is_print k.label) ns) (filter (λ (k : Numbered). is_print k.label) ns))) prints_it ∙ ap (λ l. n.seq.0 ∷ l) is ∙ ap (λ l. (n.seq.0 ∷ front) ++ l) (sym skips);
@@ -189,12 +190,12 @@ all_stay f gone above (q ∷ front) low = (
 )
 
 -- what the last prints say of a run's output is what it printed without the steps that go
-pub stay_prints : (p : ProgramParts) (run : List Numbered) (s end : PlainState) (f e : ℕ) (gone : ℕ → Bool) → s.output ≡ [] → RiseFrom 1 run → AreUpTo e run → after_steps (effect_of p) (Some s) run ≡ Some end → ((k : ℕ) → gone k ≡ true → f < k)
-    → stay_printed (λ q. not (gone q)) (steps_within f e is_print run) end.output ≡ prints (effect_of p) gone (Some s) run
-stay_prints p run s end f e gone none rise upto ends above =
-    let qs = steps_within f e is_print run in
+pub stay_prints : (p : ProgramParts) (run : List Numbered) (s end : PlainState) (f : ℕ) (gone : ℕ → Bool) → s.output ≡ [] → RiseFrom 1 run → after_steps (effect_of p) (Some s) run ≡ Some end → ((k : ℕ) → gone k ≡ true → f < k)
+    → stay_printed (λ q. not (gone q)) (prints_above f run) end.output ≡ prints (effect_of p) gone (Some s) run
+stay_prints p run s end f gone none rise ends above =
+    let qs = prints_above f run in
     let vs = all_printed p (Some s) run in
-    let split = split_at f e 1 run rise upto in
+    let split = split_at f 1 run rise in
     let out : end.output ≡ vs = output_is p run s end ends ∙ ap (λ l. l ++ vs) none in
     let long : length vs ≡ length split.front + length qs = as_many p run s end ends ∙ ap length split.is ∙ length-append split.front qs in
     let front : length vs - length qs ≡ length split.front = omega (arith, long) in
@@ -203,12 +204,3 @@ stay_prints p run s end f e gone none rise upto ends above =
     ∙ sym (stay_front (λ q. not (gone q)) split.front qs vs (all_stay f gone above split.front split.low) (omega (arith, long)))
     ∙ ap (λ l. stay_of (λ q. not (gone q)) l vs) (sym split.is)
     ∙ stay_all p gone run s end ends
-
--- no more prints are since the cut than there are values
-pub prints_fit : (p : ProgramParts) (run : List Numbered) (s end : PlainState) (f e : ℕ) → RiseFrom 1 run → AreUpTo e run → after_steps (effect_of p) (Some s) run ≡ Some end → length (steps_within f e is_print run) ≤ length end.output
-prints_fit p run s end f e rise upto ends =
-    let vs = all_printed p (Some s) run in
-    let split = split_at f e 1 run rise upto in
-    let out : length end.output ≡ length s.output + length vs = ap length (output_is p run s end ends) ∙ length-append s.output vs in
-    let long : length vs ≡ length split.front + length (steps_within f e is_print run) = as_many p run s end ends ∙ ap length split.is ∙ length-append split.front (steps_within f e is_print run) in
-    omega (arith, out, long)

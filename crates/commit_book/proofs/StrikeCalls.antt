@@ -1,5 +1,5 @@
 -- One step that is struck, and several one after another.
-use Rattle.std.proofs.Common.{◌≡◌, ◌⊎◌, inl, inr, ℕ, ◌+◌, ◌<◌, Bool, true, false, cond, not, ◌||◌, nat_eq, List, [], ◌∷◌, ◌++◌, length, Option, Some, None, IsSome, refl, sym, ap, subst, ◌∙◌, arith, ◌≤◌, length-append}
+use Rattle.std.proofs.Common.{◌≡◌, ◌⊎◌, inl, inr, ℕ, suc, ◌+◌, ◌<◌, Bool, true, false, cond, not, ◌||◌, nat_eq, List, [], ◌∷◌, ◌++◌, length, Option, Some, None, IsSome, refl, sym, ap, subst, ◌∙◌, arith, ◌≤◌, length-append}
 use Rattle.std.specs.Prelude.{filter}
 use Rattle.std.specs.List.{IsDistinct}
 use Rattle.std.specs.Option.{option_map_or}
@@ -15,18 +15,20 @@ use Rattle.stab_base.specs.declared.numbers.Seq.{Seq}
 use Rattle.stab_journal.specs.declared.event.Event.{Event}
 use Rattle.stab_journal.specs.declared.event.Label.{Label}
 use Rattle.stab_journal.specs.declared.event.Label.TheVariants.{NewRef, Set}
+use Rattle.stab_journal.specs.Due.{is_print}
 use Rattle.stab_journal.specs.Journal.{IsLive, Journal, label_at}
 use Rattle.stab_journal.specs.Label.{written}
 use Rattle.stab_journal.specs.Names.{has, is_at, made}
 use Rattle.reach_line.specs.MarkList.{numbers}
 use Rattle.ref_log.specs.Calls.{IsAllowed, struck}
 use Rattle.ref_log.specs.Log.{Log, Write, has_write, without, writes_of}
+use Rattle.print_log.specs.Log.{Print, has_print, without as without_print}
 use Rattle.rendezvous.specs.Line.{nobody}
 use Rattle.plain_language.proofs.Applying.{contains_inserted}
 use Rattle.journal_laws.proofs.Applying.{or_false}
 use Rattle.commit_book.specs.declared.parts.Parts.{Parts}
 use Rattle.commit_book.specs.declared.rollback.Rollback.{Rollback}
-use Rattle.commit_book.specs.Striking.{AllAreStruck, AreStruck, MayStrike, MayStrikeAll, makes_any, makes_at, writes_at}
+use Rattle.commit_book.specs.Striking.{AllAreStruck, AreStruck, MayStrike, MayStrikeAll, makes_any, makes_at, prints_at, writes_at}
 use Rattle.commit_book.proofs.UndoneMarks.{listed_is}
 use Rattle.commit_book.proofs.UndoneQueue.{all_apart}
 
@@ -60,6 +62,20 @@ none_without q (w ∷ ws) off =
     let parts = or_false (nat_eq q w.number) (has_write q ws) off in
     ap (λ b. cond (not b) (w ∷ without q ws) (without q ws)) parts.0 ∙ ap (λ l. w ∷ l) (none_without q ws parts.1)
 
+-- ---- the prints without one number
+
+print_without : (q : ℕ) (ps : List Print) → filter (λ (p : Print). not (has (q ∷ []) p.number)) ps ≡ without_print q ps
+print_without q [] = refl
+print_without q (p ∷ ps) =
+    ap (λ b. cond (not b) (p ∷ filter (λ (x : Print). not (has (q ∷ []) x.number)) ps) (filter (λ (x : Print). not (has (q ∷ []) x.number)) ps)) (cond_or (nat_eq p.number q) ∙ nat_eq_equiv.symm p.number q)
+    ∙ ap (λ l. cond (not (nat_eq q p.number)) (p ∷ l) l) (print_without q ps)
+
+no_print_without : (q : ℕ) (ps : List Print) → has_print q ps ≡ false → without_print q ps ≡ ps
+no_print_without q [] off = refl
+no_print_without q (p ∷ ps) off =
+    let parts = or_false (nat_eq q p.number) (has_print q ps) off in
+    ap (λ b. cond (not b) (p ∷ without_print q ps) (without_print q ps)) parts.0 ∙ ap (λ l. p ∷ l) (no_print_without q ps parts.1)
+
 -- ---- one step
 
 module _ (old : Parts) (q : ℕ) (may : MayStrike old q) (l : Label) (label : label_at old.history.events q ≡ Some l) where
@@ -77,8 +93,9 @@ module _ (old : Parts) (q : ℕ) (may : MayStrike old q) (l : Label) (label : la
 
   pub one_struck : (new : Parts) → new.history ≡ record old.history { struck = set.insert old.history.struck q } → ((r : ℕ) → writes_of new.log r ≡ cond (is_at (written l) r) (without q (writes_of old.log r)) (writes_of old.log r)) → new.log.last_cut ≡ old.log.last_cut
       → ((c : ℕ) → map.get new.offers.lines c ≡ cond (is_at (made l) c) None (map.get old.offers.lines c)) → new.offers.offers ≡ old.offers.offers → new.rollback ≡ old.rollback
-      → new ≡ record old { history = new.history; log = new.log; offers = new.offers } → AreStruck old new (q ∷ [])
-  one_struck new history writes last_cut lines offers rollback rest = record {
+      → new.printed.finals ≡ old.printed.finals → new.printed.recent ≡ cond (is_print l) (without_print q old.printed.recent) old.printed.recent
+      → new ≡ record old { history = new.history; log = new.log; offers = new.offers; printed = new.printed } → AreStruck old new (q ∷ [])
+  one_struck new history writes last_cut lines offers rollback finals recent rest = record {
     events = ap (λ (j : Journal). j.events) history;
     spare = ap (λ (j : Journal). j.spare) history;
     struck = λ k. ap (λ (j : Journal). set.contains j.struck k) history ∙ contains_inserted old.history.struck q k ∙ ap (λ b. b || set.contains old.history.struck k) (sym (cond_or (nat_eq k q)));
@@ -86,12 +103,22 @@ module _ (old : Parts) (q : ℕ) (may : MayStrike old q) (l : Label) (label : la
     last_cut = last_cut;
     waiting = λ c. lines c ∙ ap (λ b. cond b None (map.get old.offers.lines c)) (sym (or_no (makes_at old.history.events q c) ∙ makes_so c));
     offers = offers;
-    rest = rest ∙ ap (λ (r : Rollback). record old { history = new.history; log = new.log; offers = new.offers; rollback = record old.rollback { lost = r.lost } }) (sym rollback);
+    finals = finals;
+    recent = recent ∙ by_print (is_print l) refl ∙ sym (print_without q old.printed.recent);
+    rest = rest ∙ ap (λ (r : Rollback). record old { history = new.history; log = new.log; offers = new.offers; printed = new.printed; rollback = record old.rollback { lost = r.lost } }) (sym rollback);
   }
     where
       by_write : (r : ℕ) (b : Bool) → is_at (written l) r ≡ b → cond b (without q (writes_of old.log r)) (writes_of old.log r) ≡ without q (writes_of old.log r)
       by_write r true at = refl
       by_write r false off = sym (none_without q (writes_of old.log r) (may.writes r ∙ writes_so r ∙ off))
+
+      by_print : (b : Bool) → is_print l ≡ b → cond b (without_print q old.printed.recent) old.printed.recent ≡ without_print q old.printed.recent
+      by_print true prints = refl
+      by_print false silent = sym (no_print_without q old.printed.recent (unprinted (has_print q old.printed.recent) refl))
+        where
+          unprinted : (b : Bool) → has_print q old.printed.recent ≡ b → b ≡ false
+          unprinted true there = absurd (false≢true (sym silent ∙ sym (ap (λ o. option_map_or is_print o false) label) ∙ may.prints there))
+          unprinted false off = refl
 
       or_no : (b : Bool) → (b || false) ≡ b
       or_no true = refl
@@ -116,6 +143,19 @@ left_more q qs (w ∷ ws) =
     always true = refl
     always false = refl
 
+prints_more : (q : ℕ) (qs : List ℕ) (ps : List Print) → filter (λ (p : Print). not (has (q ∷ []) p.number)) (filter (λ (p : Print). not (has qs p.number)) ps) ≡ filter (λ (p : Print). not (has (q ∷ qs) p.number)) ps
+prints_more q qs [] = refl
+prints_more q qs (p ∷ ps) =
+    let more = prints_more q qs ps in
+    elim (has qs p.number) as (λ b. filter (λ (x : Print). not (has (q ∷ []) x.number)) (cond (not b) (p ∷ filter (λ (x : Print). not (has qs x.number)) ps) (filter (λ (x : Print). not (has qs x.number)) ps)) ≡ cond (not (cond (nat_eq p.number q) true b)) (p ∷ filter (λ (x : Print). not (has (q ∷ qs) x.number)) ps) (filter (λ (x : Print). not (has (q ∷ qs) x.number)) ps)) [
+      | true ↦ more ∙ ap (λ b. cond (not b) (p ∷ filter (λ (x : Print). not (has (q ∷ qs) x.number)) ps) (filter (λ (x : Print). not (has (q ∷ qs) x.number)) ps)) (sym (always (nat_eq p.number q)))
+      | false ↦ ap (λ l. cond (not (cond (nat_eq p.number q) true false)) (p ∷ l) l) more
+    ]
+  where
+    always : (b : Bool) → cond b true true ≡ true
+    always true = refl
+    always false = refl
+
 pub struck_more : (old mid new : Parts) (qs : List ℕ) (q : ℕ) → AreStruck old mid qs → AreStruck mid new (q ∷ []) → AreStruck old new (q ∷ qs)
 struck_more old mid new qs q first then = record {
   events = then.events ∙ first.events;
@@ -129,7 +169,9 @@ struck_more old mid new qs q first then = record {
       ∙ ap (cond (makes_any old.history.events (q ∷ []) c) None) (first.waiting c)
       ∙ by_line (makes_at old.history.events q c) (makes_any old.history.events qs c) (map.get old.offers.lines c);
   offers = then.offers ∙ first.offers;
-  rest = then.rest ∙ ap (λ (x : Parts). record x { history = new.history; log = new.log; offers = new.offers; rollback = record x.rollback { lost = new.rollback.lost } }) first.rest;
+  finals = then.finals ∙ first.finals;
+  recent = then.recent ∙ ap (filter (λ (p : Print). not (has (q ∷ []) p.number))) first.recent ∙ prints_more q qs old.printed.recent;
+  rest = then.rest ∙ ap (λ (x : Parts). record x { history = new.history; log = new.log; offers = new.offers; printed = new.printed; rollback = record x.rollback { lost = new.rollback.lost } }) first.rest;
 }
   where
     by : (a b c : Bool) → (cond a true false || (b || c)) ≡ (cond a true b || c)
@@ -155,15 +197,23 @@ none_left : (ws : List Write) → filter (λ (w : Write). not (has [] w.number))
 none_left [] = refl
 none_left (w ∷ ws) = ap (λ l. w ∷ l) (none_left ws)
 
+none_struck : (ps : List Print) → filter (λ (p : Print). not (has [] p.number)) ps ≡ ps
+none_struck [] = refl
+none_struck (p ∷ ps) = ap (λ l. p ∷ l) (none_struck ps)
+
 pub striking_none : (old : Parts) (lost : List ℕ) → IsStriking old old lost lost 0
 striking_none old lost = record {
   qs = [];
-  struck = record { events = refl; spare = refl; struck = λ k. refl; writes = λ r. sym (none_left (writes_of old.log r)); last_cut = refl; waiting = λ c. refl; offers = refl; rest = refl };
+  struck = record { events = refl; spare = refl; struck = λ k. refl; writes = λ r. sym (none_left (writes_of old.log r)); last_cut = refl; waiting = λ c. refl; offers = refl; finals = refl; recent = sym (none_struck old.printed.recent); rest = refl };
   parts = λ k. refl;
   once = IsDistinct-nil;
   count = refl;
   few = omega arith;
 }
+
+pub numbers_long : (qs : List Seq) → length (numbers qs) ≡ length qs
+numbers_long [] = refl
+numbers_long (q ∷ qs) = ap suc (numbers_long qs)
 
 numbers-append : (xs ys : List Seq) → numbers (xs ++ ys) ≡ numbers xs ++ numbers ys
 numbers-append [] ys = refl
@@ -189,6 +239,22 @@ has_left q qs (w ∷ ws) off =
           ]) ∙ more
     ] refl
 
+-- a print that is left was there
+print_left : (q : ℕ) (qs : List ℕ) (ps : List Print) → has_print q (filter (λ (p : Print). not (has qs p.number)) ps) ≡ true → has_print q ps ≡ true
+print_left q qs [] there = there
+print_left q qs (p ∷ ps) there =
+    elim (has qs p.number) as (λ b. has_print q (cond (not b) (p ∷ filter (λ (x : Print). not (has qs x.number)) ps) (filter (λ (x : Print). not (has qs x.number)) ps)) ≡ true → (nat_eq q p.number || has_print q ps) ≡ true) [
+      | true ↦ λ at. later (nat_eq q p.number) (print_left q qs ps at)
+      | false ↦ elim (nat_eq q p.number) as (λ c. (c || has_print q (filter (λ (x : Print). not (has qs x.number)) ps)) ≡ true → (c || has_print q ps) ≡ true) [
+        | true ↦ λ at. refl
+        | false ↦ λ at. print_left q qs ps at
+      ]
+    ] there
+  where
+    later : (b : Bool) {c : Bool} → c ≡ true → (b || c) ≡ true
+    later true is = refl
+    later false is = is
+
 -- the channel of a struck step
 record Makes (events : List Event) (qs : List ℕ) (c : ℕ) : Type 0 where
   q : ℕ
@@ -213,14 +279,16 @@ module _ (old now mid : Parts) (lost : List ℕ) (left rest : List Seq) (q : Seq
     last_cut = ap (λ (x : Parts). x.log.last_cut) taken ∙ so.struck.last_cut;
     waiting = λ c. ap (λ (x : Parts). map.get x.offers.lines c) taken ∙ so.struck.waiting c;
     offers = ap (λ (x : Parts). x.offers.offers) taken ∙ so.struck.offers;
+    finals = ap (λ (x : Parts). x.printed.finals) taken ∙ so.struck.finals;
+    recent = ap (λ (x : Parts). x.printed.recent) taken ∙ so.struck.recent;
     rest = mid_rest;
   }
     where
-      mid_rest : mid ≡ record old { history = mid.history; log = mid.log; offers = mid.offers; rollback = record old.rollback { lost = mid.rollback.lost } }
+      mid_rest : mid ≡ record old { history = mid.history; log = mid.log; offers = mid.offers; printed = mid.printed; rollback = record old.rollback { lost = mid.rollback.lost } }
       mid_rest =
           taken
           ∙ ap (λ (x : Parts). record x { rollback = record x.rollback { lost = mid.rollback.lost } }) so.struck.rest
-          ∙ ap (λ (x : Parts). record old { history = x.history; log = x.log; offers = x.offers; rollback = record old.rollback { lost = mid.rollback.lost } }) (sym taken)
+          ∙ ap (λ (x : Parts). record old { history = x.history; log = x.log; offers = x.offers; printed = x.printed; rollback = record old.rollback { lost = mid.rollback.lost } }) (sym taken)
 
   -- one fewer is left
   one_fewer : removed + 1 + length (numbers rest) ≤ length lost
@@ -253,6 +321,9 @@ module _ (old now mid : Parts) (lost : List ℕ) (left rest : List Seq) (q : Seq
           live = live;
           above = subst (λ (n : ℕ). n < q.0) (sym struck_mid.last_cut) one.above;
           writes = λ r. ap (has_write q.0) (struck_mid.writes r) ∙ has_left q.0 so.qs (writes_of old.log r) fresh ∙ one.writes r ∙ ap (λ es. writes_at es q.0 r) (sym struck_mid.events);
+          prints = λ there.
+              ap (λ es. prints_at es q.0) struck_mid.events
+              ∙ one.prints (print_left q.0 so.qs old.printed.recent (ap (has_print q.0) (sym struck_mid.recent) ∙ there));
           nobody = λ c makes.
               let makes_before : makes_at old.history.events q.0 c ≡ true = ap (λ es. makes_at es q.0 c) (sym struck_mid.events) ∙ makes in
               struck_mid.waiting c ∙ ap (λ b. cond b None (map.get old.offers.lines c)) (unmade c makes_before) ∙ one.nobody c makes_before;

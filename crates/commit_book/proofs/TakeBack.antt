@@ -172,6 +172,7 @@ module _ (job : JobParts) (old : Parts) (lease : LeaseView) (progress : Progress
       tallied = kept.tallied;
       few = let low = few_now in omega (arith, low);
       read = kept.read;
+      prints = kept.prints;
       room =
           subst (λ (n : ℕ). HasRoomToRead mid.rollback (length mid.history.events) (n - 1)) (sym next_now)
           (room_fewer mid.rollback (length planned.history.events + 1) (length mid.history.events) (planned.slots.next - 1) long_now

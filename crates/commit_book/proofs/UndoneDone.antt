@@ -1,5 +1,5 @@
 -- A section that was taken back, from what its calls leave: the book shows it, what it does, and what is told of it.
-use Rattle.std.proofs.Common.{◌≡◌, ℕ, ◌+◌, ◌-◌, ◌<◌, Bool, true, false, cond, not, ◌&&◌, ◌||◌, nat_eq, List, [], ◌∷◌, ◌++◌, length, take, drop, map as each, Option, Some, None, refl, sym, ap, subst, ◌∙◌, append-nil, arith}
+use Rattle.std.proofs.Common.{◌≡◌, ℕ, ◌+◌, ◌<◌, Bool, true, false, cond, not, ◌&&◌, ◌||◌, nat_eq, List, [], ◌∷◌, ◌++◌, length, map as each, Option, Some, None, refl, sym, ap, ◌∙◌, append-nil, arith}
 use Rattle.std.specs.Prelude.{count_by, filter, is_some, nat_lt, option_and_then, option_map}
 use Rattle.std.specs.Option.{option_map_or}
 use Rattle.std.specs.FinMap as map
@@ -8,7 +8,6 @@ use Rattle.std.specs.Cmp.{nat_eq_equiv}
 use Rattle.std.specs.Prelude.{IfSome}
 use Rattle.std.proofs.lemmas.Bool.{false≢true, eqb-true, and_parts}
 use Rattle.std.proofs.lemmas.List.Sums.{sum_by-append}
-use Rattle.stab_base.specs.Datum.{Datum}
 use Rattle.stab_base.specs.declared.numbers.Seq.{Seq}
 use Rattle.stab_code.specs.JobParts.{JobParts}
 use Rattle.stab_code.specs.Program.{ProgramParts}
@@ -40,22 +39,25 @@ use Rattle.journal_laws.specs.Surviving.{prints}
 use Rattle.journal_laws.proofs.Chains.{or_right}
 use Rattle.journal_laws.proofs.Held.{cuts_hold}
 use Rattle.journal_laws.proofs.Undone.{stands_run}
+use Rattle.print_log.specs.Log.{Print, values}
 use Rattle.commit_book.specs.declared.counts.Tallies.{Tallies}
 use Rattle.commit_book.specs.declared.parts.Parts.{Parts}
 use Rattle.commit_book.specs.Book.{ShowsRun, over}
 use Rattle.commit_book.specs.Counts.{is_faulted_at, is_undo}
 use Rattle.commit_book.specs.Doing.{is_failed, is_over}
 use Rattle.commit_book.specs.Layout.{IsKept, view_of}
-use Rattle.commit_book.specs.OwnSteps.{IsRead, stay_of, stay_printed, stays, steps_within}
+use Rattle.commit_book.specs.OwnSteps.{IsRead}
+use Rattle.commit_book.specs.Printing.{ArePrints, prints_above}
 use Rattle.commit_book.specs.Saved.{saved_of}
 use Rattle.commit_book.specs.Striking.{makes_any, makes_at}
 use Rattle.commit_book.specs.TakenOut.{IsTakenOut}
 use Rattle.commit_book.specs.Undoing.{IsToldOf, reached_nodes}
 use Rattle.commit_book.proofs.EventSteps.{probed_snoc, released_snoc}
 use Rattle.commit_book.proofs.Floors.{not_less}
-use Rattle.commit_book.proofs.LostSteps.{as_many, survivors_up_to, within_step}
+use Rattle.commit_book.proofs.LostSteps.{as_many}
 use Rattle.commit_book.proofs.PrintCounts.{counted}
-use Rattle.commit_book.proofs.StayPrinted.{AreUpTo, stay_prints}
+use Rattle.commit_book.proofs.Prints.{left_prints, left_values}
+use Rattle.commit_book.proofs.StayPrinted.{stay_printed, stay_prints}
 use Rattle.commit_book.proofs.StruckSteps.{IsStepAt, reached_at, survivor_at}
 use Rattle.commit_book.proofs.UndoneBook.{IsCarriedOut, undone, undo_shows}
 use Rattle.commit_book.proofs.UndoneEdges.{marked_at, marks_are, uncut_of}
@@ -77,22 +79,9 @@ left_same : (f g : ℕ → Bool) → ((k : ℕ) → f k ≡ g k) → (ws : List 
 left_same f g same [] = refl
 left_same f g same (w ∷ ws) = ap (λ b. cond (not b) (w ∷ filter (λ (k : Write). not (f k.number)) ws) (filter (λ (k : Write). not (f k.number)) ws)) (same w.number) ∙ ap (λ l. cond (not (g w.number)) (w ∷ l) l) (left_same f g same ws)
 
--- values stay alike where the tests say the same of each listed number
-stay_same : (f g : ℕ → Bool) (qs : List ℕ) (vs : List Datum) → ((q : ℕ) → has qs q ≡ true → f q ≡ g q) → stay_of f qs vs ≡ stay_of g qs vs
-stay_same f g [] vs same = refl
-stay_same f g (q ∷ qs) [] same = refl
-stay_same f g (q ∷ qs) (v ∷ vs) same =
-    let more : stay_of f qs vs ≡ stay_of g qs vs = stay_same f g qs vs (λ k at. same k (later k at)) in
-    ap (λ b. cond b (v ∷ stay_of f qs vs) (stay_of f qs vs)) (same q first) ∙ ap (λ l. cond (g q) (v ∷ l) l) more
-  where
-    first : has (q ∷ qs) q ≡ true
-    first = ap (λ b. cond b true (has qs q)) (same_number q)
-      where
-        same_number : (k : ℕ) → nat_eq k k ≡ true
-        same_number k = nat_eq_equiv.refl k
-
-    later : (k : ℕ) → has qs k ≡ true → has (q ∷ qs) k ≡ true
-    later k at = elim (nat_eq k q) as (λ b. cond b true (has qs k) ≡ true) [ true ↦ refl | false ↦ at ]
+prints_same : (f g : ℕ → Bool) → ((k : ℕ) → f k ≡ g k) → (ps : List Print) → filter (λ (p : Print). not (f p.number)) ps ≡ filter (λ (p : Print). not (g p.number)) ps
+prints_same f g same [] = refl
+prints_same f g same (p ∷ ps) = ap (λ b. cond (not b) (p ∷ filter (λ (k : Print). not (f k.number)) ps) (filter (λ (k : Print). not (f k.number)) ps)) (same p.number) ∙ ap (λ l. cond (not (g p.number)) (p ∷ l) l) (prints_same f g same ps)
 
 -- ---- the channels of struck steps
 
@@ -253,24 +242,18 @@ module _ (job : JobParts) (old : Parts) (kept : IsKept job old) (t m removed wor
       by false (Some l) = refl
 
   -- the prints that stay
-  printed_after : new.printed.items ≡ prints (effect_of p) gone (Some (start p)) run
-  printed_after =
-      let qs = steps_within (floor run) (length old.history.events) is_print run in
-      ap (λ (x : Parts). x.printed.items) more ∙ is.printed
-      ∙ ap (λ (r : List Numbered). stay_printed (stays out.history) (steps_within (floor r) (length old.history.events) is_print r) old.printed.items) run_is
-      ∙ ap (λ l. take (length old.printed.items - length qs) old.printed.items ++ l) (stay_same (stays out.history) (λ q. not (gone q)) qs (drop (length old.printed.items - length qs) old.printed.items) (λ q among. stays_as q (within_step (floor run) (length old.history.events) is_print run q among)))
-      ∙ ap (stay_printed (λ q. not (gone q)) qs) shown.journal.printed
-      ∙ stay_prints p run (start p) s (floor run) (length old.history.events) gone refl stood.rises (run_up_to run_is) stood.ends above
-    where
-      stays_as : (q : ℕ) → IsStepAt kept.shown.run q → stays out.history q ≡ not (has (reached kept.shown.run m) q)
-      stays_as q at = ap not (is.struck q ∙ ap (λ b. b || set.contains old.history.struck q) (same q) ∙ ap (λ b. gone q || b) (journal_at q at).1 ∙ or_no (gone q))
-        where
-          or_no : (b : Bool) → (b || false) ≡ b
-          or_no true = refl
-          or_no false = refl
+  recent_after : new.printed.recent ≡ filter (λ (x : Print). not (gone x.number)) old.printed.recent
+  recent_after = ap (λ (x : Parts). x.printed.recent) more ∙ is.recent ∙ prints_same (has is.gone) gone same old.printed.recent
 
-      run_up_to : survivors old.history ≡ kept.shown.run → AreUpTo (length old.history.events) kept.shown.run
-      run_up_to left = subst (AreUpTo (length old.history.events)) left (survivors_up_to old.history)
+  finals_after : new.printed.finals ≡ old.printed.finals
+  finals_after = ap (λ (x : Parts). x.printed.finals) more ∙ is.finals
+
+  printed_after : values new.printed ≡ prints (effect_of p) gone (Some (start p)) run
+  printed_after =
+      left_values gone old.printed new.printed finals_after recent_after
+      ∙ ap (λ qs. stay_printed (λ q. not (gone q)) qs (values old.printed)) (kept.prints.recent ∙ ap (λ (r : List Numbered). prints_above (floor r) r) run_is)
+      ∙ ap (stay_printed (λ q. not (gone q)) (prints_above (floor run) run)) shown.journal.printed
+      ∙ stay_prints p run (start p) s (floor run) gone refl stood.rises stood.ends above
 
   is_undo_of : IsUndoOf (view_of job old) (view_of job new) kept.shown.run worker t m
   is_undo_of = record {
@@ -328,6 +311,20 @@ module _ (job : JobParts) (old : Parts) (kept : IsKept job old) (t m removed wor
       let one : count_by is_undo (undo_of worker t m ∷ []) ≡ 1 = omega arith in
       omega (arith, sum, one)
 
+  finals_stay : final_prints (survivors new.history) ≡ final_prints (survivors old.history)
+  finals_stay =
+      ap final_prints survivors_after
+      ∙ ap (λ f. count_by (λ (n : Numbered). is_print n.label && nat_lt n.seq.0 f) (without_reached m run)) (floor_rest gone run 0 1 stood.rises above)
+      ∙ finals_rest (floor run) gone above run
+      ∙ sym (ap final_prints run_is)
+
+  prints_left : ArePrints new.history new.printed
+  prints_left =
+      left_prints old.history new.history old.printed new.printed gone
+      (survivors_after ∙ ap (rest gone) (sym run_is))
+      (ap floor survivors_after ∙ floor_rest gone run 0 1 stood.rises above ∙ ap floor (sym run_is))
+      finals_stay finals_after recent_after kept.prints
+
   pub kept_after : IsRead new.history new.rollback → IsKept job new
   kept_after read = record {
     valid = kept.valid;
@@ -336,11 +333,7 @@ module _ (job : JobParts) (old : Parts) (kept : IsKept job old) (t m removed wor
       probes =
           ap (λ k. k.probes) tallies_are ∙ kept.tallied.probes
           ∙ sym (ap (λ es. length (probed es)) events_are ∙ ap length (probed_snoc old.history.events (undo_of worker t m) ∙ append-nil (probed old.history.events)));
-      finals =
-          ap (λ k. k.finals) tallies_are ∙ kept.tallied.finals ∙ ap final_prints run_is
-          ∙ sym (ap final_prints survivors_after
-          ∙ ap (λ f. count_by (λ (n : Numbered). is_print n.label && nat_lt n.seq.0 f) (without_reached m run)) (floor_rest gone run 0 1 stood.rises above)
-          ∙ finals_rest (floor run) gone above run);
+      finals = ap (λ k. k.finals) tallies_are ∙ kept.tallied.finals ∙ sym finals_stay;
       released = ap (λ k. k.released) tallies_are ∙ kept.tallied.released ∙ sym (ap released events_are ∙ released_snoc 0 old.history.events (undo_of worker t m));
       undos = ap (λ k. k.undos) tallies_are ∙ ap (λ n. n + 1) kept.tallied.undos ∙ sym (ap (count_by is_undo) events_are ∙ one_undo);
       faulted =
@@ -350,6 +343,7 @@ module _ (job : JobParts) (old : Parts) (kept : IsKept job old) (t m removed wor
           ∙ ap (λ n. length (numbers (is_faulted_at p new.slots.threads) n)) (sym (ap (λ (x : Parts). x.slots.next) more ∙ is.next));
     };
     read = read;
+    prints = prints_left;
   }
 
   -- ---- what is told

@@ -9,6 +9,8 @@ use Rattle.stab_base.specs.declared.numbers.Seq.{Seq}
 use Rattle.stab_base.specs.declared.numbers.ThreadId.{ThreadId}
 use Rattle.stab_code.specs.Program.{ProgramParts}
 use Rattle.stab_journal.specs.declared.event.Label.{Label}
+use Rattle.stab_journal.specs.declared.event.Numbered.{Numbered}
+use Rattle.stab_journal.specs.Due.{is_print}
 use Rattle.stab_journal.specs.Floor.{floor}
 use Rattle.stab_journal.specs.Journal.{IsLive, Journal, label_at, survivors}
 use Rattle.stab_journal.specs.Label.{written}
@@ -30,17 +32,20 @@ use Rattle.journal_laws.specs.Lost.{is_unmade}
 use Rattle.journal_laws.proofs.Undone.{stands_run}
 use Rattle.std.specs.FinMap.{FinMap}
 use Rattle.std.specs.Ordering.{nat_cmp}
+use Rattle.print_log.specs.Log.{Prints, has_print}
 use Rattle.commit_book.specs.declared.parts.Parts.{Parts}
 use Rattle.commit_book.specs.Book.{BookView}
 use Rattle.commit_book.specs.Counted.{AreFailed}
 use Rattle.commit_book.specs.Counts.{faulted_in, is_faulted_at}
 use Rattle.commit_book.specs.Layout.{view_of}
 use Rattle.commit_book.specs.Numbers.{greatest, threads_by}
+use Rattle.commit_book.specs.Printing.{prints_above}
 use Rattle.commit_book.specs.Saved.{saved_of}
-use Rattle.commit_book.specs.Striking.{MayStrike, MayStrikeAll, makes_at}
+use Rattle.commit_book.specs.Striking.{MayStrike, MayStrikeAll, makes_at, prints_at}
 use Rattle.commit_book.specs.TakenOut.{IsUndoing}
 use Rattle.commit_book.specs.Threads.{AllControls}
 use Rattle.commit_book.proofs.LostSteps.{labelled}
+use Rattle.commit_book.proofs.Prints.{has_numbers, print_at}
 use Rattle.commit_book.proofs.RoomHere.{thread_below}
 use Rattle.commit_book.proofs.StruckSteps.{IsStepAt, kept_written, made_once, made_there, reached_at, survivor_at}
 use Rattle.commit_book.proofs.UndoneEdges.{lost_mark, marks_there, stays_above, uncut_of}
@@ -137,7 +142,7 @@ module _ (old : Parts) (m : ℕ) (qs : List ℕ) (u : IsUndoing old m qs) where
         omega (arith, sum, count)
 
     module _ (now : FinMap nat_cmp (Slot ControlView)) (put : (t : ℕ) → map.get now t ≡ put_back (λ q. saved_of old.store.controls q t) (map.get lines t) (map.get old.slots.threads t))
-        (parts : Parts) (history : parts.history ≡ old.history) (log : parts.log ≡ old.log)
+        (parts : Parts) (history : parts.history ≡ old.history) (log : parts.log ≡ old.log) (printed : parts.printed ≡ old.printed)
         (waiting : (c : ℕ) → map.get parts.offers.lines c ≡ option_map (without_all (is_touched lines)) (map.get old.offers.lines c)) (withdrawn : (t : ℕ) → map.get parts.offers.offers t ≡ cond (is_touched lines t) None (map.get old.offers.offers t)) where
       -- where a reached step stands
       at_step : (q : ℕ) → has (reached u.run m) q ≡ true → IsStepAt u.run q
@@ -163,6 +168,14 @@ module _ (old : Parts) (m : ℕ) (qs : List ℕ) (u : IsUndoing old m qs) where
           nobody_waits b u.run u.state u.shows stood m u.may.revocable qs u.marks lines are now put parts.offers waiting withdrawn c lost
           (ap is_some (waiting c) ∙ line_there (map.get old.offers.lines c) (without_all (is_touched lines)) before)
 
+      -- a kept print is that of a step
+      print_there : (q : ℕ) → has_print q old.printed.recent ≡ true → prints_at parts.history.events q ≡ true
+      print_there q there =
+          let among : has (prints_above (floor u.run) u.run) q ≡ true =
+          ap (λ (r : List Numbered). has (prints_above (floor r) r) q) (sym run_is) ∙ ap (λ l. has l q) (sym u.prints.recent) ∙ sym (has_numbers q old.printed.recent) ∙ there in
+          let s = print_at (floor u.run) u.run q among in
+          ap (λ o. option_map_or is_print o false) (labelled_at q s.at).0 ∙ s.prints
+
       pub may_strike : (q : ℕ) → has (reached u.run m) q ≡ true → MayStrike parts q
       may_strike q goes =
           let at = at_step q goes in
@@ -174,6 +187,7 @@ module _ (old : Parts) (m : ℕ) (qs : List ℕ) (u : IsUndoing old m qs) where
                 ap (λ k. has_write q (writes_of k r)) log ∙ ap (has_write q) (u.shows.journal.writes.writes r)
                 ∙ kept_written (effect_of p) r (floor u.run) u.run (start p) u.state q at stood.rises stood.ends (over_floor q goes)
                 ∙ sym (ap (λ o. option_map_or (λ (l : Label). is_at (written l) r) o false) both.0);
+            prints = λ there. print_there q (ap (λ (k : Prints). has_print q k.recent) (sym printed) ∙ there);
             nobody = λ c makes. nobody_on q c goes at (makes_it q c at makes);
           }
 

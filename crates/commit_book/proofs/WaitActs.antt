@@ -32,6 +32,7 @@ use Rattle.commit_book.proofs.Going.{get_other, shows_parked}
 use Rattle.commit_book.proofs.KeptLocal.{IsReady}
 use Rattle.commit_book.proofs.Parking.{MayPark}
 use Rattle.commit_book.proofs.Partners.{IsUnmet, no_offer, parked_unqueued, some_offer}
+use Rattle.commit_book.proofs.Prints.{begun_prints, still_prints}
 use Rattle.commit_book.proofs.SeenAfter.{journal_after}
 use Rattle.commit_book.proofs.SeenRead.{begun_read, still_read}
 use Rattle.commit_book.proofs.SingleActs.{IsAt, doing_at, low_at, slot_at}
@@ -231,6 +232,9 @@ module _ (job : JobParts) (old : Parts) (lease : LeaseView) (progress : Progress
           read =
               still_read begins new history_is (ap (λ (k : Parts). k.rollback) is.slots_alone)
               (begun_read old (record planned { offers = old.offers }) (record begins { offers = old.offers }) lease.worker lease.thread progress.steps is.before is.longer (ap (λ (k : Parts). record k { offers = old.offers }) is.rest) may.kept.read);
+          prints =
+              still_prints begins new history_is (ap (λ (k : Parts). k.printed) is.slots_alone)
+              (begun_prints old (record planned { offers = old.offers }) (record begins { offers = old.offers }) lease.worker lease.thread progress.steps is.before is.longer (ap (λ (k : Parts). record k { offers = old.offers }) is.rest) may.kept.prints);
         }
 
     pub done_parked : IsDone job old new lease progress (waits offer)

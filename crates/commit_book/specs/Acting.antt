@@ -72,7 +72,8 @@ pub record AreAsBefore (old new : Parts) : Type 0 where
   pub references : new.log.references ≡ old.log.references
   pub saved : new.store.controls ≡ old.store.controls
   pub nodes : new.graph.nodes ≡ old.graph.nodes
-  pub printed : new.printed.items ≡ old.printed.items
+  pub finals : new.printed.finals ≡ old.printed.finals
+  pub recent : new.printed.recent ≡ old.printed.recent
   pub chan : new.next_chan ≡ old.next_chan
   pub ref : new.next_ref ≡ old.next_ref
   pub tallies : new.tallies ≡ old.tallies

@@ -6,11 +6,13 @@ use Rattle.stab_code.specs.Valid.{IsValid}
 use Rattle.stab_journal.specs.Due.{final_prints, released}
 use Rattle.stab_journal.specs.Journal.{Journal, survivors}
 use Rattle.stab_journal.specs.Script.{probed}
+use Rattle.print_log.specs.Log.{values}
 use Rattle.commit_book.specs.declared.parts.Parts.{Parts}
 use Rattle.commit_book.specs.Book.{BookView, IsShown}
 use Rattle.commit_book.specs.Counts.{is_undo, faulted_in}
 use Rattle.commit_book.specs.Limits.{most_events}
 use Rattle.commit_book.specs.OwnSteps.{IsRead}
+use Rattle.commit_book.specs.Printing.{ArePrints}
 
 -- a journal without the room that it has
 abbrev pub without_spare : Journal → Journal
@@ -27,7 +29,7 @@ view_of job p = record {
   references = p.log.references;
   saved = p.store.controls;
   nodes = p.graph.nodes;
-  printed = p.printed.items;
+  printed = values p.printed;
   next = record { thread = p.slots.next; chan = p.next_chan; ref = p.next_ref };
   answered = record { commits = p.tallies.commits; stale = p.tallies.stale };
 }
@@ -46,6 +48,7 @@ pub record IsKept (job : JobParts) (parts : Parts) : Type 0 where
   pub shown : IsShown (view_of job parts)
   pub tallied : AreTallied job.program parts
   pub read : IsRead parts.history parts.rollback
+  pub prints : ArePrints parts.history parts.printed
 
 -- one event more where a release is due
 abbrev pub owed : Parts → ℕ

@@ -14,6 +14,7 @@ pub mod Coded
 pub mod Step
 pub mod Counts
 pub mod OwnSteps
+pub mod Printing
 pub mod Layout
 pub mod Started
 pub mod Restated

@@ -1,20 +1,17 @@
 -- What is read of the journal for a rollback.
-use Rattle.std.specs.Prelude.{◌≡◌, ℕ, ◌<◌, ◌+◌, ◌-◌, ◌*◌, ◌≤◌, Bool, true, false, cond, not, ◌&&◌, ◌||◌, nat_eq, nat_le, nat_lt, List, [], ◌∷◌, ◌++◌, drop, take, filter, length, slice_set, map as each, Option, Some}
+use Rattle.std.specs.Prelude.{◌≡◌, ℕ, ◌<◌, ◌+◌, ◌-◌, ◌*◌, ◌≤◌, Bool, true, false, not, ◌&&◌, ◌||◌, nat_eq, nat_le, nat_lt, List, [], ◌∷◌, ◌++◌, filter, length, slice_set, map as each, Option, Some}
 use Rattle.std.specs.List.{AllByRecursion, sum_by}
 use Rattle.std.specs.List.Sorted.{IsNonDecreasingBy}
 use Rattle.std.specs.FinMap as map
-use Rattle.std.specs.FinSet as set
 use Rattle.std.specs.Vec.{vec_capacity}
 use Rattle.linked_lists.specs.Lists.{is_listed}
 use Rattle.reach_line.specs.MarkList.{numbers}
 use Rattle.restore.specs.declared.line.Line.{Line}
 use Rattle.restore.specs.declared.line.Line.TheVariants.{From}
 use Rattle.restore.specs.Left.{LineMap, is_touched}
-use Rattle.stab_base.specs.Datum.{Datum}
 use Rattle.stab_base.specs.declared.numbers.Seq.{Seq}
 use Rattle.stab_journal.specs.declared.event.Label.{Label}
 use Rattle.stab_journal.specs.declared.event.Numbered.{Numbered}
-use Rattle.stab_journal.specs.Due.{is_print}
 use Rattle.stab_journal.specs.Floor.{floor}
 use Rattle.stab_journal.specs.Journal.{Journal, survivors}
 use Rattle.stab_journal.specs.Label.{actors}
@@ -27,20 +24,18 @@ abbrev pub steps_within : ℕ → ℕ → (Label → Bool) → List Numbered →
 steps_within f e p run =
     each (λ (n : Numbered). n.seq.0) (filter (λ (n : Numbered). nat_lt f n.seq.0 && nat_le n.seq.0 e && p n.label) run)
 
--- of the surviving steps above the last cut, those up to the event that was read last: by thread, and the prints
+-- of the surviving steps above the last cut, those up to the event that was read last, by thread
 pub record IsRead (journal : Journal) (r : Rollback) : Type 0 where
   pub read : r.read ≤ length journal.events
   pub floor : r.floor.0 ≡ floor (survivors journal)
   pub cut : r.floor.0 ≤ r.read
   pub own : (t : ℕ) → steps_of r.own t ≡ steps_within r.floor.0 r.read (λ l. has (actors l) t) (survivors journal)
-  pub prints : numbers r.prints.items ≡ steps_within r.floor.0 r.read is_print (survivors journal)
   pub lost : r.lost.items ≡ []
 
 -- there is room to read the events up to `events` and to take all steps back, for threads with numbers up to `last`
 pub record HasRoomToRead (r : Rollback) (events last : ℕ) : Type 0 where
   pub own : 2 * (events - r.read) ≤ r.own.spare
   pub places : last < length r.own.steps
-  pub prints : length r.prints.items + (events - r.read) ≤ vec_capacity r.prints
   pub lost : sum_by length r.own.steps + 2 * (events - r.read) ≤ vec_capacity r.lost
   pub plan : last < r.plan.spare
 
@@ -49,7 +44,6 @@ pub record IsUnread (r : Rollback) : Type 0 where
   pub read : r.read ≡ 0
   pub floor : r.floor.0 ≡ 0
   pub own : (t : ℕ) → steps_of r.own t ≡ []
-  pub prints : r.prints.items ≡ []
   pub lost : r.lost.items ≡ []
 
 -- the same was read
@@ -57,7 +51,6 @@ pub record SaysTheSame (old new : Rollback) : Type 0 where
   pub read : new.read ≡ old.read
   pub floor : new.floor ≡ old.floor
   pub own : (t : ℕ) → steps_of new.own t ≡ steps_of old.own t
-  pub prints : new.prints.items ≡ old.prints.items
   pub lost : new.lost.items ≡ old.lost.items
 
 -- no number is below an earlier one
@@ -82,7 +75,7 @@ pub record IsGathered (old new : Rollback) : Type 0 where
   pub all : (q t : ℕ) → is_listed q (steps_of old.own t) ≡ true → is_lost old.plan.lines t q ≡ true
       → is_listed q (numbers new.lost.items) ≡ true
   pub order : IsNonDecreasingBy (λ (q : Seq). q.0) new.lost.items
-  pub rest : (new.read ≡ old.read) × (new.floor ≡ old.floor) × (new.prints.items ≡ old.prints.items) × (new.plan ≡ old.plan)
+  pub rest : (new.read ≡ old.read) × (new.floor ≡ old.floor) × (new.plan ≡ old.plan)
 
 -- the steps of the threads ts from their lines on were taken out, and no others
 pub record IsGatheredFrom (lines : LineMap) (old new : Seen) (gone : List Seq) (ts : List ℕ) : Type 0 where
@@ -114,15 +107,3 @@ pub record IsTakenSoFar (old new : Seen) (t line : ℕ) (before after : List Seq
   pub above : AllByRecursion (λ q. line ≤ q) taken
   pub others : (u : ℕ) → nat_eq t u ≡ false → steps_of new u ≡ steps_of old u
   pub lost : (q : ℕ) → is_listed q (numbers after) ≡ (is_listed q taken || is_listed q (numbers before))
-
--- of printed values, whose last ones have these numbers, those whose prints stay
-abbrev pub stay_of : (ℕ → Bool) → List ℕ → List Datum → List Datum
-stay_of stays (q ∷ qs) (v ∷ vs) = cond (stays q) (v ∷ stay_of stays qs vs) (stay_of stays qs vs)
-stay_of stays _ _ = []
-
-abbrev pub stay_printed : (ℕ → Bool) → List ℕ → List Datum → List Datum
-stay_printed stays qs vs = take (length vs - length qs) vs ++ stay_of stays qs (drop (length vs - length qs) vs)
-
--- whether a number isn't struck
-abbrev pub stays : Journal → ℕ → Bool
-stays journal q = not (set.contains journal.struck q)

@@ -35,7 +35,8 @@ pub record IsStarted (p : ProgramParts) (parts : Parts) : Type 0 where
   pub writes : (r : ℕ) → writes_of parts.log r ≡ []
   pub saved : parts.store.controls ≡ map.empty
   pub nodes : parts.graph.nodes ≡ []
-  pub printed : parts.printed.items ≡ []
+  pub finals : parts.printed.finals ≡ []
+  pub recent : parts.printed.recent ≡ []
   pub chan : parts.next_chan ≡ 1
   pub ref : parts.next_ref ≡ 1
   pub tallies : parts.tallies ≡ first_tallies (is_failed (expr_of p main))

@@ -1,5 +1,5 @@
 -- Steps that are struck, with what they wrote and made.
-use Rattle.std.specs.Prelude.{◌≡◌, ℕ, ◌<◌, ◌≤◌, Bool, true, false, cond, not, ◌||◌, List, [], ◌∷◌, filter, length, nat_eq, Some, None}
+use Rattle.std.specs.Prelude.{◌≡◌, ℕ, ◌<◌, Bool, true, false, cond, not, ◌||◌, List, [], ◌∷◌, filter, length, nat_eq, Some, None}
 use Rattle.std.specs.List.{IsDistinct}
 use Rattle.std.specs.Option.{option_map_or}
 use Rattle.std.specs.FinMap as map
@@ -12,6 +12,7 @@ use Rattle.stab_journal.specs.Label.{written}
 use Rattle.stab_journal.specs.Names.{has, is_at, made}
 use Rattle.rendezvous.specs.Line.{nobody}
 use Rattle.ref_log.specs.Log.{Write, has_write, writes_of}
+use Rattle.print_log.specs.Log.{Print, has_print}
 use Rattle.commit_book.specs.declared.parts.Parts.{Parts}
 
 -- whether the step numbered q makes the channel c, and whether it writes the reference r
@@ -25,16 +26,12 @@ writes_at events q r = option_map_or (λ (l : Label). is_at (written l) r) (labe
 abbrev pub prints_at : List Event → ℕ → Bool
 prints_at events q = option_map_or is_print (label_at events q) false
 
--- no print among these steps is numbered up to `most`
-abbrev pub NonePrints : List Event → List ℕ → ℕ → Type 0
-NonePrints events qs most = (q : ℕ) → 1 ≤ q → has qs q ≡ true → prints_at events q ≡ true → most < q
-
 -- whether one of these steps makes the channel c
 abbrev pub makes_any : List Event → List ℕ → ℕ → Bool
 makes_any events [] c = false
 makes_any events (q ∷ qs) c = makes_at events q c || makes_any events qs c
 
--- these steps were struck, with their writes and their channels
+-- these steps were struck, with their writes, their channels and their prints
 pub record AreStruck (old new : Parts) (qs : List ℕ) : Type 0 where
   pub events : new.history.events ≡ old.history.events
   pub spare : new.history.spare ≡ old.history.spare
@@ -43,19 +40,23 @@ pub record AreStruck (old new : Parts) (qs : List ℕ) : Type 0 where
   pub last_cut : new.log.last_cut ≡ old.log.last_cut
   pub waiting : (c : ℕ) → map.get new.offers.lines c ≡ cond (makes_any old.history.events qs c) None (map.get old.offers.lines c)
   pub offers : new.offers.offers ≡ old.offers.offers
+  pub finals : new.printed.finals ≡ old.printed.finals
+  pub recent : new.printed.recent ≡ filter (λ (p : Print). not (has qs p.number)) old.printed.recent
   pub rest : new ≡ record old {
     history = new.history;
     log = new.log;
     offers = new.offers;
+    printed = new.printed;
     rollback = record old.rollback { lost = new.rollback.lost };
   }
 
--- the step numbered q can be struck: it is live and above the last cut, the writes under its number are its own, and nobody
--- waits on what it makes
+-- the step numbered q can be struck: it is live and above the last cut, the writes and prints under its number are its own, and
+-- nobody waits on what it makes
 pub record MayStrike (parts : Parts) (q : ℕ) : Type 0 where
   pub live : IsLive parts.history q
   pub above : parts.log.last_cut < q
   pub writes : (r : ℕ) → has_write q (writes_of parts.log r) ≡ writes_at parts.history.events q r
+  pub prints : has_print q parts.printed.recent ≡ true → prints_at parts.history.events q ≡ true
   pub nobody : (c : ℕ) → makes_at parts.history.events q c ≡ true → map.get parts.offers.lines c ≡ Some nobody
 
 -- all of these can be struck, and no two of them make one channel

@@ -7,11 +7,10 @@ use Rattle.stab_code.specs.JobParts.{JobParts}
 use Rattle.stab_code.specs.Program.{ProgramParts}
 use Rattle.stab_code.specs.Valid.{IsValid}
 use Rattle.stab_journal.specs.declared.event.Numbered.{Numbered}
-use Rattle.stab_journal.specs.Due.{is_print}
-use Rattle.stab_journal.specs.Floor.{floor}
 use Rattle.stab_journal.specs.Journal.{survivors}
 use Rattle.stab_journal.specs.Names.{has}
 use Rattle.stab_journal.specs.Reached.{reached}
+use Rattle.print_log.specs.Log.{Print}
 use Rattle.thread_slots.specs.Ready.{numbers as threads_below}
 use Rattle.rendezvous.specs.Line.{Seen}
 use Rattle.ref_log.specs.Log.{Write, writes_of}
@@ -26,7 +25,8 @@ use Rattle.commit_book.specs.declared.parts.Parts.{Parts}
 use Rattle.commit_book.specs.Book.{ShowsRun}
 use Rattle.commit_book.specs.Counts.{faulted_in, is_faulted_at}
 use Rattle.commit_book.specs.Layout.{AreTallied, view_of}
-use Rattle.commit_book.specs.OwnSteps.{IsRead, HasRoomToRead, stays, stay_printed, steps_within}
+use Rattle.commit_book.specs.OwnSteps.{IsRead, HasRoomToRead}
+use Rattle.commit_book.specs.Printing.{ArePrints}
 use Rattle.commit_book.specs.Saved.{saved_of}
 use Rattle.commit_book.specs.Striking.{makes_any}
 use Rattle.commit_book.specs.Threads.{AllControls}
@@ -45,6 +45,7 @@ pub record IsUndoing (parts : Parts) (m : ℕ) (qs : List ℕ) : Type 0 where
   pub tallied : AreTallied job.program parts
   pub few : length parts.history.events ≤ 4294967294
   pub read : IsRead parts.history parts.rollback
+  pub prints : ArePrints parts.history parts.printed
   pub room : HasRoomToRead parts.rollback (length parts.history.events) (parts.slots.next - 1)
 
 -- what is reached is struck, with its writes, its channels and its prints; the touched threads are put back or gone; and so many
@@ -83,10 +84,8 @@ pub record IsTakenOut (old new : Parts) (m removed : ℕ) (qs : List ℕ) : Type
       → saved_of new.store.controls k u
       ≡ cond (marks.has k qs || is_from k (map.get lines u)) None (saved_of old.store.controls k u)
   pub nodes : new.graph.nodes ≡ unmarked qs old.graph.nodes
-  pub printed : new.printed.items
-      ≡ stay_printed (stays new.history)
-      (steps_within (floor (survivors old.history)) (length old.history.events) is_print (survivors old.history))
-      old.printed.items
+  pub finals : new.printed.finals ≡ old.printed.finals
+  pub recent : new.printed.recent ≡ filter (λ (p : Print). not (has gone p.number)) old.printed.recent
   pub chan : new.next_chan ≡ old.next_chan
   pub ref : new.next_ref ≡ old.next_ref
   pub tallies : new.tallies ≡ record old.tallies { faulted = new.tallies.faulted }

@@ -38,8 +38,8 @@ impl Parts {
             return Err(progress);
         };
         let control = self.begin(lease, progress);
-        self.push(lease, Label::Print(lease.thread()));
-        self.printed.push_reserved(v);
+        let q = self.push(lease, Label::Print(lease.thread()));
+        self.printed.push(q, v);
         self.answer(job.program(), lease.thread(), control, Value::unit());
         Ok(())
     }
@@ -49,11 +49,11 @@ impl Parts {
         requires operand { 1 ≤ length (operands_of end.now) }
         ensures before { AreAsBefore self.old self.new }
         ensures spare { OnOk result (2 ≤ self.new.history.spare) }
-        ensures place { OnOk result (vec_len self.new.printed < vec_capacity self.new.printed) }
+        ensures place { OnOk result (1 ≤ self.new.printed.spare) }
         ensures value { IfOk result (λ v. v ≡ first_of (operands_of end.now)) }
     {
         self.history.reserve(2)?;
-        self.printed.reserve(1)?;
+        self.printed.reserve()?;
         first(end.operands()).copy(self.alloc())
     }
 

@@ -1,5 +1,5 @@
 //! The book itself.
-ghost use Rattle.std.specs.Prelude.{◌≡◌, ◌+◌, ◌≤◌, length, option_copied, IfOk, OnErr};
+ghost use Rattle.std.specs.Prelude.{◌≡◌, ◌+◌, ◌≤◌, drop, length, option_copied, IfOk, OnErr};
 ghost use Rattle.stab_journal.specs.Due.{due, released};
 ghost use Rattle.stab_journal.specs.Event.{IsWorker};
 ghost use Rattle.commit_book.specs.Book.{IsShown, IsAtStart, fault_at};
@@ -13,6 +13,7 @@ use crate::counts::Counts;
 use crate::lease::Lease;
 use crate::parts::Parts;
 use crate::turn::{Choice, Turn};
+use print_log::Values;
 use stab_base::{Fault, NoMemory, RefId, ThreadId, Value};
 use stab_code::Job;
 use stab_journal::History;
@@ -75,12 +76,21 @@ impl Book {
         &self.parts.history
     }
 
-    /// The printed values, in the order of their steps.
-    pub fn printed(&self) -> &[Value]
-        ensures printed { result.now ≡ self.now.printed }
+    /// The printed values, in the order of their steps, read where they stand.
+    pub fn printed(&self) -> Values<'_>
+        ensures printed { result ≡ self.now.printed }
         ensures shown { IsShown self.now }
     {
-        &self.parts.printed
+        self.parts.printed.values()
+    }
+
+    /// Those of them that weren't released.
+    pub fn unreleased(&self) -> Values<'_>
+        ensures unreleased { result ≡ drop (released self.now.history.events) self.now.printed }
+        ensures shown { IsShown self.now }
+    {
+        let released = self.parts.tallies.released as usize;
+        self.parts.printed.values_from(released)
     }
 
     /// What a reference holds, if it is there.

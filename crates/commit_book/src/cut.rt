@@ -1,5 +1,5 @@
 //! A cut: no step up to it is taken back any more.
-ghost use Rattle.std.specs.Prelude.{◌≡◌, Some, IfErr, OnErr, OnOk};
+ghost use Rattle.std.specs.Prelude.{◌≡◌, ◌+◌, ◌≤◌, Some, length, IfErr, OnErr, OnOk};
 ghost use Rattle.step_eval.specs.declared.act.Act.TheVariants as own;
 ghost use Rattle.commit_book.specs.Acting.{AreAsBefore, IsDone, MayAct, StandsAt};
 ghost use Rattle.commit_book.specs.Layout.{IsKept};
@@ -7,7 +7,7 @@ ghost use Rattle.commit_book.specs.Rows.{alone, thread};
 
 use crate::lease::Lease;
 use crate::parts::Parts;
-use stab_base::Value;
+use stab_base::{NoMemory, Value};
 use stab_code::Job;
 use stab_journal::Label;
 use step_eval::Progress;
@@ -28,7 +28,7 @@ impl Parts {
         ensures err { OnErr result (AreAsBefore self.old self.new) }
         ensures kept { IsKept job.now self.new }
     {
-        if self.history.reserve(2).is_err() {
+        if self.plan_cut().is_err() {
             return Err(progress);
         }
         let control = self.begin(lease, progress);
@@ -37,8 +37,20 @@ impl Parts {
         self.store.drop_before(q);
         self.log.cut(q);
         self.rollback.cut(q);
-        self.tallies.finals = self.printed.len() as u64;
+        self.printed.cut();
+        self.tallies.finals = self.printed.finals().len() as u64;
         self.answer(job.program(), lease.thread(), control, Value::unit());
         Ok(())
+    }
+
+    /// Room for two events, and for the values that become final.
+    fn plan_cut(&mut self) -> Result<(), NoMemory>
+        requires few { length self.old.history.events + 2 ≤ 4294967294 }
+        ensures before { AreAsBefore self.old self.new }
+        ensures spare { OnOk result (2 ≤ self.new.history.spare) }
+        ensures places { OnOk result (length self.new.printed.recent ≤ self.new.printed.places) }
+    {
+        self.history.reserve(2)?;
+        self.printed.reserve_cut()
     }
 }

@@ -18,9 +18,10 @@ use crate::lease::Lease;
 use crate::rollback::Rollback;
 use checkpoint_store::Store;
 use comm_graph::Graph;
+use print_log::PrintLog;
 use ref_log::RefLog;
 use rendezvous::Offers;
-use stab_base::{Generation, NoMemory, ThreadId, Value};
+use stab_base::{Generation, NoMemory, ThreadId};
 use stab_code::Program;
 use stab_journal::History;
 use std::alloc::Global;
@@ -39,7 +40,7 @@ pub(crate) struct Parts {
     pub(crate) log: RefLog,
     pub(crate) store: Store<Control>,
     pub(crate) graph: Graph,
-    pub(crate) printed: Vec<Value>,
+    pub(crate) printed: PrintLog,
     pub(crate) next_chan: u32,
     pub(crate) next_ref: u32,
     pub(crate) tallies: Tallies,
@@ -64,7 +65,7 @@ impl Parts {
             log: RefLog::new(alloc),
             store: Store::new(alloc),
             graph: Graph::new(alloc),
-            printed: Vec::new(alloc),
+            printed: PrintLog::new(alloc),
             next_chan: 1,
             next_ref: 1,
             tallies: Tallies::first(failed),

@@ -209,7 +209,7 @@ impl Parts {
 
     /// Where the memory of the parts comes from.
     pub(crate) fn alloc(&self) -> Global {
-        *self.printed.allocator()
+        *self.rollback.lost.allocator()
     }
 }
 

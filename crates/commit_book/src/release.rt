@@ -27,10 +27,7 @@ impl Book {
         let next = Seq(self.parts.history.len() + 1);
         self.parts.history.reserve(1)?;
         let before = out.len();
-        let (finals, _later) = self
-            .parts
-            .printed
-            .split_at(self.parts.tallies.finals as usize);
+        let finals = self.parts.printed.finals();
         let (_released, due) = finals.split_at(self.parts.tallies.released as usize);
         if put_lines(due, self.job.program().texts(), out).is_err() {
             out.truncate(before);

@@ -1,4 +1,4 @@
-//! What a rollback needs to know of the journal: the steps of each thread, and which values were printed when.
+//! What a rollback needs to know of the journal: the steps of each thread.
 //!
 //! It is read from the journal when a rollback comes, each event once, and forgotten at a cut.
 
@@ -9,7 +9,6 @@ ghost use Rattle.std.specs.Vec.{vec_capacity};
 ghost use Rattle.linked_lists.specs.Lists.{is_listed};
 ghost use Rattle.own_steps.specs.Own.{steps_of};
 ghost use Rattle.reach_line.specs.MarkList.{HasSpare, numbers};
-ghost use Rattle.stab_journal.specs.Due.{is_print};
 ghost use Rattle.stab_journal.specs.Journal.{AreSurvivors, IsLive, label_at, survivors};
 ghost use Rattle.stab_journal.specs.Label.{actors};
 ghost use Rattle.stab_journal.specs.Names.{has};
@@ -32,8 +31,6 @@ pub(crate) struct Rollback {
     /// The events with numbers up to this one are read.
     read: u64,
     own: OwnSteps,
-    /// The numbers of the prints.
-    pub(crate) prints: Vec<Seq>,
     /// The nodes that are reached from the section that was taken back last, and room for those of the next one.
     pub(crate) marks: Marks,
     pub(crate) plan: Plan,
@@ -50,7 +47,6 @@ impl Rollback {
             floor: Seq(0),
             read: 0,
             own: OwnSteps::new(alloc),
-            prints: Vec::new(alloc),
             marks: Marks::new(alloc),
             plan: Plan::new(alloc),
             lost: Vec::new(alloc),
@@ -73,7 +69,6 @@ impl Rollback {
     {
         let more = (history.len() - self.read + 1) as usize;
         self.own.reserve(2 * more, last)?;
-        self.prints.reserve(more)?;
         self.lost.reserve(self.own.len() + 2 * more)?;
         self.marks.reserve(graph)?;
         self.plan.reserve(last.0)
@@ -121,18 +116,14 @@ impl Rollback {
     fn read_step(&mut self, q: Seq, label: Label)
         requires spare { 2 ≤ self.old.own.spare }
         requires places { (t : ℕ) → has (actors label) t ≡ true → t < length self.old.own.steps }
-        requires prints { length self.old.prints.items + 1 ≤ vec_capacity self.old.prints }
         ensures own { (t : ℕ) → steps_of self.new.own t
             ≡ steps_of self.old.own t ++ cond (has (actors label) t) (q.0 ∷ []) [] }
-        ensures prints { self.new.prints.items ≡ self.old.prints.items ++ cond (is_print label) (q ∷ []) [] }
         ensures sum { sum_by length self.new.own.steps ≤ sum_by length self.old.own.steps + 2 }
         ensures spare { self.old.own.spare ≤ self.new.own.spare + 2 }
         ensures places { length self.new.own.steps ≡ length self.old.own.steps }
-        ensures capacity { vec_capacity self.new.prints ≡ vec_capacity self.old.prints }
-        ensures rest { self.new ≡ record self.old { own = self.new.own; prints = self.new.prints; read = q.0 } }
+        ensures rest { self.new ≡ record self.old { own = self.new.own; read = q.0 } }
     {
         self.push_own(q, label);
-        self.push_print(q, label);
         self.read = q.0;
     }
 
@@ -153,17 +144,6 @@ impl Rollback {
         }
     }
 
-    fn push_print(&mut self, q: Seq, label: Label)
-        requires { length self.old.prints.items + 1 ≤ vec_capacity self.old.prints }
-        ensures prints { self.new.prints.items ≡ self.old.prints.items ++ cond (is_print label) (q ∷ []) [] }
-        ensures capacity { vec_capacity self.new.prints ≡ vec_capacity self.old.prints }
-        ensures rest { self.new ≡ record self.old { prints = self.new.prints } }
-    {
-        if matches!(label, Label::Print(_)) {
-            self.prints.push_reserved(q);
-        }
-    }
-
     /// Counts the next event as read, which is no step, or a struck one.
     pub(crate) fn pass(&mut self)
         requires { self.old.read < 18446744073709551615 }
@@ -177,11 +157,9 @@ impl Rollback {
         ensures read { self.new.read ≡ q.0 }
         ensures floor { self.new.floor ≡ q }
         ensures own { (t : ℕ) → steps_of self.new.own t ≡ [] }
-        ensures prints { self.new.prints.items ≡ [] }
         ensures lost { self.new.lost ≡ self.old.lost }
     {
         self.own.clear();
-        self.prints.clear();
         self.floor = q;
         self.read = q.0;
     }

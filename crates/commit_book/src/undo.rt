@@ -1,7 +1,6 @@
 //! A stabilize: what is reached from its section is taken back, unless that is final.
 
-ghost use Rattle.std.specs.Prelude.{true, false, IsSomeAnd, IfSome, filter, not, ◌&&◌, ◌-◌, ◌≡◌, ◌<◌, ◌≤◌, ◌+◌, ◌^◌, ◌++◌, ℕ, [], ◌∷◌, Some, None, cond, length, IfErr, IfOk, IsSome, OnErr, OnOk, slice_index};
-ghost use Rattle.std.specs.List.Sorted.{IsNonDecreasing};
+ghost use Rattle.std.specs.Prelude.{true, false, IsSomeAnd, IfSome, ◌-◌, ◌≡◌, ◌<◌, ◌≤◌, ◌+◌, ◌^◌, ◌++◌, ℕ, [], ◌∷◌, Some, None, cond, length, IfErr, IfOk, IsSome, OnErr, OnOk};
 ghost use Rattle.std.specs.FinMap as map;
 ghost use Rattle.comm_graph.specs.Edge.{kind_of};
 ghost use Rattle.reach_line.specs.MarkList.{HasSpare, numbers};
@@ -11,11 +10,13 @@ ghost use Rattle.stab_code.specs.Program.{ProgramParts};
 ghost use Rattle.stab_code.specs.Valid.{IsValid};
 ghost use Rattle.stab_journal.specs.Event.{IsName, weight_of};
 ghost use Rattle.stab_journal.specs.Floor.{floor, is_mark_revocable};
-ghost use Rattle.stab_journal.specs.Journal.{IsLive, label_at, survivors};
+ghost use Rattle.stab_journal.specs.Due.{is_print};
+ghost use Rattle.stab_journal.specs.Journal.{label_at, survivors};
 ghost use Rattle.stab_journal.specs.Label.{written};
 ghost use Rattle.stab_journal.specs.Names.{has, is_at, made};
 ghost use Rattle.ref_log.specs.Calls.{IsAllowed, struck};
 ghost use Rattle.ref_log.specs.Log.{without, writes_of};
+ghost use Rattle.print_log.specs.Log.{without as without_print};
 ghost use Rattle.rendezvous.specs.Line.{nobody};
 ghost use Rattle.plain_language.specs.Redex.{mark as section_of};
 ghost use Rattle.step_eval.specs.ControlView.{Fits, expr_of};
@@ -25,8 +26,8 @@ ghost use Rattle.commit_book.specs.Counted.{AreFailed};
 ghost use Rattle.commit_book.specs.Counts.{is_faulted_at};
 ghost use Rattle.commit_book.specs.Graph.{is_pinned};
 ghost use Rattle.commit_book.specs.Layout.{IsKept};
-ghost use Rattle.commit_book.specs.OwnSteps.{HasRoomToRead, IsRead, stays, stay_printed};
-ghost use Rattle.commit_book.specs.Striking.{AreStruck, AllAreStruck, MayStrike, MayStrikeAll, NonePrints, prints_at};
+ghost use Rattle.commit_book.specs.OwnSteps.{HasRoomToRead, IsRead};
+ghost use Rattle.commit_book.specs.Striking.{AreStruck, AllAreStruck, MayStrike, MayStrikeAll};
 ghost use Rattle.commit_book.specs.TakenOut.{IsUndoing, IsTakenOut};
 ghost use Rattle.commit_book.specs.Threads.{AllControls};
 ghost use Rattle.commit_book.specs.Undoing.{undo_by};
@@ -176,25 +177,12 @@ impl Parts {
             &mut self.graph,
         );
         self.rollback.gather();
-        let unprinted = self.unprinted();
         let removed = self.strike_all();
-        self.drop_prints(unprinted);
         Undone {
             mark,
             removed,
             marks,
         }
-    }
-
-    /// A number up to which no gathered step prints.
-    fn unprinted(&self) -> Seq
-        ensures { NonePrints self.now.history.events (numbers self.now.rollback.lost.items) result.0 }
-    {
-        let mut up_to = u64::MAX;
-        for q in &self.rollback.lost {
-            up_to = up_to.min(unprinted_at(&self.history, *q));
-        }
-        Seq(up_to)
     }
 
     /// Strikes the gathered steps, the last one first, and tells how many there are.
@@ -212,7 +200,7 @@ impl Parts {
         removed
     }
 
-    /// Strikes a step, with the reference that it wrote or the channel that it made.
+    /// Strikes a step, with what it wrote, made or printed.
     fn strike(&mut self, q: Seq)
         requires { MayStrike self.old q.0 }
         ensures struck { AreStruck self.old self.new (q.0 ∷ []) }
@@ -225,7 +213,7 @@ impl Parts {
         }
     }
 
-    /// Takes away what a step wrote or made.
+    /// Takes away what a step wrote, made or printed.
     fn forget(&mut self, q: Seq, label: Label)
         requires write { (r : ℕ) → is_at (written label) r ≡ true → IsAllowed (struck r q.0) self.old.log }
         requires wait { (c : ℕ) → is_at (made label) c ≡ true → map.get self.old.offers.lines c ≡ Some nobody }
@@ -235,43 +223,21 @@ impl Parts {
         ensures lines { (c : ℕ) → map.get self.new.offers.lines c
             ≡ cond (is_at (made label) c) None (map.get self.old.offers.lines c) }
         ensures offers { self.new.offers.offers ≡ self.old.offers.offers }
-        ensures rest { self.new ≡ record self.old { log = self.new.log; offers = self.new.offers } }
+        ensures finals { self.new.printed.finals ≡ self.old.printed.finals }
+        ensures recent { self.new.printed.recent
+            ≡ cond (is_print label) (without_print q.0 self.old.printed.recent) self.old.printed.recent }
+        ensures rest { self.new ≡ record self.old {
+          log = self.new.log;
+          offers = self.new.offers;
+          printed = self.new.printed;
+        } }
     {
         match label {
             Label::NewRef(_, r) | Label::Set(_, r) => self.log.strike(r, q),
             Label::NewChan(_, c) => self.offers.unmake(c),
+            Label::Print(_) => self.printed.strike(q),
             _ => {}
         }
-    }
-
-    /// Drops the values whose prints were struck, none of which is numbered up to this one.
-    fn drop_prints(&mut self, unprinted: Seq)
-        requires printed { length self.old.rollback.prints.items ≤ length self.old.printed.items }
-        requires rising { IsNonDecreasing (numbers self.old.rollback.prints.items) }
-        requires low { (q : ℕ) → q ≤ unprinted.0 → has (numbers self.old.rollback.prints.items) q ≡ true
-            → IsLive self.old.history q }
-        requires steps { (q : ℕ) → has (numbers self.old.rollback.prints.items) q ≡ true
-            → IsSome (label_at self.old.history.events q) }
-        ensures printed { self.new.printed.items
-            ≡ stay_printed (stays self.old.history) (numbers self.old.rollback.prints.items) self.old.printed.items }
-        ensures prints { numbers self.new.rollback.prints.items
-            ≡ filter (stays self.old.history) (numbers self.old.rollback.prints.items) }
-        ensures rest { self.new ≡ record self.old {
-          printed = self.new.printed;
-          rollback = record self.old.rollback { prints = self.new.rollback.prints };
-        } }
-    {
-        let first = first_above(&self.rollback.prints, unprinted);
-        let before = self.printed.len() - self.rollback.prints.len();
-        let mut kept = first;
-        for i in first..self.rollback.prints.len() {
-            let q = self.rollback.prints[i];
-            self.rollback.prints[kept] = q;
-            self.printed.swap(before + kept, before + i);
-            kept += usize::from(self.history.is_live(q));
-        }
-        self.rollback.prints.truncate(kept);
-        self.printed.truncate(before + kept);
     }
 
     /// The event of the undo.
@@ -298,29 +264,6 @@ impl Parts {
         });
         self.rollback.pass();
         self.tallies.undos += 1;
-    }
-}
-
-/// How many of some rising numbers aren't above this one.
-fn first_above(steps: &[Seq], mark: Seq) -> usize
-    requires { IsNonDecreasing (numbers steps.now) }
-    ensures within { result ≤ length steps.now }
-    ensures below { (i : ℕ) → i < result → slice_index (numbers steps.now) i ≤ mark.0 }
-{
-    let mut first = steps.len();
-    while first > 0 && steps[first - 1].0 > mark.0 {
-        first -= 1;
-    }
-    first
-}
-
-/// The number before a step that prints, and of any other step the greatest.
-fn unprinted_at(history: &History, q: Seq) -> u64
-    ensures { 1 ≤ q.0 → prints_at history.now.events q.0 ≡ true → result < q.0 }
-{
-    match label_at(history, q) {
-        Some(Label::Print(_)) => q.0.saturating_sub(1),
-        _ => u64::MAX,
     }
 }
 

@@ -23,9 +23,11 @@ pub(super) fn agrees(state: &PlainState, book: &Book) -> bool {
 }
 
 fn has_printed(state: &PlainState, book: &Book) -> bool {
-    let printed = book.printed();
-    printed.len() == state.printed().len()
-        && printed.iter().zip(state.printed()).all(|(v, w)| v.same(w))
+    book.printed().count() == state.printed().len()
+        && book
+            .printed()
+            .zip(state.printed())
+            .all(|(v, w)| v.same(w))
 }
 
 // Threads that ended, failed, and others.

@@ -8,7 +8,7 @@ use super::texts::{SUMS, TEXTS};
 use commit_book::Book;
 use lone_worker::{RunEnd, run};
 use schedule_drill::{DrillEnd, drill};
-use stab_base::{NoMemory, Seq, Value};
+use stab_base::{NoMemory, Seq};
 use stab_code::Job;
 use stab_journal::{History, Label, What};
 use std::alloc::Global;
@@ -121,14 +121,18 @@ fn same_events(one: &History, other: &History) -> bool {
     one.len() == other.len()
 }
 
-fn same_values(one: &[Value], other: &[Value]) -> bool {
-    one.len() == other.len() && one.iter().zip(other).all(|(v, w)| v.same(w))
+fn same_values(one: &Book, other: &Book) -> bool {
+    one.printed().count() == other.printed().count()
+        && one
+            .printed()
+            .zip(other.printed())
+            .all(|(v, w)| v.same(w))
 }
 
 // Whether a drill is a run.
 fn agree(alone: &Alone, drilled: &DrillEnd) -> bool {
     same_events(alone.book.history(), drilled.book.history())
-        && same_values(alone.book.printed(), drilled.book.printed())
+        && same_values(&alone.book, &drilled.book)
         && alone.book.counts() == drilled.book.counts()
         && ends_so(drilled.lines.as_slice(), alone.end)
 }
@@ -214,7 +218,7 @@ struct Compared {
 }
 
 fn printed(book: &Book) -> usize {
-    book.printed().len()
+    book.printed().count()
 }
 
 // How many events a book has, after they were counted by their kinds.

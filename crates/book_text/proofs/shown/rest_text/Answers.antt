@@ -19,12 +19,9 @@ returns c =
     let b = c.args.book.now in
     let program : c.deref.result.now ≡ b.job.program = c.deref.ensures ∙ c.program.ensures.value ∙ ap (λ (j : JobParts). j.program) c.job.ensures.job in
     let valid : IsValid b.job.program = subst IsValid program c.texts.ensures.valid in
-    let others : c.split_at.result.1.now ≡ drop (released b.history.events) b.printed =
-    c.split_at.ensures.back ∙ ap (λ n. drop n c.printed.result.now) c.released.ensures.released ∙ ap (drop (released b.history.events)) c.printed.ensures.printed
-    in
     let values : c.put_values.new.text.items ≡ value_lines b.job.program (drop (released b.history.events) b.printed) =
-    c.in_ok-put_values.ensures ∙ ap (λ start. start ++ flat_map (λ v. line (printed c.texts.result.now v)) c.split_at.result.1.now) c.new-text.ensures.items
-    ∙ ap (flat_map (λ v. line (printed c.texts.result.now v))) others
+    c.in_ok-put_values.ensures ∙ ap (λ start. start ++ flat_map (λ v. line (printed c.texts.result.now v)) c.unreleased.result) c.new-text.ensures.items
+    ∙ ap (flat_map (λ v. line (printed c.texts.result.now v))) c.unreleased.ensures.unreleased
     ∙ ap (λ (texts : List (List ℕ)). flat_map (λ v. line (printed texts v)) (drop (released b.history.events) b.printed)) (c.texts.ensures.value ∙ ap (λ (p : ProgramParts). p.texts) program)
     in
     let text : c.put_counts.new.text.items ≡ value_lines b.job.program (drop (released b.history.events) b.printed) ++ fault_lines b b.next.thread ++ count_text b =

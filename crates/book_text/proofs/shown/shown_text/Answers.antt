@@ -15,7 +15,7 @@ returns c =
     let b = c.args.book.now in
     let program : c.deref.result.now ≡ b.job.program = c.deref.ensures ∙ c.program.ensures.value ∙ ap (λ (j : JobParts). j.program) c.job.ensures.job in
     let values : c.put_values.new.text.items ≡ value_lines b.job.program b.printed =
-    c.in_ok-put_values.ensures ∙ ap (λ start. start ++ flat_map (λ v. line (printed c.texts.result.now v)) c.printed.result.now) c.new-text.ensures.items
+    c.in_ok-put_values.ensures ∙ ap (λ start. start ++ flat_map (λ v. line (printed c.texts.result.now v)) c.printed.result) c.new-text.ensures.items
     ∙ ap (flat_map (λ v. line (printed c.texts.result.now v))) c.printed.ensures.printed
     ∙ ap (λ (texts : List (List ℕ)). flat_map (λ v. line (printed texts v)) b.printed) (c.texts.ensures.value ∙ ap (λ (p : ProgramParts). p.texts) program)
     in

@@ -1,4 +1,4 @@
-use Rattle.std.proofs.Common.{◌≡◌, ◌<◌, ◌≤◌, ◌++◌, List, length, drop, take, sym, ap, subst, ◌∙◌, arith}
+use Rattle.std.proofs.Common.{◌≡◌, ◌<◌, ◌++◌, length, drop, sym, ap, subst, ◌∙◌, arith}
 use Rattle.std.specs.List.{flat_map}
 use Rattle.stab_base.specs.Datum.{Datum}
 use Rattle.stab_base.specs.Printed.{printed}
@@ -11,7 +11,7 @@ use Rattle.commit_book.specs.Book.{BookView}
 use Rattle.commit_book.specs.Layout.{view_of}
 use Rattle.commit_book.specs.Releases.{IsReleased, due_lines}
 use Rattle.commit_book.proofs.Acted.{in_ok}
-use Rattle.commit_book.proofs.Releasing.{book_after_release, due_so, finals_few, finals_fit, kept_after_release, light_for_one, lines_so, released_so, room_for_one}
+use Rattle.commit_book.proofs.Releasing.{book_after_release, due_so, finals_few, finals_same, kept_after_release, light_for_one, lines_so, released_so, room_for_one}
 use Rattle.commit_book.proofs.book.Book.release.Goals as goal
 
 pub overflow_add-next : goal.overflow_add-next
@@ -26,13 +26,11 @@ reserve-requires c =
     omega (arith, few)
 
 pub split_at-requires : goal.split_at-requires
-split_at-requires c = subst (λ (vs : List Datum). c.self.inside.parts.tallies.finals ≤ length vs) (sym c.deref.ensures.value) (finals_fit c.self.inside.job c.self.inside.parts c.self.invariant.kept)
-
-pub split_at-requires-2 : goal.split_at-requires-2
-split_at-requires-2 c =
+split_at-requires c =
     let low = due_so c.self.inside.job c.self.inside.parts c.self.invariant.kept (subst (λ (b : BookView). 0 < due b.history.events) (sym c.self.view_is) c.requires.due) in
-    let long = c.split_at.ensures.front_len in
-    omega (arith, low, long)
+    let same = finals_same c.self.inside.job c.self.inside.parts c.self.invariant.kept in
+    let all = ap length c.finals-finals.ensures in
+    omega (arith, low, same, all)
 
 pub release-requires-clause-weight : goal.release-requires-clause-weight
 release-requires-clause-weight c =
@@ -52,9 +50,9 @@ pub returns-clause-lines : goal.returns-clause-lines
 returns-clause-lines c =
     in_ok c.put_lines.result c.is_err.result c.put_lines.ensures.lines c.is_err.ensures.value c.if-is_err.false
     ∙ ap (λ l. c.args.out.now.items ++ l)
-    (ap (λ texts. flat_map (λ (v : Datum). line (printed texts v)) c.split_at-2.result.1.now) (c.texts.ensures.value ∙ ap (λ (p : ProgramParts). p.texts) (c.deref-2.ensures ∙ c.program.ensures.value))
-    ∙ lines_so c.self.inside.job c.self.inside.parts c.self.invariant.kept c.split_at-2.result.1.now
-    (c.split_at-2.ensures.back ∙ ap (λ vs. drop c.self.inside.parts.tallies.released vs) (c.split_at.ensures.front ∙ ap (λ vs. take c.self.inside.parts.tallies.finals vs) c.deref.ensures.value))
+    (ap (λ texts. flat_map (λ (v : Datum). line (printed texts v)) c.split_at.result.1.now) (c.texts.ensures.value ∙ ap (λ (p : ProgramParts). p.texts) (c.deref.ensures ∙ c.program.ensures.value))
+    ∙ lines_so c.self.inside.job c.self.inside.parts c.self.invariant.kept c.split_at.result.1.now
+    (c.split_at.ensures.back ∙ ap (drop c.self.inside.parts.tallies.released) c.finals-finals.ensures)
     ∙ ap due_lines c.self.view_is)
 
 pub invariant_of-self-2 : goal.invariant_of-self-2

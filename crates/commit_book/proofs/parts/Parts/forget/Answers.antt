@@ -5,8 +5,8 @@ use Rattle.stab_journal.specs.Names.{is_at, made}
 use Rattle.commit_book.proofs.StrikeCalls.{written_at}
 use Rattle.commit_book.proofs.parts.Parts.forget.Goals as goal
 
-pub strike-requires : goal.strike-requires
-strike-requires c = c.requires.write c.in-NewRef.r.0 (written_at c.args.label c.in-NewRef.r c.in-NewRef.is)
+pub strike-requires-in-NewRef : goal.strike-requires-in-NewRef
+strike-requires-in-NewRef c = c.requires.write c.in-NewRef.r.0 (written_at c.args.label c.in-NewRef.r c.in-NewRef.is)
 
 pub returns-in-NewChan-clause-lines : goal.returns-in-NewChan-clause-lines
 returns-in-NewChan-clause-lines c = λ k.

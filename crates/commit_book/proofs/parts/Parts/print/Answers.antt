@@ -2,11 +2,12 @@ use Rattle.std.proofs.Common.{◌≡◌, ℕ, ◌<◌, ◌≤◌, length, refl, 
 use Rattle.stab_journal.specs.Event.{IsName}
 use Rattle.stab_code.specs.Program.{ProgramParts}
 use Rattle.stab_code.specs.Valid.{IsValid}
-use Rattle.std.specs.Prelude.{IsSome, is_some, vec_len}
-use Rattle.std.specs.Vec.{vec_capacity}
+use Rattle.std.specs.Prelude.{IsSome, is_some}
+use Rattle.std.specs.List.{AllByRecursion}
 use Rattle.std.specs.FinMap as map
 use Rattle.step_eval.specs.Asked.{act_next, operands_of}
 use Rattle.step_eval.specs.ControlView.{ControlView, Fits}
+use Rattle.print_log.specs.Log.{Print, Prints}
 use Rattle.commit_book.specs.declared.counts.Tallies.{Tallies}
 use Rattle.commit_book.specs.declared.parts.Parts.{Parts}
 use Rattle.commit_book.specs.Acting.{AreAsBefore}
@@ -18,6 +19,7 @@ use Rattle.std.proofs.Common.{◌++◌, [], ◌∷◌}
 use Rattle.step_eval.specs.Acts.{first_of}
 use Rattle.commit_book.proofs.Acted.{needs_fit}
 use Rattle.commit_book.proofs.Lasting.{print_lasts}
+use Rattle.commit_book.proofs.Prints.{begun_prints, prints_below}
 use Rattle.commit_book.proofs.parts.Parts.print.Goals as goal
 
 pub plan_print-requires-clause-few : goal.plan_print-requires-clause-few
@@ -39,31 +41,38 @@ returns-in_default-clause-kept c = kept_same c.args.job.now c.args.self.now c.pl
 pub begin-control-requires : goal.begin-control-requires
 begin-control-requires c = may_begin c.args.job.now c.args.self.now c.args.lease.now c.args.progress c.requires.may c.plan_print.new.self c.in-Ok.ensures.before c.in-Ok.ensures.spare
 
-pub push-requires-clause-more : goal.push-requires-clause-more
-push-requires-clause-more c = c.begin-control.ensures.more
+pub push-q-requires-clause-more : goal.push-q-requires-clause-more
+push-q-requires-clause-more c = c.begin-control.ensures.more
 
-pub push-requires-clause-label : goal.push-requires-clause-label
-push-requires-clause-label c = subst IsName (sym c.thread.ensures) (named_at c.args.job.now c.args.self.now c.args.lease.now c.args.progress c.requires.may)
+pub push-q-requires-clause-label : goal.push-q-requires-clause-label
+push-q-requires-clause-label c = subst IsName (sym c.thread.ensures) (named_at c.args.job.now c.args.self.now c.args.lease.now c.args.progress c.requires.may)
 
 pub answer-requires-clause-valid : goal.answer-requires-clause-valid
 answer-requires-clause-valid c = subst (λ (p : ProgramParts). IsValid p) (sym (c.deref.ensures ∙ c.program.ensures.value)) c.requires.may.kept.valid
 
-pub push_reserved-requires : goal.push_reserved-requires
-push_reserved-requires c =
-    subst (λ (k : Parts). vec_len k.printed < vec_capacity k.printed) (sym c.push.ensures.rest)
-    (subst (λ (k : Parts). vec_len k.printed < vec_capacity k.printed) (sym c.begin-control.ensures.rest) c.in-Ok.ensures.place)
+pub push-requires-clause-spare : goal.push-requires-clause-spare
+push-requires-clause-spare c =
+    subst (λ (k : Parts). 1 ≤ k.printed.spare) (sym c.push-q.ensures.rest)
+    (subst (λ (k : Parts). 1 ≤ k.printed.spare) (sym c.begin-control.ensures.rest) c.in-Ok.ensures.place)
+
+pub push-requires-clause-later : goal.push-requires-clause-later
+push-requires-clause-later c =
+    let begins = c.begin-control.new.self in
+    let are = begun_prints c.args.self.now c.plan_print.new.self begins c.args.lease.now.worker c.args.lease.now.thread c.args.progress.steps c.in-Ok.ensures.before c.begin-control.ensures.history c.begin-control.ensures.rest c.requires.may.kept.prints in
+    subst (λ (k : Parts). AllByRecursion (λ (p : Print). p.number < c.push-q.result.0) k.printed.recent) (sym c.push-q.ensures.rest)
+    (subst (λ (n : ℕ). AllByRecursion (λ (p : Print). p.number < n) begins.printed.recent) (sym c.push-q.ensures.number) (prints_below begins.history begins.printed are))
 
 slots_are : (old planned begins pushed : Parts) → AreAsBefore old planned → begins ≡ record planned { history = begins.history } → pushed ≡ record begins { history = pushed.history } → pushed.slots.threads ≡ old.slots.threads
 slots_are old planned begins pushed before rest more = ap (λ (k : Parts). k.slots.threads) more ∙ ap (λ (k : Parts). k.slots.threads) rest ∙ before.threads
 
 pub answer-requires-clause-there : goal.answer-requires-clause-there
 answer-requires-clause-there c =
-    subst (λ (t : ℕ). IsSome (map.get c.push.new.self.slots.threads t)) (sym c.thread-2.ensures)
-    (there_at c.args.job.now c.args.self.now c.args.lease.now c.args.progress c.requires.may c.push.new.self.slots.threads (slots_are c.args.self.now c.plan_print.new.self c.begin-control.new.self c.push.new.self c.in-Ok.ensures.before c.begin-control.ensures.rest c.push.ensures.rest))
+    subst (λ (t : ℕ). IsSome (map.get c.push-q.new.self.slots.threads t)) (sym c.thread-2.ensures)
+    (there_at c.args.job.now c.args.self.now c.args.lease.now c.args.progress c.requires.may c.push-q.new.self.slots.threads (slots_are c.args.self.now c.plan_print.new.self c.begin-control.new.self c.push-q.new.self c.in-Ok.ensures.before c.begin-control.ensures.rest c.push-q.ensures.rest))
 
 pub answer-requires-clause-few : goal.answer-requires-clause-few
 answer-requires-clause-few c =
-    subst (λ (k : Tallies). k.faulted < 4294967296) (sym (ap (λ (k : Parts). k.tallies) c.push.ensures.rest ∙ ap (λ (k : Parts). k.tallies) c.begin-control.ensures.rest ∙ c.in-Ok.ensures.before.tallies))
+    subst (λ (k : Tallies). k.faulted < 4294967296) (sym (ap (λ (k : Parts). k.tallies) c.push-q.ensures.rest ∙ ap (λ (k : Parts). k.tallies) c.begin-control.ensures.rest ∙ c.in-Ok.ensures.before.tallies))
     (few_failed c.args.job.now c.args.self.now c.args.lease.now c.args.progress c.requires.may)
 
 pub answer-requires-clause-fits : goal.answer-requires-clause-fits
@@ -76,12 +85,12 @@ answer-requires-clause-act c = ap (λ (g : ControlView). is_some (act_next g)) c
 
 pub answer-requires-clause-fit : goal.answer-requires-clause-fit
 answer-requires-clause-fit c =
-    needs_fit c.args.job.now c.args.self.now c.args.lease.now c.args.progress c.requires.may (c.plan_print.new.self) c.begin-control.new.self (record c.push.new.self { printed = c.push_reserved.new.self }) (c.in-Ok.ensures.before) c.begin-control.ensures.rest (ap (λ k. k.slots) c.push.ensures.rest) c.deref.result.now (c.deref.ensures ∙ c.program.ensures.value)
+    needs_fit c.args.job.now c.args.self.now c.args.lease.now c.args.progress c.requires.may (c.plan_print.new.self) c.begin-control.new.self (record c.push-q.new.self { printed = c.push.new.self }) (c.in-Ok.ensures.before) c.begin-control.ensures.rest (ap (λ k. k.slots) c.push-q.ensures.rest) c.deref.result.now (c.deref.ensures ∙ c.program.ensures.value)
 
 pub returns-clause-done : goal.returns-clause-done
 returns-clause-done c =
-    (print_lasts c.args.job.now c.args.self.now c.args.lease.now c.args.progress c.requires.may (c.plan_print.new.self) c.begin-control.new.self (c.in-Ok.ensures.before) c.begin-control.ensures.history c.begin-control.ensures.rest c.push.new.self c.answer.new.self c.thread.result c.thread.ensures c.push.ensures.rest c.deref.result.now c.thread-2.result c.begin-control.result (c.deref.ensures ∙ c.program.ensures.value) c.thread-2.ensures c.begin-control.ensures.end c.requires.at c.push.ensures.history (record c.push.new.self { printed = c.push_reserved.new.self }) refl (c.push_reserved.ensures.items ∙ ap (λ v. c.push.new.self.printed.items ++ v ∷ []) (c.in-Ok.ensures.value ∙ ap (λ g. first_of (operands_of g)) c.end.ensures.end)) c.unit.result c.unit.ensures c.answer.ensures).0
+    (print_lasts c.args.job.now c.args.self.now c.args.lease.now c.args.progress c.requires.may (c.plan_print.new.self) c.begin-control.new.self (c.in-Ok.ensures.before) c.begin-control.ensures.history c.begin-control.ensures.rest c.push-q.new.self c.answer.new.self c.thread.result c.thread.ensures c.push-q.ensures.rest c.deref.result.now c.thread-2.result c.begin-control.result (c.deref.ensures ∙ c.program.ensures.value) c.thread-2.ensures c.begin-control.ensures.end c.requires.at c.push-q.ensures.history (record c.push-q.new.self { printed = c.push.new.self }) refl c.push-q.result.0 c.push-q.ensures.number (record { finals = ap (λ (p : Prints). p.finals) c.push.ensures; recent = ap (λ (p : Prints). p.recent) c.push.ensures ∙ ap (λ v. c.push-q.new.self.printed.recent ++ record { number = c.push-q.result.0; value = v } ∷ []) (c.in-Ok.ensures.value ∙ ap (λ g. first_of (operands_of g)) c.end.ensures.end) }) c.unit.result c.unit.ensures c.answer.ensures).0
 
 pub returns-clause-kept : goal.returns-clause-kept
 returns-clause-kept c =
-    (print_lasts c.args.job.now c.args.self.now c.args.lease.now c.args.progress c.requires.may (c.plan_print.new.self) c.begin-control.new.self (c.in-Ok.ensures.before) c.begin-control.ensures.history c.begin-control.ensures.rest c.push.new.self c.answer.new.self c.thread.result c.thread.ensures c.push.ensures.rest c.deref.result.now c.thread-2.result c.begin-control.result (c.deref.ensures ∙ c.program.ensures.value) c.thread-2.ensures c.begin-control.ensures.end c.requires.at c.push.ensures.history (record c.push.new.self { printed = c.push_reserved.new.self }) refl (c.push_reserved.ensures.items ∙ ap (λ v. c.push.new.self.printed.items ++ v ∷ []) (c.in-Ok.ensures.value ∙ ap (λ g. first_of (operands_of g)) c.end.ensures.end)) c.unit.result c.unit.ensures c.answer.ensures).1
+    (print_lasts c.args.job.now c.args.self.now c.args.lease.now c.args.progress c.requires.may (c.plan_print.new.self) c.begin-control.new.self (c.in-Ok.ensures.before) c.begin-control.ensures.history c.begin-control.ensures.rest c.push-q.new.self c.answer.new.self c.thread.result c.thread.ensures c.push-q.ensures.rest c.deref.result.now c.thread-2.result c.begin-control.result (c.deref.ensures ∙ c.program.ensures.value) c.thread-2.ensures c.begin-control.ensures.end c.requires.at c.push-q.ensures.history (record c.push-q.new.self { printed = c.push.new.self }) refl c.push-q.result.0 c.push-q.ensures.number (record { finals = ap (λ (p : Prints). p.finals) c.push.ensures; recent = ap (λ (p : Prints). p.recent) c.push.ensures ∙ ap (λ v. c.push-q.new.self.printed.recent ++ record { number = c.push-q.result.0; value = v } ∷ []) (c.in-Ok.ensures.value ∙ ap (λ g. first_of (operands_of g)) c.end.ensures.end) }) c.unit.result c.unit.ensures c.answer.ensures).1

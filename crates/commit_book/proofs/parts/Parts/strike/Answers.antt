@@ -11,4 +11,5 @@ returns-in-Some-clause-struck c =
     let history = ap (λ (x : Parts). x.history) c.forget.ensures.rest in
     one_struck old c.args.q.0 c.requires c.in-Some.label (sym c.label_at-label.ensures ∙ c.in-Some.is) new (history ∙ c.strike.ensures.after)
     c.forget.ensures.writes c.forget.ensures.last_cut c.forget.ensures.lines c.forget.ensures.offers (ap (λ (x : Parts). x.rollback) c.forget.ensures.rest)
-    (c.forget.ensures.rest ∙ ap (λ (h : Journal). record old { history = h; log = new.log; offers = new.offers }) (sym history))
+    c.forget.ensures.finals c.forget.ensures.recent
+    (c.forget.ensures.rest ∙ ap (λ (h : Journal). record old { history = h; log = new.log; offers = new.offers; printed = new.printed }) (sym history))

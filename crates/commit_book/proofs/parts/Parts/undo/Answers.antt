@@ -4,7 +4,7 @@ use Rattle.restore.specs.Found.{Lines}
 use Rattle.commit_book.specs.declared.parts.Parts.{Parts}
 use Rattle.commit_book.specs.declared.rollback.Rollback.{Rollback}
 use Rattle.commit_book.specs.TakenOut.{IsTakenOut, IsUndoing}
-use Rattle.commit_book.proofs.UndoCalls.{lost_all, prints_few, prints_low, prints_rising, prints_steps, read_planned, taken_out}
+use Rattle.commit_book.proofs.UndoCalls.{lost_all, read_planned, taken_out}
 use Rattle.commit_book.proofs.UndoneNeeds.{failed_few, failed_left, lines_kept, lines_live, lines_young, may_strike_all, names_low, nodes_there, places_there}
 use Rattle.commit_book.proofs.parts.Parts.undo.Goals as goal
 
@@ -55,42 +55,16 @@ strike_all-removed-requires c = record {
   may =
       may_strike_all c.args.self.now c.args.mark.0 c.read_all.new.self.marks.nodes (still c.args.self.now c.args.mark.0 c.read_all.new.self c.read_all.ensures.marks c.requires) c.lines_in.new.plan.lines c.lines_in.ensures.lines c.apply.new.slots.threads (λ t. c.apply.ensures.threads (record { 0 = t }))
       (record c.args.self.now { slots = c.apply.new.slots; offers = c.apply.new.offers; store = c.apply.new.store; graph = c.apply.new.graph; tallies = record c.args.self.now.tallies { faulted = c.args.self.now.tallies.faulted - c.failed_among.result }; rollback = c.gather.new.self })
-      refl refl c.apply.ensures.waiting c.apply.ensures.offers (numbers c.gather.new.self.lost.items)
+      refl refl refl c.apply.ensures.waiting c.apply.ensures.offers (numbers c.gather.new.self.lost.items)
       (lost_all c.args.self.now c.args.mark.0 c.read_all.new.self.marks.nodes (still c.args.self.now c.args.mark.0 c.read_all.new.self c.read_all.ensures.marks c.requires) (record c.read_all.new.self { plan = c.lines_in.new.plan }) c.gather.new.self (read_planned c.args.self.now.history c.read_all.new.self (record c.read_all.new.self { plan = c.lines_in.new.plan }) c.read_all.ensures.read refl) c.read_all.ensures.all c.lines_in.ensures.lines c.gather.ensures.gathered);
 }
 
-pub drop_prints-requires-clause-printed : goal.drop_prints-requires-clause-printed
-drop_prints-requires-clause-printed c =
-    prints_few c.args.self.now c.args.mark.0 c.read_all.new.self.marks.nodes (still c.args.self.now c.args.mark.0 c.read_all.new.self c.read_all.ensures.marks c.requires) (record c.read_all.new.self { plan = c.lines_in.new.plan }) c.gather.new.self (read_planned c.args.self.now.history c.read_all.new.self (record c.read_all.new.self { plan = c.lines_in.new.plan }) c.read_all.ensures.read refl) c.read_all.ensures.all c.lines_in.ensures.lines c.gather.ensures.gathered
-    (record c.args.self.now { slots = c.apply.new.slots; offers = c.apply.new.offers; store = c.apply.new.store; graph = c.apply.new.graph; tallies = record c.args.self.now.tallies { faulted = c.args.self.now.tallies.faulted - c.failed_among.result }; rollback = c.gather.new.self })
-    c.strike_all-removed.new.self c.strike_all-removed.result refl c.strike_all-removed.ensures.struck
-
-pub drop_prints-requires-clause-rising : goal.drop_prints-requires-clause-rising
-drop_prints-requires-clause-rising c =
-    prints_rising c.args.self.now c.args.mark.0 c.read_all.new.self.marks.nodes (still c.args.self.now c.args.mark.0 c.read_all.new.self c.read_all.ensures.marks c.requires) (record c.read_all.new.self { plan = c.lines_in.new.plan }) c.gather.new.self (read_planned c.args.self.now.history c.read_all.new.self (record c.read_all.new.self { plan = c.lines_in.new.plan }) c.read_all.ensures.read refl) c.read_all.ensures.all c.lines_in.ensures.lines c.gather.ensures.gathered
-    (record c.args.self.now { slots = c.apply.new.slots; offers = c.apply.new.offers; store = c.apply.new.store; graph = c.apply.new.graph; tallies = record c.args.self.now.tallies { faulted = c.args.self.now.tallies.faulted - c.failed_among.result }; rollback = c.gather.new.self })
-    c.strike_all-removed.new.self c.strike_all-removed.result refl c.strike_all-removed.ensures.struck
-
-pub drop_prints-requires-clause-low : goal.drop_prints-requires-clause-low
-drop_prints-requires-clause-low c =
-    prints_low c.args.self.now c.args.mark.0 c.read_all.new.self.marks.nodes (still c.args.self.now c.args.mark.0 c.read_all.new.self c.read_all.ensures.marks c.requires) (record c.read_all.new.self { plan = c.lines_in.new.plan }) c.gather.new.self (read_planned c.args.self.now.history c.read_all.new.self (record c.read_all.new.self { plan = c.lines_in.new.plan }) c.read_all.ensures.read refl) c.read_all.ensures.all c.lines_in.ensures.lines c.gather.ensures.gathered
-    (record c.args.self.now { slots = c.apply.new.slots; offers = c.apply.new.offers; store = c.apply.new.store; graph = c.apply.new.graph; tallies = record c.args.self.now.tallies { faulted = c.args.self.now.tallies.faulted - c.failed_among.result }; rollback = c.gather.new.self })
-    c.strike_all-removed.new.self c.strike_all-removed.result refl c.strike_all-removed.ensures.struck
-    c.unprinted-unprinted.result.0 c.unprinted-unprinted.ensures
-
-pub drop_prints-requires-clause-steps : goal.drop_prints-requires-clause-steps
-drop_prints-requires-clause-steps c =
-    prints_steps c.args.self.now c.args.mark.0 c.read_all.new.self.marks.nodes (still c.args.self.now c.args.mark.0 c.read_all.new.self c.read_all.ensures.marks c.requires) (record c.read_all.new.self { plan = c.lines_in.new.plan }) c.gather.new.self (read_planned c.args.self.now.history c.read_all.new.self (record c.read_all.new.self { plan = c.lines_in.new.plan }) c.read_all.ensures.read refl) c.read_all.ensures.all c.lines_in.ensures.lines c.gather.ensures.gathered
-    (record c.args.self.now { slots = c.apply.new.slots; offers = c.apply.new.offers; store = c.apply.new.store; graph = c.apply.new.graph; tallies = record c.args.self.now.tallies { faulted = c.args.self.now.tallies.faulted - c.failed_among.result }; rollback = c.gather.new.self })
-    c.strike_all-removed.new.self c.strike_all-removed.result refl c.strike_all-removed.ensures.struck
-
 pub returns-clause-out : goal.returns-clause-out
 returns-clause-out c =
-    subst (λ (ms : MarkList). IsTakenOut c.args.self.now c.drop_prints.new.self c.args.mark.0 c.strike_all-removed.result ms.nodes) c.read_all.ensures.marks
+    subst (λ (ms : MarkList). IsTakenOut c.args.self.now c.strike_all-removed.new.self c.args.mark.0 c.strike_all-removed.result ms.nodes) c.read_all.ensures.marks
     (taken_out c.args.self.now c.args.mark.0 c.read_all.new.self.marks.nodes (still c.args.self.now c.args.mark.0 c.read_all.new.self c.read_all.ensures.marks c.requires) (record c.read_all.new.self { plan = c.lines_in.new.plan }) c.gather.new.self (read_planned c.args.self.now.history c.read_all.new.self (record c.read_all.new.self { plan = c.lines_in.new.plan }) c.read_all.ensures.read refl) c.read_all.ensures.all c.lines_in.ensures.lines c.gather.ensures.gathered
     (record c.args.self.now { slots = c.apply.new.slots; offers = c.apply.new.offers; store = c.apply.new.store; graph = c.apply.new.graph; tallies = record c.args.self.now.tallies { faulted = c.args.self.now.tallies.faulted - c.failed_among.result }; rollback = c.gather.new.self })
     c.strike_all-removed.new.self c.strike_all-removed.result refl c.strike_all-removed.ensures.struck
-    c.drop_prints.new.self c.drop_prints.ensures.prints c.drop_prints.ensures.rest c.drop_prints.ensures.printed
     (λ t. c.apply.ensures.threads (record { 0 = t })) c.apply.ensures.queue c.apply.ensures.next
     (failed_left c.args.self.now c.args.mark.0 c.read_all.new.self.marks.nodes (still c.args.self.now c.args.mark.0 c.read_all.new.self c.read_all.ensures.marks c.requires) c.lines_in.new.plan.lines c.lines_in.ensures.lines c.failed_among.result c.failed_among.ensures)
     c.apply.ensures.waiting c.apply.ensures.offers (λ k v. c.apply.ensures.saved (record { 0 = k }) (record { 0 = v })) c.apply.ensures.nodes)

@@ -12,5 +12,5 @@ returns c =
       gathered =
           gathered_all c.args.self.now new c.take_lost.new.lost.items c.take_lost.ensures c.sort_unstable_by_key.ensures.permutation
           (IsNonDecreasingBy-from_sort_by_key (λ (q : Seq). q.0) _ c.sort_unstable_by_key.ensures.sorted (λ a r q k. search rules))
-          (refl, refl, refl, refl);
+          (refl, refl, refl);
     }

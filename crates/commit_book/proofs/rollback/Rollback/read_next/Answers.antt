@@ -1,13 +1,11 @@
 use Rattle.std.proofs.Common.{◌<◌, ◌+◌, ◌++◌, ◌∷◌, [], cond, length, refl, sym, ap, subst, ◌∙◌, arith}
-use Rattle.reach_line.specs.MarkList.{numbers}
-use Rattle.stab_journal.specs.Due.{is_print}
 use Rattle.stab_journal.specs.Journal.{IsLive, label_at}
 use Rattle.stab_journal.specs.Label.{actors}
 use Rattle.stab_journal.specs.Names.{has}
 use Rattle.own_steps.specs.Own.{steps_of}
 use Rattle.commit_book.specs.declared.rollback.Rollback.{Rollback}
 use Rattle.commit_book.specs.OwnSteps.{IsRead}
-use Rattle.commit_book.proofs.ReadSteps.{acting_low, numbers_more, read_none, read_one}
+use Rattle.commit_book.proofs.ReadSteps.{acting_low, read_none, read_one}
 use Rattle.commit_book.proofs.rollback.Rollback.read_next.Goals as goal
 
 pub read_step-requires-clause-places : goal.read_step-requires-clause-places
@@ -31,7 +29,6 @@ returns-in-Some-clause-read c =
     (ap (λ (r : Rollback). r.read) rest ∙ next)
     (ap (λ (r : Rollback). r.floor) rest)
     (λ t. c.read_step.ensures.own t ∙ ap (λ n. steps_of old.own t ++ cond (has (actors label) t) (n ∷ []) []) next)
-    (ap numbers c.read_step.ensures.prints ∙ numbers_more old.prints.items c.args.q (is_print label) ∙ ap (λ n. numbers old.prints.items ++ cond (is_print label) (n ∷ []) []) next)
     (ap (λ (r : Rollback). r.lost.items) rest)
 
 pub returns-in-None-clause-read : goal.returns-in-None-clause-read
