@@ -5,6 +5,3 @@ mod entries;
 mod store;
 
 pub use store::Store;
-
-#[cfg(test)]
-mod tests;

@@ -8,8 +8,6 @@ mod line;
 mod node;
 mod readers;
 mod table;
-#[cfg(test)]
-mod tests;
 mod threads;
 mod walk;
 

@@ -3,7 +3,5 @@
 
 mod links;
 mod lists;
-#[cfg(test)]
-mod tests;
 
 pub use lists::Lists;

@@ -3,7 +3,5 @@
 
 mod entries;
 mod own_steps;
-#[cfg(test)]
-mod tests;
 
 pub use own_steps::OwnSteps;

@@ -3,8 +3,6 @@
 
 mod marks;
 mod reaching;
-#[cfg(test)]
-mod tests;
 
 pub use marks::Marks;
 pub use reaching::reach;

@@ -5,8 +5,6 @@ mod nodes;
 mod offer;
 mod offers;
 mod opens;
-#[cfg(test)]
-mod tests;
 
 pub use offer::{Offer, Side};
 pub use offers::Offers;

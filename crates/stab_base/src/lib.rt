@@ -5,8 +5,6 @@ mod fault;
 mod numbers;
 mod print;
 mod shape;
-#[cfg(test)]
-mod tests;
 mod texts;
 mod value;
 

@@ -14,6 +14,3 @@ fn crosses_threads<T: Send + Sync>(_value: &T) {}
 fn history_crosses_threads(history: &History) {
     crosses_threads(history);
 }
-
-#[cfg(test)]
-mod tests;

@@ -6,8 +6,6 @@ mod entries;
 mod queues;
 mod slots;
 mod state;
-#[cfg(test)]
-mod tests;
 
 pub use counts::StateCounts;
 pub use slots::Slots;

@@ -1,0 +1,98 @@
+//! The controls that are saved.
+
+ghost use Rattle.std.specs.Prelude.{◌<◌, ◌≤◌, ◌+◌, IsSome};
+ghost use Rattle.stab_base.specs.declared.numbers.Seq.{Seq};
+ghost use Rattle.stab_base.specs.declared.numbers.ThreadId.{ThreadId};
+ghost use Rattle.checkpoint_store.specs.Saved.{saved_at};
+
+use checkpoint_store::Store;
+use stab_base::{Seq, ThreadId};
+use std::test::Fail;
+
+/// A control that has to be dropped, and is no number.
+#[derive(Debug, Drop, PartialEq, Eq)]
+struct Control {
+    frames: Vec<u32>,
+}
+
+#[test]
+fn a_control_comes_back_once(rt: HostRuntime) -> Result<(), Fail> {
+    let mut store = Store::new(rt.alloc());
+    let control = Control {
+        frames: vec![in rt.alloc(); 7, 8]?,
+    };
+    assert_eq!(rt; store.reserve(1), Ok(()));
+    store.save(Seq(3), ThreadId(2), control);
+    assert_eq!(rt; store.take(Seq(2), ThreadId(2)), None);
+    assert_eq!(rt; store.take(Seq(3), ThreadId(1)), None);
+    let taken = store.take(Seq(3), ThreadId(2)).ok_or("nothing is saved")?;
+    assert_eq!(rt; taken.frames.as_slice(), [7, 8].as_slice());
+    assert_eq!(rt; store.take(Seq(3), ThreadId(2)), None);
+    Ok(())
+}
+
+#[test]
+fn both_actors_of_an_event_are_saved(rt: HostRuntime) {
+    let mut store = Store::new(rt.alloc());
+    assert_eq!(rt; store.reserve(2), Ok(()));
+    store.save(Seq(3), ThreadId(2), 20);
+    store.save(Seq(3), ThreadId(5), 50);
+    assert_eq!(rt; store.reserve(100_000), Ok(()));
+    assert_eq!(rt; store.take(Seq(3), ThreadId(5)), Some(50));
+    assert_eq!(rt; store.take(Seq(3), ThreadId(2)), Some(20));
+}
+
+type Plain = Vec<(u64, u32, u64)>;
+
+// Saves a control of an event behind all those that have one.
+fn save_next(store: &mut Store<u64>, q: u64, t: u32, control: u64)
+    requires spare { 1 ≤ store.old.spare }
+    requires before { (r : Seq) (u : ThreadId) → IsSome (saved_at store.old r u) → r.0 < q }
+    ensures { (r : Seq) (u : ThreadId) → IsSome (saved_at store.new r u) → r.0 < q + 1 }
+{
+    store.save(Seq(q), ThreadId(t), control);
+}
+
+fn take_from_list(plain: &mut Plain, q: u64, t: u32) -> Option<u64> {
+    let i = plain.iter().position(|saved| saved.0 == q && saved.1 == t)?;
+    if i < plain.len() {
+        return Some(plain.remove(i).2);
+    }
+    None
+}
+
+// Beside a plain list: each event has a control saved, one taken out and some dropped.
+#[test]
+fn calls_beside_a_plain_list(rt: HostRuntime) -> Result<(), Fail> {
+    let mut store = Store::new(rt.alloc());
+    let mut plain: Plain = Vec::new(rt.alloc());
+    for q in 1..1000u64 {
+        let t = (q * 7 % 3) as u32;
+        assert_eq!(rt; store.reserve(1), Ok(()));
+        save_next(&mut store, q, t, q * 10);
+        plain.push((q, t, q * 10))?;
+        let taken = q - q * 11 % 5 % q;
+        assert_eq!(rt;
+            store.take(Seq(taken), ThreadId(t)),
+            take_from_list(&mut plain, taken, t)
+        );
+        if q % 4 == 0 {
+            let low = q.saturating_sub(9);
+            store.drop_before(Seq(low));
+            plain.retain(|saved| saved.0 >= low);
+        } else {
+            let at = q.saturating_sub(q % 4);
+            store.drop_at(Seq(at));
+            plain.retain(|saved| saved.0 != at);
+        }
+    }
+    for q in 1..1000u64 {
+        for t in 0..3u32 {
+            assert_eq!(rt;
+                store.take(Seq(q), ThreadId(t)),
+                take_from_list(&mut plain, q, t)
+            );
+        }
+    }
+    Ok(())
+}
