@@ -8,6 +8,3 @@ mod script;
 pub use laws::{one_order, orders_are_read, what_is_read_is_an_order};
 pub use order::{Order, Verb};
 pub use script::{Line, read_script};
-
-#[cfg(test)]
-mod tests;

@@ -7,6 +7,3 @@ mod read;
 
 pub use fault::ProbesFault;
 pub use read::read_probes;
-
-#[cfg(test)]
-mod tests;

@@ -11,8 +11,6 @@ mod piece;
 mod quoted;
 mod reserved;
 mod separator;
-#[cfg(test)]
-mod tests;
 mod token;
 mod tokens;
 mod word;

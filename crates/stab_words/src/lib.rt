@@ -13,6 +13,3 @@ pub use reading::read_words;
 pub use request::{
     DrillArgs, MillArgs, Request, ResumeArgs, RunArgs, SaveArgs, VerifyArgs, WordFault,
 };
-
-#[cfg(test)]
-mod tests;

@@ -1,9 +1,7 @@
 //! Tables of words with what they ask for, or their fault.
 //! The words of a line stand between single spaces, so two in a row have an empty word between them.
 
-use crate::name::Name;
-use crate::reading::read_words;
-use crate::request::{Request, RunArgs, WordFault};
+use stab_words::{Name, Request, RunArgs, WordFault, read_words};
 use std::alloc::{AllocError, Global};
 use std::test::Fail;
 

@@ -1,0 +1,7 @@
+//! Trials of what is read: words, tokens, probes and scripts of drills.
+//!
+//! They stand in a crate of their own, since to prove the tests of a crate is to prove it once more.
+#![tactic(auto)]
+
+#[cfg(test)]
+mod tests;
