@@ -5,6 +5,7 @@ use comm_graph::NodeFor;
 use rendezvous::Offer;
 use stab_base::{Generation, NoMemory, Seq, ThreadId};
 use std::alloc::Global;
+use std::process::Abort;
 use std::test::Fail;
 use thread_slots::State;
 
@@ -42,15 +43,25 @@ const AGAIN: [Act; 2] = [
 ];
 
 // Threads 1, 3 and 5 are ready, and 2, 6 and 4 wait on A in this order.
-fn six_threads(alloc: Global) -> Result<Run, Fail> {
-    let mut run = Run::new(alloc)?;
+fn start_six(run: &mut Run) -> Result<(), Fail> {
     for control in [1, 2, 3, 4, 5, 6] {
         run.start(control)?;
     }
-    run.park(2, Offer::Recv(A))?;
-    run.park(6, Offer::Pick(A, B))?;
-    run.park(4, Offer::Recv(A))?;
-    Ok(run)
+    for (t, offer) in [
+        (2, Offer::Recv(A)),
+        (6, Offer::Pick(A, B)),
+        (4, Offer::Recv(A)),
+    ] {
+        run.park(t, offer)?;
+    }
+    act_all(run, &ACTS)
+}
+
+fn act_all(run: &mut Run, acts: &[Act]) -> Result<(), Fail> {
+    for (q, node, saved) in acts {
+        run.act(*q, *node, saved)?;
+    }
+    Ok(())
 }
 
 // A thread's control, how often it was put back, and what it is doing.
@@ -60,34 +71,75 @@ fn thread(run: &Run, t: u32) -> Option<(u32, Generation, State)> {
     Some((*control, run.slots.generation(t)?, run.slots.state(t)?))
 }
 
+// The first six threads.
+fn threads(alloc: Global, run: &Run) -> Result<String, Fail> {
+    let mut out = String::new(alloc);
+    for t in 1..=6 {
+        match thread(run, t) {
+            Some((control, generation, state)) => {
+                let times = generation.0;
+                out.push_str(format!(in alloc; "{control} {times} {state:?}, ")?.as_str())?;
+            }
+            None => out.push_str("gone, ")?,
+        }
+    }
+    Ok(out)
+}
+
+// Lends the threads that are ready, in the order of the queue.
+fn lent(alloc: Global, run: &mut Run) -> Result<Vec<u32>, Fail> {
+    let mut lent = Vec::new(alloc);
+    for _ in 0..9 {
+        if let Some(t) = run.slots.front() {
+            lent.push(t.0)?;
+            run.lease(t.0);
+        }
+    }
+    Ok(lent)
+}
+
+fn expect_threads(
+    rt: &impl Abort,
+    alloc: Global,
+    run: &mut Run,
+    wanted: &str,
+    queue: &[u32],
+) -> Result<(), Fail> {
+    let found = threads(alloc, run)?;
+    assert_eq!(rt; found.as_str(), wanted);
+    let lent = lent(alloc, run)?;
+    assert_eq!(rt; lent.as_slice(), queue);
+    Ok(())
+}
+
+fn expect_nodes(rt: &impl Abort, alloc: Global, run: &Run, wanted: &[u64]) -> Result<(), Fail> {
+    let numbers = run.nodes.numbers(alloc, 20)?;
+    assert_eq!(rt; numbers.as_slice(), wanted);
+    Ok(())
+}
+
+// What a test does with a run stands in a function of its own, so that few steps can fail where a whole run is to be dropped.
+fn go_back(rt: &impl Abort, alloc: Global, run: &mut Run) -> Result<(), Fail> {
+    start_six(run)?;
+    assert_eq!(rt;
+        [run.next_for(A), run.next_for(B)],
+        [Some(TWO), Some(ThreadId(6))]
+    );
+    run.take_back(6)?;
+    assert_eq!(rt; [run.next_for(A), run.next_for(B)], [Some(FOUR), None]);
+    for (t, offer) in [(2, None), (6, None), (4, Some(Offer::Recv(A)))] {
+        assert_eq!(rt; run.offers.offer(ThreadId(t)), offer, "{t}");
+    }
+    assert_eq!(rt; run.slots.next_thread(), ThreadId(7));
+    // Thread 1 goes back to its receive, thread 2 to the section's entry.
+    let wanted = "91 1 Ready, 62 1 Ready, 3 0 Ready, 4 0 Parked, gone, gone, ";
+    expect_threads(rt, alloc, run, wanted, &[3, 1, 2])
+}
+
 #[test]
 fn threads_go_back(rt: HostRuntime) -> Result<(), Fail> {
-    let mut run = six_threads(rt.alloc())?;
-    for (q, node, saved) in ACTS {
-        run.act(q, node, saved)?;
-    }
-    assert_eq!(rt; run.next_for(A), Some(TWO));
-    assert_eq!(rt; run.next_for(B), Some(ThreadId(6)));
-    run.take_back(6)?;
-    // Thread 1 goes back to its receive, thread 2 to the section's entry.
-    assert_eq!(rt; thread(&run, 1), Some((91, Generation(1), State::Ready)));
-    assert_eq!(rt; thread(&run, 2), Some((62, Generation(1), State::Ready)));
-    assert_eq!(rt; thread(&run, 3), Some((3, Generation(0), State::Ready)));
-    assert_eq!(rt; thread(&run, 4), Some((4, Generation(0), State::Parked)));
-    assert_eq!(rt; thread(&run, 5), None);
-    assert_eq!(rt; thread(&run, 6), None);
-    assert_eq!(rt; run.slots.next_thread(), ThreadId(7));
-    for t in [3, 1, 2] {
-        assert_eq!(rt; run.slots.front(), Some(ThreadId(t)));
-        run.lease(t);
-    }
-    assert_eq!(rt; run.slots.front(), None);
-    assert_eq!(rt; run.offers.offer(TWO), None);
-    assert_eq!(rt; run.offers.offer(ThreadId(6)), None);
-    assert_eq!(rt; run.offers.offer(FOUR), Some(Offer::Recv(A)));
-    assert_eq!(rt; run.next_for(A), Some(FOUR));
-    assert_eq!(rt; run.next_for(B), None);
-    Ok(())
+    let mut run = Run::new(rt.alloc())?;
+    go_back(&rt, rt.alloc(), &mut run)
 }
 
 // Takes out what is still saved at these places; the last digit of a control is no part of its node's number.
@@ -100,47 +152,36 @@ fn take_saved(run: &mut Run, saved: &[(u32, u32)], left: &mut Vec<u32>) -> Resul
     Ok(())
 }
 
-#[test]
-fn marked_nodes_go_with_what_is_saved_of_them(rt: HostRuntime) -> Result<(), Fail> {
-    let mut run = six_threads(rt.alloc())?;
-    for (q, node, saved) in ACTS {
-        run.act(q, node, saved)?;
-    }
+fn go_with_what_is_saved(rt: &impl Abort, alloc: Global, run: &mut Run) -> Result<(), Fail> {
+    start_six(run)?;
     run.take_back(6)?;
-    assert_eq!(rt;
-        run.nodes.numbers(rt.alloc(), 20)?.as_slice(),
-        [1, 2, 3, 4, 5, 11].as_slice()
-    );
-    let mut left = Vec::new(rt.alloc());
+    expect_nodes(rt, alloc, run, &[1, 2, 3, 4, 5, 11])?;
+    let mut left = Vec::new(alloc);
     for (_q, _node, saved) in ACTS {
-        take_saved(&mut run, saved, &mut left)?;
+        take_saved(run, saved, &mut left)?;
     }
     assert_eq!(rt; left.as_slice(), [54, 113].as_slice());
     Ok(())
 }
 
 #[test]
-fn a_section_is_taken_back_again(rt: HostRuntime) -> Result<(), Fail> {
-    let mut run = six_threads(rt.alloc())?;
-    for (q, node, saved) in ACTS {
-        run.act(q, node, saved)?;
-    }
+fn marked_nodes_go_with_what_is_saved_of_them(rt: HostRuntime) -> Result<(), Fail> {
+    let mut run = Run::new(rt.alloc())?;
+    go_with_what_is_saved(&rt, rt.alloc(), &mut run)
+}
+
+fn go_back_twice(rt: &impl Abort, alloc: Global, run: &mut Run) -> Result<(), Fail> {
+    start_six(run)?;
     run.take_back(6)?;
-    for (q, node, saved) in AGAIN {
-        run.act(q, node, saved)?;
-    }
+    act_all(run, &AGAIN)?;
     run.take_back(13)?;
-    assert_eq!(rt; thread(&run, 1), Some((91, Generation(1), State::Ready)));
-    assert_eq!(rt; thread(&run, 2), Some((132, Generation(2), State::Ready)));
-    assert_eq!(rt; thread(&run, 3), Some((143, Generation(1), State::Ready)));
-    for t in [1, 2, 3] {
-        assert_eq!(rt; run.slots.front(), Some(ThreadId(t)));
-        run.lease(t);
-    }
-    assert_eq!(rt; run.slots.front(), None);
-    assert_eq!(rt;
-        run.nodes.numbers(rt.alloc(), 20)?.as_slice(),
-        [1, 2, 3, 4, 5, 11].as_slice()
-    );
-    Ok(())
+    expect_nodes(rt, alloc, run, &[1, 2, 3, 4, 5, 11])?;
+    let wanted = "91 1 Ready, 132 2 Ready, 143 1 Ready, 4 0 Parked, gone, gone, ";
+    expect_threads(rt, alloc, run, wanted, &[1, 2, 3])
+}
+
+#[test]
+fn a_section_is_taken_back_again(rt: HostRuntime) -> Result<(), Fail> {
+    let mut run = Run::new(rt.alloc())?;
+    go_back_twice(&rt, rt.alloc(), &mut run)
 }

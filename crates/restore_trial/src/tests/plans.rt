@@ -4,6 +4,8 @@ use super::{Nodes, Rollback};
 use comm_graph::NodeFor;
 use restore::Line;
 use stab_base::{Seq, ThreadId};
+use std::alloc::Global;
+use std::process::Abort;
 use std::test::Fail;
 
 // Thread 1 enters a section at 5, sets what threads 2 and 3 read, and starts thread 4, which starts thread 5. Thread 6 reads
@@ -32,40 +34,57 @@ const fn from(q: u64) -> Option<Line> {
 
 const GONE: Option<Line> = Some(Line::Gone);
 
+// The touched threads with their lines are these.
+fn expect_lines(
+    rt: &impl Abort,
+    alloc: Global,
+    rollback: &Rollback,
+    wanted: &[(u32, Option<Line>)],
+) -> Result<(), Fail> {
+    let told = rollback.told(alloc)?;
+    assert_eq!(rt; told.as_slice(), wanted);
+    for t in 1..=7 {
+        let is_touched = wanted.iter().any(|(u, _)| *u == t);
+        assert_eq!(rt;
+            rollback.plan.line(ThreadId(t)).is_some(),
+            is_touched,
+            "{t}"
+        );
+    }
+    Ok(())
+}
+
+fn expect_plan(
+    rt: &impl Abort,
+    alloc: Global,
+    nodes: &Nodes,
+    rollback: &mut Rollback,
+) -> Result<(), Fail> {
+    expect_lines(rt, alloc, rollback, &[])?;
+    // The section: the get of thread 2 at 12 is marked before its receive at 9.
+    rollback.find(nodes, 5)?;
+    let section = [
+        (1, from(5)),
+        (2, from(9)),
+        (3, from(8)),
+        (4, GONE),
+        (5, GONE),
+    ];
+    expect_lines(rt, alloc, rollback, &section)?;
+    // The same plan again: thread 4 is there at 11, and acts in it.
+    rollback.find(nodes, 11)?;
+    let child = [(3, from(13)), (4, from(11)), (5, GONE)];
+    expect_lines(rt, alloc, rollback, &child)?;
+    // And where thread 5 is there too.
+    rollback.find(nodes, 9)?;
+    let partner = [(2, from(9)), (3, from(9)), (5, from(13))];
+    expect_lines(rt, alloc, rollback, &partner)
+}
+
 #[test]
 fn a_plan_and_its_lines(rt: HostRuntime) -> Result<(), Fail> {
-    let alloc = rt.alloc();
-    let mut nodes = Nodes::new(alloc);
+    let mut nodes = Nodes::new(rt.alloc());
     nodes.put_all(&NODES)?;
-    let mut rollback = Rollback::new(alloc);
-    assert!(rt; rollback.told(alloc)?.is_empty());
-    // The section: the get of thread 2 at 12 is marked before its receive at 9.
-    rollback.find(&nodes, 5)?;
-    assert_eq!(rt;
-        rollback.told(alloc)?.as_slice(),
-        [
-            (1, from(5)),
-            (2, from(9)),
-            (3, from(8)),
-            (4, GONE),
-            (5, GONE)
-        ]
-        .as_slice()
-    );
-    assert_eq!(rt; rollback.plan.line(ThreadId(6)), None);
-    assert_eq!(rt; rollback.plan.line(ThreadId(7)), None);
-    // The same plan again: thread 4 is there at 11, and acts in it.
-    rollback.find(&nodes, 11)?;
-    assert_eq!(rt;
-        rollback.told(alloc)?.as_slice(),
-        [(3, from(13)), (4, from(11)), (5, GONE)].as_slice()
-    );
-    // And where thread 5 is there too.
-    rollback.find(&nodes, 9)?;
-    assert_eq!(rt;
-        rollback.told(alloc)?.as_slice(),
-        [(2, from(9)), (3, from(9)), (5, from(13))].as_slice()
-    );
-    assert_eq!(rt; rollback.plan.line(ThreadId(4)), None);
-    Ok(())
+    let mut rollback = Rollback::new(rt.alloc());
+    expect_plan(&rt, rt.alloc(), &nodes, &mut rollback)
 }
