@@ -6,6 +6,7 @@ ghost use Rattle.stab_files.specs.Told.{Appends, AppendsPrefix};
 use crate::{DiskFiles, Files, Loaded, MemFiles, MemSink, OutSink, Sink, SinkFail};
 use std::alloc::{AllocError, Global};
 use std::io::{self, ErrorKind, Write};
+use std::process::Abort;
 use std::test::Fail;
 use std::{env, fs, process};
 
@@ -34,34 +35,56 @@ fn is_there<F: Files>(files: &mut F, alloc: Global, name: &str) -> Option<bool>
     }
 }
 
-fn file(alloc: Global, name: &str, contents: &[u8]) -> Result<(String, Vec<u8>), AllocError> {
-    Ok((
-        String::from_str(alloc, name)?,
-        Vec::from_slice(alloc, contents)?,
-    ))
+/// What a load gave: the bytes of the file, or a word for why there are none.
+fn told(loaded: &Loaded) -> &[u8] {
+    match loaded {
+        Loaded::Bytes(bytes) => bytes.as_slice(),
+        Loaded::Missing => b"(missing)",
+        Loaded::TooBig => b"(too big)",
+        Loaded::Failed => b"(failed)",
+        Loaded::NoMemory => b"(no memory)",
+    }
 }
 
-fn loaded(alloc: Global, contents: &[u8]) -> Result<Loaded, AllocError> {
-    Ok(Loaded::Bytes(Vec::from_slice(alloc, contents)?))
+fn expect<F: Files>(
+    rt: &impl Abort,
+    files: &mut F,
+    alloc: Global,
+    (name, limit): (&str, u64),
+    wanted: &[u8],
+) {
+    let loaded = files.load(alloc, name, limit);
+    assert_eq!(rt; told(&loaded), wanted, "{name:?} {limit}");
+}
+
+/// A file named `a`, a later one of that name, and an empty one without a name; two loads fail.
+fn three_files(alloc: Global) -> Result<MemFiles, AllocError> {
+    let table: [(&str, &[u8]); 3] = [("a", b"abc"), ("a", b"later"), ("", b"")];
+    let mut held = Vec::new(alloc);
+    for (name, contents) in table {
+        let name = String::from_str(alloc, name)?;
+        held.push((name, Vec::from_slice(alloc, contents)?))?;
+    }
+    Ok(MemFiles::new(held, vec![in alloc; 3, 6]?))
 }
 
 #[test]
 fn loads_from_memory(rt: HostRuntime) -> Result<(), Fail> {
-    let alloc = rt.alloc();
-    let held = vec![in alloc;
-        file(alloc, "a", b"abc")?,
-        file(alloc, "a", b"later")?,
-        file(alloc, "", b"")?,
-    ]?;
-    let mut files = MemFiles::new(held, vec![in alloc; 3, 6]?);
-    assert_eq!(rt; files.load(alloc, "a", 3), loaded(alloc, b"abc")?);
-    assert_eq!(rt; files.load(alloc, "a", 2), Loaded::TooBig);
-    assert_eq!(rt; files.load(alloc, "a", 3), Loaded::Failed);
-    assert_eq!(rt; files.load(alloc, "b", 3), Loaded::Missing);
-    assert_eq!(rt; files.load(alloc, "", 0), loaded(alloc, b"")?);
-    assert_eq!(rt; is_there(&mut files, alloc, "a"), None);
-    assert_eq!(rt; is_there(&mut files, alloc, "a"), Some(true));
-    assert_eq!(rt; is_there(&mut files, alloc, "c"), Some(false));
+    let mut files = three_files(rt.alloc())?;
+    let table: [((&str, u64), &[u8]); 5] = [
+        (("a", 3), b"abc"),
+        (("a", 2), b"(too big)"),
+        (("a", 3), b"(failed)"),
+        (("b", 3), b"(missing)"),
+        (("", 0), b""),
+    ];
+    for (load, wanted) in table {
+        expect(&rt, &mut files, rt.alloc(), load, wanted);
+    }
+    let there = [("a", None), ("a", Some(true)), ("c", Some(false))];
+    for (name, wanted) in there {
+        assert_eq!(rt; is_there(&mut files, rt.alloc(), name), wanted, "{name}");
+    }
     Ok(())
 }
 
@@ -106,13 +129,19 @@ fn whole_files_up_to_the_limit(rt: HostRuntime) -> Result<(), Fail> {
     for size in [1, 65_537, 1_048_576, 1_048_577] {
         let contents = varied(alloc, size)?;
         fs::write(&rt, path.as_str(), contents.as_slice())?;
-        let whole = files.load(alloc, path.as_str(), size as u64);
-        let longer = files.load(alloc, path.as_str(), size as u64 - 1);
+        let limit = size as u64;
+        expect(&rt, &mut files, alloc, (path.as_str(), limit), &contents);
+        let below = (path.as_str(), limit - 1);
+        expect(&rt, &mut files, alloc, below, b"(too big)");
         fs::remove_file(&rt, path.as_str())?;
-        assert_eq!(rt; whole, Loaded::Bytes(contents), "of {size} bytes");
-        assert_eq!(rt; longer, Loaded::TooBig, "of {size} bytes");
     }
-    assert_eq!(rt; files.load(alloc, path.as_str(), 10_000), Loaded::Missing);
+    expect(
+        &rt,
+        &mut files,
+        alloc,
+        (path.as_str(), 10_000),
+        b"(missing)",
+    );
     Ok(())
 }
 
@@ -124,34 +153,31 @@ fn names_are_taken_as_they_are(rt: HostRuntime) -> Result<(), Fail> {
     let blank_before = format!(in alloc; " {path}")?;
     let mut files = DiskFiles::new(rt.clone()?);
     fs::write(&rt, path.as_str(), b"without".as_slice())?;
-    let other = files.load(alloc, blank_after.as_str(), 10);
-    let nowhere = files.load(alloc, blank_before.as_str(), 10);
+    for other in [blank_after.as_str(), blank_before.as_str(), ""] {
+        expect(&rt, &mut files, alloc, (other, 10), b"(missing)");
+    }
     fs::write(&rt, blank_after.as_str(), b"with".as_slice())?;
-    let with = files.load(alloc, blank_after.as_str(), 10);
+    expect(&rt, &mut files, alloc, (blank_after.as_str(), 10), b"with");
     fs::remove_file(&rt, path.as_str())?;
     fs::remove_file(&rt, blank_after.as_str())?;
-    assert_eq!(rt; other, Loaded::Missing);
-    assert_eq!(rt; nowhere, Loaded::Missing);
-    assert_eq!(rt; with, loaded(alloc, b"with")?);
-    assert_eq!(rt; files.load(alloc, "", 10), Loaded::Missing);
     Ok(())
 }
 
 #[test]
 fn what_is_no_file_fails(rt: HostRuntime) -> Result<(), Fail> {
-    let alloc = rt.alloc();
     let mut files = DiskFiles::new(rt.clone()?);
-    assert_eq!(rt; files.load(alloc, "/dev/zero", 10_000), Loaded::TooBig);
-    assert_eq!(rt; files.load(alloc, "/", 10_000), Loaded::Failed);
-    assert_eq!(rt;
-        files.load(alloc, "/dev/null/through", 10_000),
-        Loaded::Failed
-    );
-    assert_eq!(rt;
-        files.load(alloc, &"n".repeat(alloc, 5_000)?, 10_000),
-        Loaded::Failed
-    );
-    assert_eq!(rt; is_there(&mut files, alloc, "/dev/null"), Some(true));
+    let long = "n".repeat(rt.alloc(), 5_000)?;
+    let table: [(&str, &[u8]); 4] = [
+        ("/dev/zero", b"(too big)"),
+        ("/", b"(failed)"),
+        ("/dev/null/through", b"(failed)"),
+        (long.as_str(), b"(failed)"),
+    ];
+    for (name, wanted) in table {
+        expect(&rt, &mut files, rt.alloc(), (name, 10_000), wanted);
+    }
+    let there = is_there(&mut files, rt.alloc(), "/dev/null");
+    assert_eq!(rt; there, Some(true));
     Ok(())
 }
 
