@@ -5,6 +5,7 @@ use super::read::{answer, program_of};
 use stab_base::FnId;
 use stab_code::NodeId;
 use std::alloc::{AllocError, Global};
+use std::process::Abort;
 use std::test::Fail;
 
 // Each row is a text, an arrow and its fault.
@@ -73,20 +74,23 @@ fn as_many_as_there_may_be(rt: HostRuntime) -> Result<(), Fail> {
     Ok(())
 }
 
+fn expect_answer(rt: &impl Abort, alloc: Global, text: String, expected: &str) -> Result<(), Fail> {
+    let found = answer(rt, alloc, text.as_str())?;
+    assert_eq!(rt; found.as_str(), expected);
+    Ok(())
+}
+
 #[test]
 fn one_more_than_there_may_be(rt: HostRuntime) -> Result<(), Fail> {
     let alloc = rt.alloc();
-    let table = [
-        (repeated(alloc, "let a = 1; ", 201)?, "TooMany 2222"),
-        (distinct_texts(alloc, 2001)?, "TooMany 8018"),
-        (distinct_functions(alloc, 2000)?, "NoMain"),
-        (distinct_functions(alloc, 2001)?, "TooMany 20003"),
-    ];
-    for (text, fault) in &table {
-        let found = answer(&rt, alloc, text.as_str())?;
-        assert_eq!(rt; found.as_str(), *fault);
-    }
-    Ok(())
+    let lets = repeated(alloc, "let a = 1; ", 201)?;
+    expect_answer(&rt, alloc, lets, "TooMany 2222")?;
+    let texts = distinct_texts(alloc, 2001)?;
+    expect_answer(&rt, alloc, texts, "TooMany 8018")?;
+    let functions = distinct_functions(alloc, 2000)?;
+    expect_answer(&rt, alloc, functions, "NoMain")?;
+    let more_functions = distinct_functions(alloc, 2001)?;
+    expect_answer(&rt, alloc, more_functions, "TooMany 20003")
 }
 
 #[test]
