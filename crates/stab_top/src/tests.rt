@@ -130,15 +130,15 @@ fn load_fails(rt: HostRuntime) -> Result<(), Fail> {
 }
 
 #[test]
-fn ten_thousand_prints(rt: HostRuntime) -> Result<(), Fail> {
+fn fifty_thousand_prints(rt: HostRuntime) -> Result<(), Fail> {
     let alloc = rt.alloc();
     let program =
-        b"fn f(n: int): unit { if n == 0 { () } else { print(7); f(n - 1) } } fn main(): unit { f(10000) }";
+        b"fn f(n: int): unit { if n == 0 { () } else { print(7); f(n - 1) } } fn main(): unit { f(50000) }";
     let trial = Trial::new(&rt, alloc, "run p", program, [&[], &[]])?;
-    let shown = repeated(alloc, b"", b"7\n", 10_000, b"ended 1 faulted 0 waiting 0\n")?;
+    let shown = repeated(alloc, b"", b"7\n", 50_000, b"ended 1 faulted 0 waiting 0\n")?;
     assert_eq!(rt; trial.written, shown);
     // Each print is an event, and so are the steps before it and those at the end.
-    assert_eq!(rt; trial.events.len(), 20_001);
+    assert_eq!(rt; trial.events.len(), 100_001);
     Ok(())
 }
 
