@@ -70,6 +70,7 @@ impl Reader {
     }
 
     /// A form that isn't an operation is complete, and may go on.
+    #[inline(never)]
     pub(crate) fn leaf(&mut self, head: Head, at: u32) -> Result<Step, ParseFault>
         ensures ok { IfOk result (λ step. outcome step self.new
             ≡ settled_outcome (complete head 0 at 0 self.old)) }

@@ -171,7 +171,6 @@ impl Reader {
         }
     }
 
-    #[inline(never)]
     fn block_done(
         &mut self,
         at: u32,
@@ -197,7 +196,6 @@ impl Reader {
         self.block_in(place, seen)
     }
 
-    #[inline(never)]
     fn close_brace(&mut self, top: Frame, seen: Seen) -> Result<Step, ParseFault>
         ensures ok { IfOk result (λ step. outcome step self.new ≡ close_brace top seen self.old) }
         ensures fault { IfErr result (λ fault. fault ≡ ParseFault.NoMemory) }
@@ -226,7 +224,6 @@ impl Reader {
         }
     }
 
-    #[inline(never)]
     fn open_brace(&mut self, top: Frame, seen: Seen, at: u32) -> Result<Step, ParseFault>
         ensures ok { IfOk result (λ step. outcome step self.new ≡ open_brace top seen at self.old) }
         ensures fault { IfErr result (λ fault. fault ≡ ParseFault.NoMemory) }
@@ -287,7 +284,6 @@ impl Reader {
         self.join(Level::Sum, seen)
     }
 
-    #[inline(never)]
     fn whole_and(&mut self, seen: Seen) -> Result<Seen, ParseFault>
         ensures ok { IfOk result (λ whole. settled whole self.new ≡ whole_and seen self.old) }
         ensures fault { IfErr result (λ fault. fault ≡ ParseFault.NoMemory) }
@@ -310,7 +306,6 @@ impl Reader {
         self.join(Level::Or, and)
     }
 
-    #[inline(always)]
     fn operator(&mut self, level: Level, op: Op, left: Seen) -> Result<Step, ParseFault>
         ensures ok { IfOk result (λ step. outcome step self.new ≡ operator level op (settled left self.old)) }
         ensures fault { IfErr result (λ fault. fault ≡ ParseFault.NoMemory) }
@@ -318,7 +313,6 @@ impl Reader {
         self.owed_in(Frame::Operator(level, op, left))
     }
 
-    #[inline(never)]
     fn relation(&mut self, op: Op, left: Seen) -> Result<Step, ParseFault>
         ensures ok { IfOk result (λ step. outcome step self.new
             ≡ relation_top (top_of self.old.frames) op left (popped self.old)) }
@@ -335,7 +329,6 @@ impl Reader {
         self.operator(Level::Relation, op, left)
     }
 
-    #[inline(always)]
     fn sum(&mut self, op: Op, seen: Seen) -> Result<Step, ParseFault>
         ensures ok { IfOk result (λ step. outcome step self.new ≡ operator Level.Sum op (whole_sum seen self.old)) }
         ensures fault { IfErr result (λ fault. fault ≡ ParseFault.NoMemory) }
@@ -344,7 +337,6 @@ impl Reader {
         self.operator(Level::Sum, op, left)
     }
 
-    #[inline(never)]
     fn compared(&mut self, op: Op, seen: Seen) -> Result<Step, ParseFault>
         ensures ok { IfOk result (λ step. outcome step self.new ≡ relation op (whole_sum seen self.old)) }
         ensures fault { IfErr result (λ fault. fault ≡ ParseFault.NoMemory) }
@@ -353,7 +345,6 @@ impl Reader {
         self.relation(op, left)
     }
 
-    #[inline(never)]
     fn and(&mut self, seen: Seen) -> Result<Step, ParseFault>
         ensures ok { IfOk result (λ step. outcome step self.new ≡ operator Level.And Op.And (whole_and seen self.old)) }
         ensures fault { IfErr result (λ fault. fault ≡ ParseFault.NoMemory) }
@@ -362,7 +353,6 @@ impl Reader {
         self.operator(Level::And, Op::And, left)
     }
 
-    #[inline(never)]
     fn or(&mut self, seen: Seen) -> Result<Step, ParseFault>
         ensures ok { IfOk result (λ step. outcome step self.new ≡ operator Level.Or Op.Or (whole_expr seen self.old)) }
         ensures fault { IfErr result (λ fault. fault ≡ ParseFault.NoMemory) }
@@ -372,7 +362,6 @@ impl Reader {
     }
 
     /// A token behind a whole expression.
-    #[inline(never)]
     fn closes(
         &mut self,
         alloc: Global,
@@ -388,7 +377,6 @@ impl Reader {
     }
 
     /// A token behind a term.
-    #[inline(never)]
     pub(crate) fn ends(
         &mut self,
         alloc: Global,

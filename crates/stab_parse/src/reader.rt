@@ -175,6 +175,7 @@ impl Reader {
         }
     }
 
+    #[inline(always)]
     #[tactic(auto, using(crate::proofs::Settling::takes, crate::proofs::Settling::takes_none))]
     fn settle_top(&mut self, seen: Seen) -> Result<Option<Seen>, ParseFault>
         ensures ok { IfOk result (λ next. settle_step next self.new
@@ -203,6 +204,7 @@ impl Reader {
     }
 
     /// A form that isn't an operation is complete.
+    #[inline(always)]
     pub(crate) fn complete(
         &mut self,
         head: Head,

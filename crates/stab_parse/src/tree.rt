@@ -256,6 +256,7 @@ impl Forms {
         Ok(Forms { forms })
     }
 
+    #[inline(always)]
     pub(crate) fn push(&mut self, form: FormNode) -> Result<(), ParseFault>
         ensures ok { OnOk result (self.new ≡ form ∷ self.old) }
         ensures fault { IfErr result (λ fault. fault ≡ ParseFault.NoMemory) }
