@@ -3,6 +3,8 @@
 
 mod log;
 mod recent;
+#[cfg(test)]
+mod tests;
 mod values;
 
 pub use log::PrintLog;
