@@ -23,11 +23,14 @@ pub(super) fn agrees(state: &PlainState, book: &Book) -> bool {
 }
 
 fn has_printed(state: &PlainState, book: &Book) -> bool {
-    book.printed().count() == state.printed().len()
-        && book
-            .printed()
-            .zip(state.printed())
-            .all(|(v, w)| v.same(w))
+    let mut left = state.printed().iter();
+    for v in book.printed() {
+        match left.next() {
+            Some(w) if v.same(w) => {}
+            _ => return false,
+        }
+    }
+    left.next().is_none()
 }
 
 // Threads that ended, failed, and others.
