@@ -78,6 +78,11 @@ fn a_thread_that_was_recalled_is_not_given_back(rt: HostRuntime) -> Result<(), F
     Ok(())
 }
 
+fn has_printed_nothing(book: &Book) -> bool {
+    let mut values = book.printed();
+    values.next().is_none()
+}
+
 #[test]
 fn a_main_that_is_a_value_is_at_rest(rt: HostRuntime) -> Result<(), Fail> {
     let mut book = book_with(rt.alloc(), "fn main(): int { 7 }", &[], 100)?;
@@ -88,6 +93,6 @@ fn a_main_that_is_a_value_is_at_rest(rt: HostRuntime) -> Result<(), Fail> {
     assert_eq!(rt; book.due(), 0);
     assert_eq!(rt; book.history().len(), 0);
     assert_eq!(rt; book.job().fuel(), 100);
-    assert!(rt; book.printed().next().is_none());
+    assert!(rt; has_printed_nothing(&book));
     Ok(())
 }
