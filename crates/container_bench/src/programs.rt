@@ -45,26 +45,37 @@ impl Work {
         u64::from(nodes(n))
     }
 
+    /// The programs that it is about. One that is made is made in memory that the process had before, so there is no other
+    /// beside it.
+    pub fn pair(self, alloc: Global, n: u32) -> Result<Option<Pair>, NoMemory>
+        requires { n ≤ 1000000 }
+    {
+        match self {
+            Work::Make => Ok(None),
+            Work::Same | Work::Parts => Ok(Some(make_pair(alloc, n)?)),
+        }
+    }
+
     /// The number of nodes that were made or found equal, or of the parts that were read.
-    pub fn run(self, alloc: Global, pair: &Pair, n: u32) -> Result<Outcome, NoMemory>
+    pub fn run(self, alloc: Global, pair: &Option<Pair>, n: u32) -> Result<Outcome, NoMemory>
         requires { n ≤ 1000000 }
     {
         let mut made = None;
-        let count = match self {
-            Work::Make => {
+        let count = match (self, pair) {
+            (Work::Make, _) => {
                 made = Some(print_sums(alloc, items(n))?);
                 nodes(n)
             }
-            Work::Same if pair.one.same(&pair.other) => nodes(n),
-            Work::Same => 0,
-            Work::Parts => count_parts(&pair.one, nodes(n)),
+            (Work::Same, Some(pair)) if pair.one.same(&pair.other) => nodes(n),
+            (Work::Parts, Some(pair)) => count_parts(&pair.one, nodes(n)),
+            (Work::Same | Work::Parts, _) => 0,
         };
         Ok(Outcome { count, made })
     }
 }
 
-/// Two programs of so many nodes.
-pub fn make_pair(alloc: Global, n: u32) -> Result<Pair, NoMemory>
+// Two programs of so many nodes.
+fn make_pair(alloc: Global, n: u32) -> Result<Pair, NoMemory>
     requires { n ≤ 1000000 }
 {
     let one = print_sums(alloc, items(n))?;
@@ -101,10 +112,10 @@ fn print_sums(alloc: Global, items: u32) -> Result<Program, NoMemory>
     }
     nodes.push(Head::Unit, &[])?;
     parts.push(NodeId(4 * items))?;
-    nodes.push(Head::Block(Slots::new(slots)), &parts)?;
+    nodes.push(Head::Block(Slots::new(alloc, slots)?), &parts)?;
     let main = Function::new(
         Vec::new(alloc),
-        Ty::new(TyForm::Unit),
+        Ty::new(alloc, TyForm::Unit)?,
         0,
         NodeId(4 * items + 1),
     );

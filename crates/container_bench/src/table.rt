@@ -2,8 +2,8 @@
 ghost use Rattle.std.specs.Prelude.{◌<◌, ◌≤◌, ◌+◌};
 
 use crate::graphs::Work;
-use crate::programs::Work as ProgramWork;
-use crate::{events, graphs, offers, programs, saved, threads, tokens, writes};
+use crate::programs::{Pair, Work as ProgramWork};
+use crate::{events, graphs, offers, saved, threads, tokens, writes};
 use stab_base::NoMemory;
 use std::alloc::Global;
 use std::rt::{Clock, Files};
@@ -88,7 +88,7 @@ impl Container {
             Container::CommGraph(work) => graphs::run(work, alloc, n),
             Container::StabLex => tokens::run(alloc, n),
             Container::StabCode(work) => {
-                let pair = programs::make_pair(alloc, n)?;
+                let pair = work.pair(alloc, n)?;
                 Ok(work.run(alloc, &pair, n)?.count)
             }
         }
@@ -106,6 +106,9 @@ fn count<R: AllocGlobal>(rt: &R, container: Container, n: u32) -> io::Result<u32
 fn nanos<R: AllocGlobal + Clock>(rt: &R, container: Container, n: u32) -> io::Result<u64>
     requires { n ≤ 1000000 }
 {
+    if let Container::StabCode(work) = container {
+        return nanos_of_programs(rt, work, n);
+    }
     let _untimed = count(rt, container, n)?;
     let mut least = u64::MAX;
     for _ in 0..TIMED {
@@ -117,10 +120,8 @@ fn nanos<R: AllocGlobal + Clock>(rt: &R, container: Container, n: u32) -> io::Re
 fn nanos_of_one<R: AllocGlobal + Clock>(rt: &R, container: Container, n: u32) -> io::Result<u64>
     requires { n ≤ 1000000 }
 {
-    match container {
-        Container::CommGraph(work) => return nanos_of_work(rt, work, n),
-        Container::StabCode(work) => return nanos_of_programs(rt, work, n),
-        _ => {}
+    if let Container::CommGraph(work) = container {
+        return nanos_of_work(rt, work, n);
     }
     let start = Instant::now(rt)?;
     let _count = count(rt, container, n)?;
@@ -139,13 +140,30 @@ fn nanos_of_work<R: AllocGlobal + Clock>(rt: &R, work: Work, n: u32) -> io::Resu
     Ok(u64::try_from(taken.as_nanos()).unwrap_or(u64::MAX))
 }
 
-// The same, without the time in which the pair is made, and that in which all programs are dropped.
+// The least time of five runs over the same programs, before which one isn't timed.
 fn nanos_of_programs<R: AllocGlobal + Clock>(rt: &R, work: ProgramWork, n: u32) -> io::Result<u64>
     requires { n ≤ 1000000 }
 {
-    let pair = programs::make_pair(rt.alloc(), n).map_err(out_of_memory)?;
+    let pair = work.pair(rt.alloc(), n).map_err(out_of_memory)?;
+    let _untimed = nanos_of_program(rt, work, &pair, n)?;
+    let mut least = u64::MAX;
+    for _ in 0..TIMED {
+        least = least.min(nanos_of_program(rt, work, &pair, n)?);
+    }
+    Ok(least)
+}
+
+// The same of one run, without the time in which a program that was made is dropped.
+fn nanos_of_program<R: AllocGlobal + Clock>(
+    rt: &R,
+    work: ProgramWork,
+    pair: &Option<Pair>,
+    n: u32,
+) -> io::Result<u64>
+    requires { n ≤ 1000000 }
+{
     let start = Instant::now(rt)?;
-    let outcome = work.run(rt.alloc(), &pair, n).map_err(out_of_memory)?;
+    let outcome = work.run(rt.alloc(), pair, n).map_err(out_of_memory)?;
     let taken = start.elapsed(rt)?;
     drop(outcome);
     Ok(u64::try_from(taken.as_nanos()).unwrap_or(u64::MAX))

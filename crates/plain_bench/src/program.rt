@@ -1,6 +1,9 @@
 //! The program that is run.
 ghost use Rattle.std.specs.Prelude.{◌≡◌, ◌∷◌, [], None, IfOk};
 ghost use Rattle.stab_code.specs.declared.head.Head.TheVariants.{Block};
+ghost use Rattle.stab_code.specs.Nodes.{id};
+ghost use Rattle.stab_code.specs.Program.{function_of};
+ghost use Rattle.stab_code.specs.Written.{int_type, unit_type};
 
 use stab_base::{FnId, NoMemory, Texts};
 use stab_code::{Function, Head, NodeId, Nodes, Op, Program, Slots, Ty, TyForm};
@@ -26,17 +29,30 @@ pub fn bench_program(alloc: Global) -> Result<Program, NoMemory> {
     nodes.push(Head::Spawn(FnId(1)), &[NodeId(12)])?;
     nodes.push(Head::Call(FnId(0)), &[])?;
     nodes.push(block(alloc)?, &[NodeId(13), NodeId(14)])?;
-    let spin = Function::new(Vec::new(alloc), Ty::new(TyForm::Unit), 0, NodeId(0));
-    let takes = vec![in alloc; Ty::new(TyForm::Int)]?;
-    let deep = Function::new(takes, Ty::new(TyForm::Int), 1, NodeId(11));
-    let main = Function::new(Vec::new(alloc), Ty::new(TyForm::Unit), 0, NodeId(15));
-    let functions = vec![in alloc; spin, deep, main]?;
+    let functions = functions(alloc)?;
     Ok(Program::new(functions, nodes, Texts::new(Vec::new(alloc)), FnId(2)))
+}
+
+/// The functions, by the nodes of their bodies.
+fn functions(alloc: Global) -> Result<Vec<Function>, NoMemory>
+    ensures { IfOk result (λ made. made.items ≡ function_of [] unit_type 0 (id 0)
+        ∷ function_of (int_type ∷ []) int_type 1 (id 11) ∷ function_of [] unit_type 0 (id 15) ∷ []) }
+{
+    let spin = Function::new(Vec::new(alloc), Ty::new(alloc, TyForm::Unit)?, 0, NodeId(0));
+    let takes = vec![in alloc; Ty::new(alloc, TyForm::Int)?]?;
+    let deep = Function::new(takes, Ty::new(alloc, TyForm::Int)?, 1, NodeId(11));
+    let main = Function::new(
+        Vec::new(alloc),
+        Ty::new(alloc, TyForm::Unit)?,
+        0,
+        NodeId(15),
+    );
+    Ok(vec![in alloc; spin, deep, main]?)
 }
 
 /// A block of one item without a let.
 fn block(alloc: Global) -> Result<Head, NoMemory>
     ensures { IfOk result (λ head. head ≡ Block (None ∷ [])) }
 {
-    Ok(Head::Block(Slots::new(Vec::from_slice(alloc, &[None])?)))
+    Ok(Head::Block(Slots::from_slice(alloc, &[None])?))
 }

@@ -1,11 +1,10 @@
 -- Bodies of functions, from nodes.
 use Rattle.std.proofs.Common.{◌≡◌, ℕ, zero, suc, false, List, [], ◌∷◌, map, Option, Some, None, refl, ap}
 use Rattle.std.specs.Prelude.{option_map, option_and_then, slice_get}
-use Rattle.stab_base.specs.Datum.{Datum}
 use Rattle.stab_code.specs.declared.node_id.NodeId.{NodeId}
 use Rattle.stab_code.specs.Program.{FunctionParts, ProgramParts, tree_at, tree_among, trees_among}
 use Rattle.stab_code.specs.Trees.{Tree}
-use Rattle.plain_language.specs.Expression.{Expr, value, variable, failed, form, part, parts_of, put}
+use Rattle.plain_language.specs.Expression.{Expr, value, variable, failed, form, part, parts_of}
 use Rattle.plain_language.specs.Program.{expr_of, exprs_of, body_by}
 use Rattle.plain_language.specs.Busy.{busy_at, values_in}
 use Rattle.plain_language.specs.Given.{value_of}
@@ -18,10 +17,6 @@ exprs_at trees (n ∷ ns) = ap (part (expr_of (tree_among trees n))) (exprs_at t
 pub body_is : (p : ProgramParts) (o : Option FunctionParts) (n : NodeId) → Some n ≡ option_map (λ f. f.body) o → body_by p o ≡ expr_of (tree_at p n)
 body_is p None n h = cc
 body_is p (Some f) n h = let same : f.body ≡ n = cc in ap (λ k. expr_of (tree_at p k)) same
-
-pub body_none : (p : ProgramParts) (o : Option FunctionParts) → None ≡ option_map (λ f. f.body) o → (f : ℕ → Option Datum) → put f (body_by p o) ≡ put f (body_by p None)
-body_none p None h f = refl
-body_none p (Some g) h f = cc
 
 mapped_none : (o : Option ℕ) → option_map suc o ≡ None → o ≡ None
 mapped_none None h = refl

@@ -22,10 +22,6 @@ map_deeper : (fs gs : List Frame) (o : Option Redex) → option_map (deeper gs) 
 map_deeper fs gs None = refl
 map_deeper fs gs (Some r) = ap (λ round. Some (record r { round = round })) (append_assoc r.round fs gs)
 
-map_none : (o : Option Redex) → o ≡ option_map (deeper []) o
-map_none None = refl
-map_none (Some r) = ap (λ round. Some (record r { round = round })) (sym (append-nil r.round))
-
 by_count : (b : Bool) (x y : Option Redex) (x' y' : Option Redex) (round : List Frame) → x ≡ option_map (deeper round) x' → y ≡ option_map (deeper round) y' → cond b x y ≡ option_map (deeper round) (cond b x' y')
 by_count true x y x' y' round p q = p
 by_count false x y x' y' round p q = q
@@ -50,9 +46,6 @@ mutual
 
 pub some_is : {X : Type 0} {a b : X} → Some a ≡ Some b → a ≡ b
 some_is h = cc
-
-some_none : {X : Type 0} {a : X} (P : Type 0) → Some a ≡ None → P
-some_none P h = cc
 
 picks_second : {X : Type 0} (b : Bool) (x y : X) → b ≡ false → cond b x y ≡ y
 picks_second true x y h = absurd (false≢true (sym h))

@@ -8,7 +8,6 @@ pub mod Lists
 pub mod Locals
 pub mod Looking
 pub mod Maps
-pub mod Marking
 pub mod Onto
 pub mod Operands
 pub mod Progressing

@@ -1,13 +1,12 @@
 -- What is next for an expression, by its redex.
-use Rattle.std.proofs.Common.{◌≡◌, List, ℕ, suc, ◌+◌, ◌<◌, ◌≤◌, Some, None, refl, sym, ap, ◌∙◌, arith}
+use Rattle.std.proofs.Common.{◌≡◌, List, ℕ, suc, ◌+◌, ◌<◌, Some, None, refl, sym, ap, ◌∙◌, arith}
 use Rattle.std.specs.Prelude.{option_and_then, ◌-◌}
 use Rattle.plain_language.specs.declared.head.Head.{Head}
 use Rattle.plain_language.specs.declared.look.Look.TheVariants.{Act as ActLook}
 use Rattle.plain_language.specs.Expression.{Expr, value, variable, failed, form}
-use Rattle.plain_language.specs.Redex.{first_counts_alone, Frame, Redex, redex, frames, frames_of}
+use Rattle.plain_language.specs.Redex.{first_counts_alone, Frame, Redex, redex}
 use Rattle.plain_language.specs.Busy.{counted, waiting_parts, redex_with, IsRedexOf}
 use Rattle.plain_language.specs.Outcome.{Outcome, becomes, fails, acts, outcome}
-use Rattle.plain_language.specs.Next.{IsNext}
 use Rattle.plain_language.specs.Acts.{told}
 use Rattle.plain_language.specs.Seen.{kind_of, seen}
 use Rattle.plain_language.specs.Table.{Act, pure_of, pure_steps}
@@ -44,40 +43,9 @@ module _ (body : ℕ → Expr) where
   pub no_pure_at_act : (e : Expr) (h : Head) (es : List Expr) (r : IsRedexOf e h es) (a : Act Expr) → Some a ≡ told (outcome_with body h es) → pure_of (language body) (look body e) ≡ None
   no_pure_at_act e h es r a is = ap (pure_of (language body)) (look_redex e h es r) ∙ act_stays r.round (outcome_with body h es) a is
 
-  -- nor is there one without a redex
-  pub no_pure_nowhere : (e : Expr) → redex e ≡ None → pure_of (language body) (look body e) ≡ None
-  no_pure_nowhere (value v) h = refl
-  no_pure_nowhere (variable x) h = refl
-  no_pure_nowhere (failed k) h = refl
-  no_pure_nowhere (form g ps) h = ap (λ o. pure_of (language body) (look_at body o)) h
-
-  -- the frames of a redex that was found
-  pub frames_found : (e : Expr) (h : Head) (es : List Expr) (r : IsRedexOf e h es) → frames e ≡ r.round
-  frames_found e h es r = ap frames_of r.is
-
-  pub next_of : (e : Expr) (h : Head) (es : List Expr) (r : IsRedexOf e h es) (o : Outcome) → o ≡ outcome_with body h es → IsNext body e o
-  next_of e h es r o is = record {
-    there = redex_with r.round h es;
-    is_there = r.is;
-    looks = look_redex e h es r ∙ ap (λ fs. look_by fs (outcome_with body h es)) (sym (frames_found e h es r)) ∙ ap (look_by (frames e)) (sym is);
-  }
-
   one_more : (m k : ℕ) (e f : Expr) → m ≡ suc k → Some f ≡ pure_of (language body) (look body e) → pure_steps (language body) m e ≡ pure_steps (language body) k f
   one_more m k e f more is = ap (λ n. pure_steps (language body) n e) more ∙ ap (option_and_then (pure_steps (language body) k)) (sym is)
-
-  stuck : (m k : ℕ) (e : Expr) → m ≡ suc k → None ≡ pure_of (language body) (look body e) → pure_steps (language body) m e ≡ None
-  stuck m k e more is = ap (λ n. pure_steps (language body) n e) more ∙ ap (option_and_then (pure_steps (language body) k)) (sym is)
-
-  zero_left : (n i : ℕ) → n ≤ i → n - i ≡ 0
-  zero_left n i all = omega arith
 
   -- n steps, of which i are made
   pub one_step_more : (n i : ℕ) (e f : Expr) → i < n → Some f ≡ pure_of (language body) (look body e) → pure_steps (language body) (n - i) e ≡ pure_steps (language body) (n - (i + 1)) f
   one_step_more n i e f less is = one_more (n - i) (n - (i + 1)) e f (omega arith) is
-
-  -- no step where there is none
-  pub no_step_more : (n i : ℕ) (e : Expr) → i < n → None ≡ pure_of (language body) (look body e) → pure_steps (language body) (n - i) e ≡ None
-  no_step_more n i e less is = stuck (n - i) (n - (i + 1)) e (omega arith) is
-
-  pub no_steps_left : (n i : ℕ) (e : Expr) → n ≤ i → pure_steps (language body) (n - i) e ≡ Some e
-  no_steps_left n i e all = ap (λ m. pure_steps (language body) m e) (zero_left n i all)

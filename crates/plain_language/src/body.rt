@@ -23,7 +23,7 @@ fn form_over(alloc: Global, head: &NodeHead, parts: Vec<Expr>) -> Result<Expr, N
         NodeHead::Int(n) => return Ok(Expr::value(Value::int(*n))),
         NodeHead::Text(t) => return Ok(Expr::value(Value::text(*t))),
         NodeHead::Var(x) => return Ok(Expr::variable(*x)),
-        NodeHead::Block(slots) => Head::Block(Slots::new(Vec::from_slice(alloc, slots.all())?)),
+        NodeHead::Block(slots) => Head::Block(Slots::from_slice(alloc, slots.all())?),
         NodeHead::If => Head::If,
         NodeHead::Two(op) => Head::Two(*op),
         NodeHead::Not => Head::Not,

@@ -42,7 +42,7 @@ impl Head {
         ensures { IfOk result (λ copy. copy ≡ self.now) }
     {
         Ok(match self {
-            Head::Block(slots) => Head::Block(Slots::new(Vec::from_slice(alloc, slots.all())?)),
+            Head::Block(slots) => Head::Block(Slots::from_slice(alloc, slots.all())?),
             Head::If => Head::If,
             Head::Two(op) => Head::Two(*op),
             Head::Not => Head::Not,

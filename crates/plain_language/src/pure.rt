@@ -76,7 +76,7 @@ fn item(alloc: Global, slots: &[Option<u32>], parts: &[Expr]) -> Result<Next, No
     let Some((slot, others)) = slots.split_first() else {
         return Ok(Next::Makes(wrong_kind()));
     };
-    let slots = Slots::new(Vec::from_slice(alloc, others)?);
+    let slots = Slots::from_slice(alloc, others)?;
     match slot {
         Some(x) => {
             let parts = put_copies(alloc, rest, Given::One(*x, v))?;

@@ -1,5 +1,5 @@
 -- Trees behind others.
-use Rattle.std.proofs.Common.{◌≡◌, ℕ, zero, suc, ◌+◌, List, [], ◌∷◌, ◌++◌, length, take, drop, refl, sym, ap, ◌∙◌, arith, append_assoc}
+use Rattle.std.proofs.Common.{◌≡◌, ℕ, ◌+◌, List, [], ◌∷◌, ◌++◌, length, refl, sym, ap, ◌∙◌, arith, append_assoc}
 use Rattle.stab_code.specs.Layout.{size_of, size_of_all, own_node, own_nodes, nodes_of, nodes_of_all}
 use Rattle.stab_code.specs.Trees.{Tree, Trees, none, more}
 use Rattle.stab_code.proofs.AllForms.{count_of}
@@ -9,10 +9,6 @@ abbrev pub join : Trees → Trees → Trees
 join none us = us
 join (more t ts) us = more t (join ts us)
 
-pub join-none : (ts : Trees) → join ts none ≡ ts
-join-none none = refl
-join-none (more t ts) = ap (more t) (join-none ts)
-
 pub join-assoc : (a b c : Trees) → join (join a b) c ≡ join a (join b c)
 join-assoc none b c = refl
 join-assoc (more t a) b c = ap (more t) (join-assoc a b c)
@@ -20,11 +16,6 @@ join-assoc (more t a) b c = ap (more t) (join-assoc a b c)
 pub in_order-join : (xs : List Tree) (ts : Trees) → in_order_before xs ts ≡ join (in_order xs) ts
 in_order-join [] ts = refl
 in_order-join (x ∷ xs) ts = in_order-join xs (more x ts) ∙ sym (join-assoc (in_order xs) (more x none) ts) ∙ ap (λ a. join a ts) (sym (in_order-join xs (more x none)))
-
-pub in_order-split : (k : ℕ) (xs : List Tree) (ts : Trees) → in_order_before xs ts ≡ in_order_before (drop k xs) (in_order_before (take k xs) ts)
-in_order-split zero xs ts = refl
-in_order-split (suc k) [] ts = refl
-in_order-split (suc k) (x ∷ xs) ts = in_order-split k xs (more x ts)
 
 pub count-in_order : (xs : List Tree) (ts : Trees) → count_of (in_order_before xs ts) ≡ length xs + count_of ts
 count-in_order [] ts = omega arith

@@ -13,6 +13,5 @@ pub mod Programs
 pub mod Sizes
 pub mod SoundSyntax
 pub mod SoundTokens
-pub mod Storing
 pub mod Tables
 pub mod Whole

@@ -121,9 +121,6 @@ length-part_lists n whole (f ∷ forms) = ap suc (length-part_lists (n + 1) (tak
 
 -- ---- at a place
 
-place-in : (a s o : ℕ) → o + 1 ≡ a + (s + 1) → o ≡ a + s
-place-in a s o e = omega arith
-
 size-whole : (forms before after : List FormNode) (f : Form) → forms ≡ before ++ (nodes_of f ++ after) → length before + size_of f ≤ length forms
 size-whole forms before after f e =
     omega (arith, ap length e, length-append before (nodes_of f ++ after), length-append (nodes_of f) after, length-nodes_of f)

@@ -1,12 +1,10 @@
 -- Where forms stand in the list of a program's forms, and their parts.
-use Rattle.std.specs.Prelude.{◌≡◌, ℕ, ◌+◌, ◌-◌, ◌≤◌, List, [], ◌∷◌, ◌++◌, length, take, drop, map, slice_range}
-use Rattle.std.specs.List.{All}
+use Rattle.std.specs.Prelude.{◌≡◌, ℕ, ◌+◌, ◌-◌, List, [], ◌∷◌, ◌++◌, length, take, drop}
 use Rattle.stab_code.specs.declared.node_id.NodeId.{NodeId}
 use Rattle.stab_code.specs.Nodes.{id}
 use Rattle.stab_parse.specs.declared.tree.FormNode.{FormNode}
 use Rattle.stab_parse.specs.Forms.{Form, form, Parts, no_parts, next_part}
 use Rattle.stab_parse.specs.FormList.{nodes_of}
-use Rattle.scope_check.specs.declared.parts.Among.{Among}
 use Rattle.scope_check.specs.Placed.{size_of, size_of_parts}
 
 -- the form and those in it stand in the list from the first number to the second, which is its own
@@ -30,13 +28,3 @@ abbrev pub part_lists : ℕ → List NodeId → List FormNode → List (List Nod
 part_lists n whole [] = []
 part_lists n whole (f ∷ forms) =
     drop (length whole - f.parts) whole ∷ part_lists (n + 1) (take (length whole - f.parts) whole ++ id n ∷ []) forms
-
--- lists that are kept one behind the other
-abbrev pub list_in : List NodeId → Among → List NodeId
-list_in parts a = slice_range parts a.from a.to
-
-abbrev pub lists_in : List Among → List NodeId → List (List NodeId)
-lists_in among parts = map (list_in parts) among
-
-abbrev pub AreAmong : List Among → List NodeId → Type 0
-AreAmong among parts = All (λ a. (a.from ≤ a.to) × (a.to ≤ length parts)) among

@@ -8,7 +8,7 @@ ghost use Rattle.scope_check.specs.Scope.{with_slots as with_reversed};
 use crate::fault::ScopeFault;
 use crate::plan::Plan;
 use crate::progress::Progress;
-use stab_code::{Head as Code, Slots};
+use stab_code::Head as Code;
 use stab_parse::{Head, Span};
 
 impl<'a> Plan<'a> {
@@ -119,7 +119,10 @@ fn with_slots(slots: Vec<Option<u32>>, head: Code) -> Code
     ensures { result ≡ with_reversed (reverse slots.items) head }
 {
     match head {
-        Code::Block(_) => Code::Block(Slots::new(slots)),
+        Code::Block(mut own) => {
+            own.set(slots);
+            Code::Block(own)
+        }
         other => other,
     }
 }

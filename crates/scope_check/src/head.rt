@@ -47,7 +47,7 @@ impl<'a> Plan<'a> {
             Head::Int(number) => Ok(Code::Int(*number)),
             Head::Text(span) => Ok(Code::Text(self.text(progress, *span)?)),
             Head::Variable(name) => Ok(Code::Var(progress.slot(self.bytes, *name)?)),
-            Head::Block(_) => Ok(Code::Block(Slots::new(Vec::new(self.alloc)))),
+            Head::Block(_) => Ok(Code::Block(Slots::new(self.alloc, Vec::new(self.alloc))?)),
             Head::If => Ok(Code::If),
             Head::Two(op) => Ok(Code::Two(*op)),
             Head::Not => Ok(Code::Not),

@@ -8,9 +8,9 @@ ghost use Rattle.scope_check.specs.Scope.{callee_of, function_named, has_arity, 
 
 use crate::fault::ScopeFault;
 use crate::names::{unknown, written};
-use crate::parts::PartLists;
 use indexmap::IndexSet;
 use stab_base::FnId;
+use stab_code::PartLists;
 use stab_parse::{FormNode, Function, Span};
 use std::alloc::Global;
 

@@ -12,7 +12,8 @@ pub(crate) fn type_of(alloc: Global, ty: &ParsedType) -> Result<Ty, ScopeFault>
     ensures ty { IfOk result (λ copy. copy ≡ ty.now) }
     ensures fault { IfErr result (λ fault. fault ≡ ScopeFault.NoMemory) }
 {
-    Ok(Ty::new(copied(alloc, ty.form())?))
+    let form = copied(alloc, ty.form())?;
+    Ok(Ty::new(alloc, form)?)
 }
 
 fn copied(alloc: Global, form: &TyForm) -> Result<TyForm, ScopeFault>

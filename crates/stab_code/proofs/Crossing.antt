@@ -8,7 +8,7 @@ use Rattle.stab_code.specs.contracts.ty.Ty as ty
 use Rattle.stab_code.specs.contracts.head.Head as heads
 use Rattle.stab_code.specs.contracts.function.Function as functions
 use Rattle.stab_code.specs.contracts.nodes.Nodes as nodes
-use Rattle.stab_code.specs.contracts.nodes.Stored as stored
+use Rattle.stab_code.specs.contracts.part_lists.PartLists as part_lists
 use Rattle.stab_code.specs.contracts.program.Program as programs
 
 ty-send : IsSend ty.the_row
@@ -29,21 +29,17 @@ head-send = search (ty-send, sendable, crosses) depth 60 fits 100000
 head-sync : IsSync (heads.the_field).row
 head-sync = search (ty-sync, sendable, crosses) depth 60 fits 100000
 
-stored-send : IsSend stored.the_row
-stored-send =
-    let T = stored.the_type in
-    recorded_send (Struct (Declared.shape T)) T.D T.to T.to_one (struct_send (Declared.shape T) (head-send, (search sendable, (search sendable, tt))))
+parts-send : IsSend part_lists.the_row
+parts-send = search (sendable, crosses) depth 60 fits 100000
 
-stored-sync : IsSync stored.the_row
-stored-sync =
-    let T = stored.the_type in
-    recorded_sync (Struct (Declared.shape T)) T.D T.to T.to_one (struct_sync (Declared.shape T) (head-sync, (search sendable, (search sendable, tt))))
+parts-sync : IsSync part_lists.the_row
+parts-sync = search (sendable, crosses) depth 60 fits 100000
 
 nodes-send : IsSend nodes.the_row
-nodes-send = search (stored-send, sendable, crosses) depth 60 fits 100000
+nodes-send = search (head-send, parts-send, sendable, crosses) depth 60 fits 100000
 
 nodes-sync : IsSync nodes.the_row
-nodes-sync = search (stored-sync, sendable, crosses) depth 60 fits 100000
+nodes-sync = search (head-sync, parts-sync, sendable, crosses) depth 60 fits 100000
 
 pub program-send : IsSend programs.the_row
 program-send = search (function-send, nodes-send, sendable, crosses) depth 60 fits 100000

@@ -1,9 +1,9 @@
 -- What a form leaves open, names and lets, part by part.
-use Rattle.std.proofs.Common.{◌≡◌, ℕ, zero, suc, ◌≤◌, ◌==◌, Bool, true, false, not, List, [], ◌∷◌, ◌++◌, Option, Some, None, cond, slice_get, refl, sym, subst, arith, eqb-true}
+use Rattle.std.proofs.Common.{◌≡◌, ℕ, ◌==◌, Bool, true, false, not, List, [], ◌∷◌, ◌++◌, Option, Some, None, cond, refl, sym, subst, eqb-true}
 use Rattle.std.specs.List.{All, filter}
 use Rattle.std.proofs.lemmas.List.Elements.{All-append, All-cons, All-head, All-nil, All-tail}
 use Rattle.stab_code.specs.Heads.{slots_of, variable_of}
-use Rattle.stab_code.specs.Syntax.{deepest, one_or_none, with_own, without, left_open, lets_from, lets_of, named_from, named_in, open_from, open_in}
+use Rattle.stab_code.specs.Syntax.{one_or_none, with_own, without, left_open, lets_from, lets_of, named_from, named_in, open_from, open_in}
 use Rattle.stab_code.specs.Trees.{Tree, Trees, tree, none, more, fold_all}
 use Rattle.stab_code.proofs.Lists.{All-left, All-right}
 
@@ -23,29 +23,12 @@ module _ (P : ℕ → Type 0) where
   from_without None ys own all = all
   from_without (Some x) ys own all = from_filter x ys (All-head P x [] own) all
 
-  -- what a form with no lets of its own leaves open, each of its parts leaves open
-  pub open-part : (parts : List (List ℕ)) (k : ℕ) (part : List ℕ) → All P (left_open [] parts) → slice_get parts k ≡ Some part → All P part
-  open-part [] k part all found = absurd cc
-  open-part (x ∷ xs) zero part all found = let same : x ≡ part = cc in subst (All P) same (All-left P x (left_open [] xs) all)
-  open-part (x ∷ xs) (suc k) part all found = open-part xs k part (All-right P x (left_open [] xs) all) found
-
   -- the first form of a block's items, and the rest of the block where the slot of its let is seen
   pub open-first : (slot : Option ℕ) (own : List (Option ℕ)) (part : List ℕ) (parts : List (List ℕ)) → All P (left_open (slot ∷ own) (part ∷ parts)) → All P part
   open-first slot own part parts all = All-left P part (without slot (left_open own parts)) all
 
   pub open-rest : (slot : Option ℕ) (own : List (Option ℕ)) (part : List ℕ) (parts : List (List ℕ)) → All P (one_or_none slot) → All P (left_open (slot ∷ own) (part ∷ parts)) → All P (left_open own parts)
   open-rest slot own part parts seen all = from_without slot (left_open own parts) seen (All-right P part (without slot (left_open own parts)) all)
-
-  -- the slots that a form lets or names, each of its parts lets or names
-  pub own-part : (own : List (Option ℕ)) (parts : List (List ℕ)) (k : ℕ) (part : List ℕ) → All P (with_own own parts) → slice_get parts k ≡ Some part → All P part
-  own-part own [] k part all found = absurd cc
-  own-part [] (x ∷ xs) zero part all found = let same : x ≡ part = cc in subst (All P) same (All-left P x (with_own [] xs) all)
-  own-part [] (x ∷ xs) (suc k) part all found = own-part [] xs k part (All-right P x (with_own [] xs) all) found
-  own-part (slot ∷ own) (x ∷ xs) zero part all found =
-      let same : x ≡ part = cc in
-      subst (All P) same (All-left P x (with_own own xs) (All-right P (one_or_none slot) (x ++ with_own own xs) all))
-  own-part (slot ∷ own) (x ∷ xs) (suc k) part all found =
-      own-part own xs k part (All-right P x (with_own own xs) (All-right P (one_or_none slot) (x ++ with_own own xs) all)) found
 
   mutual
     -- a slot that a form names is left open or let
@@ -65,9 +48,3 @@ module _ (P : ℕ → Type 0) where
         All-append P (one_or_none slot) (named_in t ++ with_own own (fold_all named_from ts)) its
         (All-append P (named_in t) (with_own own (fold_all named_from ts)) (named-open-let t (open-first slot own (open_in t) (fold_all open_from ts) opened) (All-left P (lets_of t) (with_own own (fold_all lets_from ts)) others))
         (named-parts own ts (open-rest slot own (open_in t) (fold_all open_from ts) its opened) (All-right P (lets_of t) (with_own own (fold_all lets_from ts)) others)))
-
--- no part is deeper than the deepest
-pub part-deepest : (depths : List ℕ) (k depth : ℕ) → slice_get depths k ≡ Some depth → depth ≤ deepest depths
-part-deepest [] k depth found = absurd cc
-part-deepest (d ∷ ds) zero depth found = let same : d ≡ depth = cc in omega arith
-part-deepest (d ∷ ds) (suc k) depth found = let below = part-deepest ds k depth found in omega arith

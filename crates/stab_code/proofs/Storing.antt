@@ -1,14 +1,20 @@
--- What is stored, as nodes.
-use Rattle.std.proofs.Common.{◌≡◌, ℕ, ◌+◌, ◌-◌, ◌≤◌, List, [], ◌∷◌, ◌++◌, length, take, drop, ap, ◌∙◌, arith, length-drop}
+-- What is stored, as lists and as nodes.
+use Rattle.std.proofs.Common.{◌≡◌, ℕ, zero, suc, ◌+◌, ◌-◌, ◌<◌, ◌≤◌, List, [], ◌∷◌, ◌++◌, length, take, drop, get_or, slice_get, Some, refl, ap, ◌∙◌, subst, sym, arith, length-drop, length-append}
 use Rattle.std.specs.List.{slice_range}
-use Rattle.std.proofs.lemmas.List.{take-append-le, drop-append-le}
-use Rattle.std.proofs.lemmas.List.Elements.{All-head, All-tail}
+use Rattle.std.proofs.lemmas.List.{drop_all, length-take-le, take-append-le, drop-append-le}
+use Rattle.std.proofs.lemmas.List.Folds.{drop_split}
+use Rattle.std.proofs.lemmas.Option.{slice_get-get_or}
 use Rattle.std.proofs.Math.Seq.{drop-append_seam, take-length}
 use Rattle.stab_code.specs.declared.head.Head.{Head}
 use Rattle.stab_code.specs.declared.node_id.NodeId.{NodeId}
-use Rattle.stab_code.specs.declared.nodes.Stored.{Stored}
 use Rattle.stab_code.specs.Nodes.{node_of}
-use Rattle.stab_code.specs.Stored.{IsThere, AreThere, node_in, nodes_in}
+use Rattle.stab_code.specs.Stored.{AreEnds, lists_in, nodes_in, start_of}
+
+pub ends_within : (from : ℕ) (ends : List ℕ) (parts : List NodeId) → AreEnds from ends parts → from ≤ length parts
+ends_within from [] parts are = omega arith
+ends_within from (to ∷ ends) parts are =
+    let rest = ends_within to ends parts are.1 in
+    omega (arith, are.0)
 
 range-append : (parts more : List NodeId) (from to : ℕ) → from ≤ to → to ≤ length parts → slice_range (parts ++ more) from to ≡ slice_range parts from to
 range-append parts more from to h k =
@@ -21,11 +27,111 @@ range-behind parts more to e =
     let long : to - length parts ≡ length more = omega arith in
     ap (take (to - length parts)) (drop-append_seam parts more) ∙ ap (λ n. take n more) long ∙ take-length more
 
--- a node that is stored with its parts behind those of the others
-pub nodes_in-push : (stored : List Stored) (parts more : List NodeId) (head : Head) (to : ℕ) → AreThere stored parts → to ≡ length parts + length more → nodes_in (stored ++ record { head = head; from = length parts; to = to } ∷ []) (parts ++ more) ≡ nodes_in stored parts ++ node_of head more ∷ []
-nodes_in-push [] parts more head to there e = ap (λ own. node_of head own ∷ []) (range-behind parts more to e)
-nodes_in-push (s ∷ stored) parts more head to there e =
-    let here : IsThere parts s = All-head (IsThere parts) s stored there in
-    let rest = nodes_in-push stored parts more head to (All-tail (IsThere parts) s stored there) e in
-    ap (λ own. node_of s.head own ∷ nodes_in (stored ++ record { head = head; from = length parts; to = to } ∷ []) (parts ++ more)) (range-append parts more s.from s.to here.0 here.1)
-    ∙ ap (λ nodes. node_in parts s ∷ nodes) rest
+-- a list that is stored behind the others
+pub list_pushed : (from : ℕ) (ends : List ℕ) (parts more : List NodeId) (to : ℕ) → AreEnds from ends parts → to ≡ length parts + length more → lists_in from (ends ++ to ∷ []) (parts ++ more) ≡ lists_in from ends parts ++ more ∷ []
+list_pushed from [] parts more to are e = rw are (ap (λ own. own ∷ []) (range-behind parts more to e))
+list_pushed from (end ∷ ends) parts more to are e =
+    let within = ends_within end ends parts are.1 in
+    ap (λ own. own ∷ lists_in end (ends ++ to ∷ []) (parts ++ more)) (range-append parts more from end are.0 within)
+    ∙ ap (λ lists. slice_range parts from end ∷ lists) (list_pushed end ends parts more to are.1 e)
+
+pub ends_pushed : (from : ℕ) (ends : List ℕ) (parts more : List NodeId) (to : ℕ) → AreEnds from ends parts → to ≡ length parts + length more → AreEnds from (ends ++ to ∷ []) (parts ++ more)
+ends_pushed from [] parts more to are e = (omega arith, e ∙ sym (length-append parts more))
+ends_pushed from (end ∷ ends) parts more to are e = (are.0, ends_pushed end ends parts more to are.1 e)
+
+pub count_of_lists : (from : ℕ) (ends : List ℕ) (parts : List NodeId) → length (lists_in from ends parts) ≡ length ends
+count_of_lists from [] parts = refl
+count_of_lists from (to ∷ ends) parts = ap suc (count_of_lists to ends parts)
+
+-- a list by its number
+pub record IsListAt (from : ℕ) (ends : List ℕ) (parts : List NodeId) (i to : ℕ) : Type 0 where
+  pub rises : start_of from ends i ≤ to
+  pub within : to ≤ length parts
+  pub found : slice_get (lists_in from ends parts) i ≡ Some (slice_range parts (start_of from ends i) to)
+
+pub list_at : (from : ℕ) (ends : List ℕ) (parts : List NodeId) (i to : ℕ) → AreEnds from ends parts → slice_get ends i ≡ Some to → IsListAt from ends parts i to
+list_at from [] parts i to are found = cc
+list_at from (end ∷ ends) parts zero to are found =
+    let e : end ≡ to = cc in
+    let within = ends_within end ends parts are.1 in
+    record { rises = rw (← e) are.0; within = rw (← e) within; found = rw e refl }
+list_at from (end ∷ ends) parts (suc i) to are found =
+    let rest = list_at end ends parts i to are.1 found in
+    record { rises = rest.rises; within = rest.within; found = rest.found }
+
+pub list_found : (ends : List ℕ) (parts : List NodeId) (lists : List (List NodeId)) (i to : ℕ) → AreEnds 0 ends parts → lists_in 0 ends parts ≡ lists → i < length lists → to ≡ get_or ends i to → IsListAt 0 ends parts i to
+list_found ends parts lists i to are view h found =
+    let inside : i < length ends = omega (arith, h, ap length view, count_of_lists 0 ends parts) in
+    list_at 0 ends parts i to are (slice_get-get_or ends i to inside ∙ ap Some (sym found))
+
+-- a list begins where the one before it ends
+pub start_behind : (from : ℕ) (ends : List ℕ) (i before : ℕ) → i ≡ suc before → i < length ends → get_or ends before 0 ≡ start_of from ends i
+start_behind from [] i before e h = absurd (omega arith)
+start_behind from (to ∷ ends) zero before e h = absurd (omega arith)
+start_behind from (to ∷ []) (suc i) before e h = absurd (omega arith)
+start_behind from (to ∷ end ∷ ends) (suc zero) zero e h = refl
+start_behind from (to ∷ end ∷ ends) (suc zero) (suc before) e h = absurd (omega arith)
+start_behind from (to ∷ end ∷ ends) (suc (suc i)) zero e h = absurd (omega arith)
+start_behind from (to ∷ end ∷ ends) (suc (suc i)) (suc before) e h = start_behind to (end ∷ ends) (suc i) before (omega arith) (omega arith)
+
+range-length : (parts : List NodeId) (from to : ℕ) → from ≤ to → to ≤ length parts → length (slice_range parts from to) ≡ to - from
+range-length parts from to h k =
+    let some : to - from ≤ length (drop from parts) = omega (arith, length-drop from parts) in
+    length-take-le (to - from) (drop from parts) some
+
+-- lists are the same only where they are stored so
+pub stored_lists : (from : ℕ) (ends others : List ℕ) (parts own : List NodeId) → AreEnds from ends parts → AreEnds from others own → lists_in from ends parts ≡ lists_in from others own → (ends ≡ others) × (drop from parts ≡ drop from own)
+stored_lists from [] [] parts own are be same = (refl, drop_all from parts (omega arith) ∙ sym (drop_all from own (omega arith)))
+stored_lists from [] (to ∷ others) parts own are be same = cc
+stored_lists from (to ∷ ends) [] parts own are be same = cc
+stored_lists from (to ∷ ends) (end ∷ others) parts own are be same =
+    let first : slice_range parts from to ≡ slice_range own from end = cc in
+    let to_within = ends_within to ends parts are.1 in
+    let end_within = ends_within end others own be.1 in
+    let long = range-length parts from to are.0 to_within in
+    let as_long = range-length own from end be.0 end_within in
+    let counts : to - from ≡ end - from = sym long ∙ ap length first ∙ as_long in
+    let e : to ≡ end = omega (arith, are.0, be.0) in
+    let behind : lists_in to ends parts ≡ lists_in to others own = subst (λ n. lists_in to ends parts ≡ lists_in n others own) (sym e) (cc) in
+    let rest = stored_lists to ends others parts own are.1 (subst (λ n. AreEnds n others own) (sym e) be.1) behind in
+    let split = drop_split parts from to are.0 in
+    let as_split : drop from own ≡ slice_range own from end ++ drop to own = rw e (drop_split own from end be.0) in
+    (cc, split ∙ ap (λ xs. xs ++ drop to parts) first ∙ ap (λ xs. slice_range own from end ++ xs) rest.1 ∙ sym as_split)
+
+pub node_pushed : (heads : List Head) (lists : List (List NodeId)) (head : Head) (parts : List NodeId) → length heads ≡ length lists → nodes_in (heads ++ head ∷ []) (lists ++ parts ∷ []) ≡ nodes_in heads lists ++ node_of head parts ∷ []
+node_pushed [] [] head parts e = refl
+node_pushed [] (l ∷ lists) head parts e = absurd (omega arith)
+node_pushed (h ∷ heads) [] head parts e = absurd (omega arith)
+node_pushed (h ∷ heads) (l ∷ lists) head parts e = ap (λ nodes. node_of h l ∷ nodes) (node_pushed heads lists head parts (omega arith))
+
+pub count_of_nodes : (heads : List Head) (lists : List (List NodeId)) → length heads ≡ length lists → length (nodes_in heads lists) ≡ length heads
+count_of_nodes [] lists e = refl
+count_of_nodes (h ∷ heads) [] e = absurd (omega arith)
+count_of_nodes (h ∷ heads) (l ∷ lists) e = ap suc (count_of_nodes heads lists (omega arith))
+
+pub node_at : (heads : List Head) (lists : List (List NodeId)) (i : ℕ) (head : Head) (parts : List NodeId) → slice_get heads i ≡ Some head → slice_get lists i ≡ Some parts → slice_get (nodes_in heads lists) i ≡ Some (node_of head parts)
+node_at [] lists i head parts h p = cc
+node_at (g ∷ heads) [] i head parts h p = cc
+node_at (g ∷ heads) (l ∷ lists) zero head parts h p =
+    let a : g ≡ head = cc in
+    let b : l ≡ parts = cc in
+    rw (a, b) refl
+node_at (g ∷ heads) (l ∷ lists) (suc i) head parts h p = node_at heads lists i head parts h p
+
+-- nodes are the same only where their heads and their parts are
+pub stored_nodes : (heads own : List Head) (lists others : List (List NodeId)) → length heads ≡ length lists → length own ≡ length others → nodes_in heads lists ≡ nodes_in own others → (heads ≡ own) × (lists ≡ others)
+stored_nodes [] [] [] [] e f same = (refl, refl)
+stored_nodes [] [] [] (o ∷ others) e f same = absurd (omega arith)
+stored_nodes [] [] (l ∷ lists) others e f same = absurd (omega arith)
+stored_nodes [] (h ∷ own) lists [] e f same = absurd (omega arith)
+stored_nodes [] (h ∷ own) lists (o ∷ others) e f same = cc
+stored_nodes (h ∷ heads) own [] others e f same = absurd (omega arith)
+stored_nodes (h ∷ heads) [] (l ∷ lists) others e f same = cc
+stored_nodes (h ∷ heads) (g ∷ own) (l ∷ lists) [] e f same = absurd (omega arith)
+stored_nodes (h ∷ heads) (g ∷ own) (l ∷ lists) (o ∷ others) e f same =
+    let first : node_of h l ≡ node_of g o = cc in
+    let as_head : h ≡ g = ap (λ n. n.head) first in
+    let as_parts : l ≡ o = ap (λ n. n.parts) first in
+    let behind : nodes_in heads lists ≡ nodes_in own others = cc in
+    let rest = stored_nodes heads own lists others (omega arith) (omega arith) behind in
+    (cc (as_head, rest.0), cc (as_parts, rest.1))

@@ -1,10 +1,11 @@
 //! What a form is, apart from its parts.
-ghost use Rattle.std.specs.Prelude.{◌≡◌, ◌↔◌, IsTrue};
+ghost use Rattle.std.specs.Prelude.{◌≡◌, ◌↔◌, IfOk, IsTrue};
 ghost use Rattle.stab_code.specs.Heads.{strict_parts};
 
 use crate::same::{Same, all_same};
 use crate::ty::Ty;
-use stab_base::{FnId, TextId};
+use stab_base::{FnId, NoMemory, TextId};
+use std::alloc::Global;
 use std::marker::Model;
 
 /// How deep forms may stand in each other. A form without parts has depth 1.
@@ -32,7 +33,7 @@ pub enum Op {
 /// Contracts see it as a list.
 #[derive(Debug, Drop)]
 pub struct Slots {
-    slots: Vec<Option<u32>>,
+    slots: Box<Vec<Option<u32>>>,
 }
 
 impl Model for Slots {
@@ -40,15 +41,30 @@ impl Model for Slots {
 
     ghost Value = { List (Option ℕ) };
 
-    ghost view = { λ block. block.slots.items };
+    ghost view = { λ block. block.slots.value.items };
 }
 
 impl Slots {
     /// The slots of a block's items, of which a valid program has one at least in each block.
-    pub fn new(slots: Vec<Option<u32>>) -> Slots
-        ensures { result ≡ slots.items }
+    pub fn new(alloc: Global, slots: Vec<Option<u32>>) -> Result<Slots, NoMemory>
+        ensures { IfOk result (λ made. made ≡ slots.items) }
     {
-        Slots { slots }
+        let slots = Box::new(alloc, slots)?;
+        Ok(Slots { slots })
+    }
+
+    /// A copy of these slots.
+    pub fn from_slice(alloc: Global, slots: &[Option<u32>]) -> Result<Slots, NoMemory>
+        ensures { IfOk result (λ made. made ≡ slots.now) }
+    {
+        Slots::new(alloc, Vec::from_slice(alloc, slots)?)
+    }
+
+    /// Puts other slots in the place of these.
+    pub fn set(&mut self, slots: Vec<Option<u32>>)
+        ensures { self.new ≡ slots.items }
+    {
+        *self.slots = slots;
     }
 
     /// The slots in the order of writing.

@@ -5,28 +5,21 @@ ghost use Rattle.stab_code.specs.Nodes.{node_of};
 use crate::head::Head;
 use crate::node::Node;
 use crate::node_id::NodeId;
-use crate::same::Same;
+use crate::part_lists::PartLists;
+use crate::same::{Same, all_same};
 use stab_base::NoMemory;
 use std::alloc::Global;
 use std::marker::Model;
 
-/// A node's head, and where its parts stand in the list of all parts.
-#[derive(Debug, Drop)]
-struct Stored {
-    head: Head,
-    from: usize,
-    to: usize,
-}
-
 /// A list of nodes, to which a program's are added one by one, each after its parts. Contracts see it as the list.
 #[derive(Debug, Drop)]
 pub struct Nodes {
-    stored: Vec<Stored>,
-    parts: Vec<NodeId>,
+    heads: Vec<Head>,
+    parts: PartLists,
 }
 
 impl Model for Nodes {
-    ghost use Rattle.std.specs.Prelude.{◌<◌, ◌^◌, List, length};
+    ghost use Rattle.std.specs.Prelude.{◌≡◌, List, length};
     ghost use Rattle.stab_code.specs.Nodes.{NodeParts};
     ghost use Rattle.std.specs.Coded.{codes};
     ghost use Rattle.stab_code.specs.contracts.head.Head as whole_head;
@@ -35,11 +28,11 @@ impl Model for Nodes {
 
     ghost coded = { Prim.hlevel (codes, whole_head.the_row.coded) };
 
-    ghost use Rattle.stab_code.specs.Stored.{AreThere, nodes_in};
+    ghost use Rattle.stab_code.specs.Stored.{nodes_in};
 
-    ghost view = { λ nodes. nodes_in nodes.stored.items nodes.parts.items };
+    ghost view = { λ nodes. nodes_in nodes.heads.items nodes.parts };
 
-    ghost invariant = { λ nodes. AreThere nodes.stored.items nodes.parts.items };
+    ghost invariant = { λ nodes. length nodes.heads.items ≡ length nodes.parts };
 }
 
 impl Nodes {
@@ -48,8 +41,8 @@ impl Nodes {
         ensures { result ≡ [] }
     {
         Nodes {
-            stored: Vec::new(alloc),
-            parts: Vec::new(alloc),
+            heads: Vec::new(alloc),
+            parts: PartLists::new(alloc),
         }
     }
 
@@ -57,27 +50,26 @@ impl Nodes {
     pub fn with_capacity(alloc: Global, nodes: usize, parts: usize) -> Result<Nodes, NoMemory>
         ensures { IfOk result (λ made. made ≡ []) }
     {
-        let stored = Vec::with_capacity(alloc, nodes)?;
-        let parts = Vec::with_capacity(alloc, parts)?;
-        Ok(Nodes { stored, parts })
+        let heads = Vec::with_capacity(alloc, nodes)?;
+        let parts = PartLists::with_capacity(alloc, nodes, parts)?;
+        Ok(Nodes { heads, parts })
     }
 
     /// How many nodes there are, which is the number of the next.
     pub fn len(&self) -> usize
         ensures { result ≡ length self.now }
     {
-        self.stored.len()
+        self.heads.len()
     }
 
     /// Adds a node behind the others. After a refusal they are as before.
+    #[inline(always)]
     pub fn push(&mut self, head: Head, parts: &[NodeId]) -> Result<(), NoMemory>
         ensures { MatchResult result (λ _. self.new ≡ self.old ++ node_of head parts.now ∷ []) (λ _. self.new ≡ self.old) }
     {
-        self.stored.reserve(1)?;
-        let from = self.parts.len();
-        self.parts.extend_from_slice(parts)?;
-        let to = self.parts.len();
-        self.stored.push_reserved(Stored { head, from, to });
+        self.heads.reserve(1)?;
+        self.parts.push(parts)?;
+        self.heads.push_reserved(head);
         Ok(())
     }
 
@@ -85,8 +77,7 @@ impl Nodes {
         requires { i < length self.now }
         ensures { slice_get self.now i ≡ Some result }
     {
-        let stored = &self.stored[i];
-        Node::new(&stored.head, &self.parts[stored.from..stored.to])
+        Node::new(&self.heads[i], self.parts.of(i))
     }
 
     /// A node by its number.
@@ -94,7 +85,7 @@ impl Nodes {
         ensures { result ≡ slice_get self.now n.0 }
     {
         let i = n.0 as usize;
-        if i < self.stored.len() {
+        if i < self.heads.len() {
             Some(self.at(i))
         } else {
             None
@@ -104,14 +95,6 @@ impl Nodes {
 
 impl Same for Nodes {
     fn same(&self, other: &Nodes) -> bool {
-        if self.stored.len() != other.stored.len() {
-            return false;
-        }
-        for i in 0..self.stored.len() {
-            if !self.at(i).same(&other.at(i)) {
-                return false;
-            }
-        }
-        true
+        all_same(&self.heads, &other.heads) && self.parts.same(&other.parts)
     }
 }

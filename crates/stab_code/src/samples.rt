@@ -18,7 +18,7 @@ pub(crate) fn print_a_sum(alloc: Global) -> Result<Program, NoMemory> {
     nodes.push(Head::Int(2), &[])?;
     nodes.push(Head::Two(Op::Add), &[NodeId(0), NodeId(1)])?;
     nodes.push(Head::Print, &[NodeId(2)])?;
-    let main = Function::new(Vec::new(alloc), Ty::new(TyForm::Unit), 0, NodeId(3));
+    let main = Function::new(Vec::new(alloc), Ty::new(alloc, TyForm::Unit)?, 0, NodeId(3));
     let functions = vec![in alloc; main]?;
     Ok(Program::new(functions, nodes, Texts::new(Vec::new(alloc)), FnId(0)))
 }
@@ -42,9 +42,14 @@ pub(crate) fn print_a_call(alloc: Global) -> Result<Program, NoMemory> {
     nodes.push(Head::Call(FnId(0)), &[NodeId(9)])?;
     nodes.push(Head::Print, &[NodeId(10)])?;
     nodes.push(block_of(alloc, &[Some(0)])?, &[NodeId(8), NodeId(11)])?;
-    let takes = vec![in alloc; Ty::new(TyForm::Int)]?;
-    let plus = Function::new(takes, Ty::new(TyForm::Int), 3, NodeId(7));
-    let main = Function::new(Vec::new(alloc), Ty::new(TyForm::Unit), 1, NodeId(12));
+    let takes = vec![in alloc; Ty::new(alloc, TyForm::Int)?]?;
+    let plus = Function::new(takes, Ty::new(alloc, TyForm::Int)?, 3, NodeId(7));
+    let main = Function::new(
+        Vec::new(alloc),
+        Ty::new(alloc, TyForm::Unit)?,
+        1,
+        NodeId(12),
+    );
     let functions = vec![in alloc; plus, main]?;
     Ok(Program::new(functions, nodes, Texts::new(Vec::new(alloc)), FnId(1)))
 }
@@ -52,5 +57,5 @@ pub(crate) fn print_a_call(alloc: Global) -> Result<Program, NoMemory> {
 fn block_of(alloc: Global, slots: &[Option<u32>]) -> Result<Head, NoMemory>
     ensures { IfOk result (λ head. head ≡ Block slots.now) }
 {
-    Ok(Head::Block(Slots::new(Vec::from_slice(alloc, slots)?)))
+    Ok(Head::Block(Slots::from_slice(alloc, slots)?))
 }

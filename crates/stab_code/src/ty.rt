@@ -1,8 +1,10 @@
 //! Types as a program writes them.
-ghost use Rattle.std.specs.Prelude.{◌≡◌, ◌↔◌, IsTrue};
+ghost use Rattle.std.specs.Prelude.{◌≡◌, ◌↔◌, IfOk, IsTrue};
 ghost use Rattle.stab_code.specs.WrittenType.{written_by};
 
 use crate::same::Same;
+use stab_base::NoMemory;
+use std::alloc::Global;
 use std::marker::Model;
 
 /// What a written type is made of. Contracts see it as a `Written`, which has no addresses.
@@ -20,7 +22,7 @@ pub enum TyForm {
 /// A type as a program writes it. Contracts see it as a `Written`.
 #[derive(Debug, Drop)]
 pub struct Ty {
-    form: TyForm,
+    form: Box<TyForm>,
 }
 
 impl Model for Ty {
@@ -32,15 +34,16 @@ impl Model for Ty {
 
     ghost coded = { coded_written };
 
-    ghost view = { λ t. written_by t.form };
+    ghost view = { λ t. written_by t.form.value };
 }
 
 impl Ty {
     /// The type of this form.
-    pub fn new(form: TyForm) -> Ty
-        ensures { result ≡ written_by form }
+    pub fn new(alloc: Global, form: TyForm) -> Result<Ty, NoMemory>
+        ensures { IfOk result (λ ty. ty ≡ written_by form) }
     {
-        Ty { form }
+        let form = Box::new(alloc, form)?;
+        Ok(Ty { form })
     }
 
     /// What the type is made of, to match on.

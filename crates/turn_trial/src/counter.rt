@@ -163,7 +163,7 @@ fn add_event(history: &mut History, worker: u32)
 fn does_nothing(alloc: Global) -> Result<Program, NoMemory> {
     let mut nodes = Nodes::new(alloc);
     nodes.push(Head::Unit, &[])?;
-    let main = Function::new(Vec::new(alloc), Ty::new(TyForm::Unit), 0, NodeId(0));
+    let main = Function::new(Vec::new(alloc), Ty::new(alloc, TyForm::Unit)?, 0, NodeId(0));
     let functions = vec![in alloc; main]?;
     Ok(Program::new(functions, nodes, Texts::new(Vec::new(alloc)), FnId(0)))
 }

@@ -2,7 +2,9 @@
 
 use super::read::program_of;
 use stab_base::FnId;
-use stab_code::{Head, Job, MAX_FUEL, MAX_QUANTUM, MAX_SCRIPT, NodeId, Nodes, Op, Program, Slots};
+use stab_code::{
+    Head, Job, MAX_FUEL, MAX_QUANTUM, MAX_SCRIPT, NodeId, Nodes, Op, PartLists, Program, Slots,
+};
 use std::alloc::Global;
 use std::process::Abort;
 use std::sync::Arc;
@@ -92,9 +94,24 @@ fn reads_calls_and_lets_back(rt: HostRuntime) -> Result<(), Fail> {
 }
 
 #[test]
+fn keeps_lists_of_parts(rt: HostRuntime) -> Result<(), Fail> {
+    let mut lists = PartLists::with_capacity(rt.alloc(), 3, 3)?;
+    lists.push(&[NodeId(4), NodeId(2)])?;
+    lists.push(&[])?;
+    lists.push(&[NodeId(7)])?;
+    assert_eq!(rt; lists.len(), 3);
+    assert_eq!(rt; lists.of(0), [NodeId(4), NodeId(2)].as_slice());
+    assert!(rt; lists.of(1).is_empty());
+    assert_eq!(rt; lists.of(2), [NodeId(7)].as_slice());
+    Ok(())
+}
+
+#[test]
 fn says_how_many_parts_are_values_first(rt: HostRuntime) -> Result<(), Fail> {
-    let slots = Slots::new(vec![in rt.alloc(); None, Some(1)]?);
+    let mut slots = Slots::from_slice(rt.alloc(), &[None, Some(1)])?;
     assert_eq!(rt; slots.all(), [None, Some(1)].as_slice());
+    slots.set(vec![in rt.alloc(); Some(0), None]?);
+    assert_eq!(rt; slots.all(), [Some(0), None].as_slice());
     let table = [
         (Head::Block(slots), 3, 1),
         (Head::If, 3, 1),

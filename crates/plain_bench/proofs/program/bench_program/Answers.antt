@@ -5,11 +5,11 @@ use Rattle.stab_code.specs.Valid.{IsValid}
 use Rattle.plain_bench.proofs.BenchIsValid.{bench, bench_is_valid}
 use Rattle.plain_bench.proofs.program.bench_program.Goals as goal
 
-pub new-requires-9 : goal.new-requires-9
-new-requires-9 c =
-    let made : program_of c.in_ok-functions.functions.items c.push-16.new.self c.new-8.result (record { 0 = 2 }) ≡ bench =
+pub new-requires-3 : goal.new-requires-3
+new-requires-3 c =
+    let made : program_of c.in_ok-functions.functions.items c.push-16.new.self c.new-2.result (record { 0 = 2 }) ≡ bench =
     rw (
-      c.in_ok-functions.ensures.items,
+      c.in_ok-functions.ensures,
       c.in_ok-push-16.ensures,
       c.in_ok-push-15.ensures,
       c.in_ok-push-14.ensures,
@@ -28,17 +28,7 @@ new-requires-9 c =
       c.in_ok-push.ensures,
       c.new-nodes.ensures,
       c.in_ok-block.ensures,
-      c.new-8.ensures,
-      c.new-7.ensures.items,
-      c.new-spin.ensures,
-      c.new-deep.ensures,
-      c.new-main.ensures,
-      c.in_ok-takes.ensures.items,
-      c.new.ensures.items,
       c.new-2.ensures,
-      c.new-3.ensures,
-      c.new-4.ensures,
-      c.new-5.ensures.items,
-      c.new-6.ensures,
+      c.new.ensures.items,
     ) refl in
     subst IsValid (sym made) bench_is_valid

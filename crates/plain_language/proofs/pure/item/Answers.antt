@@ -10,7 +10,7 @@ pub returns-in_ok-parts-in-Some-slot : goal.returns-in_ok-parts-in-Some-slot
 returns-in_ok-parts-in-Some-slot c =
     let all : c.args.parts.now ≡ c.in-Some.first.now ∷ c.in-Some.rest.now = first_of (cc, grind (arith, common_steps)) in
     let cut : c.args.slots.now ≡ Some c.in-Some-slot.x ∷ c.in-Some-split_first.others.now = first_of (cc, grind (arith, common_steps)) in
-    let slots : c.new-slots.result ≡ c.in-Some-split_first.others.now = c.new-slots.ensures ∙ c.in_ok-from_slice.ensures.items in
+    let slots : c.in_ok-slots.slots ≡ c.in-Some-split_first.others.now = c.in_ok-slots.ensures in
     ap becomes (c.left.ensures ∙ ap (λ s. left_of s (parts_of c.in_ok-parts-in-Some-slot.parts.items)) slots ∙ ap (left_of c.in-Some-split_first.others.now) c.in_ok-parts-in-Some-slot.ensures)
     ∙ sym (block_of-left c.in-Some-split_first.others.now _)
     ∙ item_is c.args.parts.now c.in-Some.rest.now c.in-Some.first.now c.in-Some-as_value.v.now c.args.slots.now c.in-Some-split_first.others.now (Some c.in-Some-slot.x)

@@ -32,9 +32,9 @@ new-requires-7 c =
       c.new-plus.ensures,
       c.new-main.ensures,
       c.in_ok-takes.ensures.items,
-      c.new.ensures,
-      c.new-2.ensures,
+      c.in_ok-new.ensures,
+      c.in_ok-new-2.ensures,
+      c.in_ok-new-3.ensures,
       c.new-3.ensures.items,
-      c.new-4.ensures,
     ) refl in
     subst IsValid (sym made) call_is_valid
