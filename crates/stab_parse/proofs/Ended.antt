@@ -16,7 +16,7 @@ use Rattle.stab_parse.specs.Moves.{reached, advance}
 use Rattle.stab_parse.proofs.FormsKept.{reverse_program, functions_kept, deep_program}
 use Rattle.stab_parse.proofs.Keeping.{advances, kept_of}
 use Rattle.stab_parse.proofs.Kept.{phase_of, reader_of, in_program}
-use Rattle.stab_parse.proofs.Machine.{Opening, opening, RoundParam, first_param, later_param, RoundType, of_param, of_result, in_chan, in_ref, pair_left, pair_right, of_chan, RoundItems, items_in, RoundBlock, body, block_primary, then_block, else_block, RoundIf, if_primary, after_else, RoundExpr, group_in, second_in, first_arg, later_arg, one_in, two_left, two_right, let_value, item_in, condition, RoundAnd, first_and, after_or, RoundCmp, first_cmp, after_and, RoundSum, first_sum, after_compare, RoundTerm, first_term, after_plus, after_minus, RoundUnary, first_unary, after_times, after_not, RoundOther, no_sign, after_negate, open_items, open_block, open_if, open_expr, open_and, open_cmp, open_sum, open_term, open_unary, open_other, open_type, State, fn_read, fn_named, params_open, param_owed, param_named, params_closed, owes_type, chan_type_read, ref_type_read, has_type, owes, signed, opened, named, call_open, word_read, word_named, alone_read, alone_open, one_read, two_read, chan_read, chan_typed, chan_open, in_items, let_read, let_named, has, then_read, else_read, open_of, unary_at, put, put_other, put_primary, put_if, put_block, sum_with, round_term, cmp_with, round_sum, and_with, round_cmp, expr_with, round_and, params_with, opening_of, Move, fails, goes, opens, close_paren, comma, semicolon, close_brace, open_brace, ends_expr, ends_and, ends_cmp, relate, ends_sum, ends_term, step_done, begin_other, step_owes, step_signed, step_opened, step_call_open, end_block, step_items, step_named, step_then, step_else, step_owes_type, step_has_type, step}
+use Rattle.stab_parse.proofs.Machine.{State, open_of, Move, fails, goes, opens}
 use Rattle.stab_parse.proofs.Machine as machine
 use Rattle.stab_parse.proofs.Reading.{walk, walk_on, walk-append, step_by, okay, failed, fault_of_walk}
 use Rattle.stab_parse.proofs.Verdicts.{program_walked, ends_early}
@@ -27,9 +27,6 @@ pub record Reaches (ts : List Token) (p : Phase) (r : Reader) : Type 0 where
   pub walked : walk machine.start ts ≡ okay state
   pub phase_is : p ≡ phase_of state
   pub reader_is : r ≡ reader_of state
-
-pub reaches_start : Reaches [] phase.Between (record { frames = []; forms = []; functions = [] })
-reaches_start = record { state = machine.start; walked = refl; phase_is = refl; reader_is = refl }
 
 walked_case : (st : State) (t : Token) (w : Result State ParseFault) (p : Phase) (r : Reader) → walk_on (step_by st t) okay t.start ≡ w → kept_of w ≡ Ok (reached p r) → (next : State) × (walk_on (step_by st t) okay t.start ≡ okay next) × (p ≡ phase_of next) × (r ≡ reader_of next)
 walked_case st t (Ok next) p r e h = let same : reached (phase_of next) (reader_of next) ≡ reached p r = cc in (next, e, sym (ap (λ x. x.phase) same), sym (ap (λ x. x.reader) same))

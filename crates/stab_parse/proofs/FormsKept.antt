@@ -64,9 +64,6 @@ deep_among-append (x ∷ xs) ys = deep_among_case (eqb x.depth 201) x xs ys (dee
 just_beyond : (d : ℕ) → eqb (min (suc (min d 255)) 255) 201 ≡ eqb d 200
 just_beyond d = grind (arith, nat_tests)
 
-deep_there : (b c : Bool) (at : ℕ) → b ≡ c → cond b (at ∷ []) [] ≡ cond c (at ∷ []) []
-deep_there b c at e = ap (λ x. cond x (at ∷ []) []) e
-
 mutual
   deep_nodes : (f : Form) → deep_among (nodes_of f) ≡ deep_in f
   deep_nodes (form at h parts) =

@@ -4,11 +4,12 @@ use Rattle.std.specs.Prelude.{Result, nat_lt}
 use Rattle.stab_lex.specs.declared.token.Token.{Token}
 use Rattle.stab_parse.specs.declared.fault.ParseFault.{ParseFault}
 use Rattle.stab_parse.specs.declared.fault.ParseFault.TheVariants.{TooNested}
+use Rattle.stab_parse.specs.declared.parser.Parser.{Parser}
 use Rattle.stab_parse.specs.Faults.{max_open}
 use Rattle.stab_parse.specs.Frames.{open_in}
 use Rattle.stab_parse.proofs.Machine.{Opening, opening, RoundParam, first_param, later_param, RoundType, of_param, of_result, in_chan, in_ref, pair_left, pair_right, of_chan, RoundItems, items_in, RoundBlock, body, block_primary, then_block, else_block, RoundIf, if_primary, after_else, RoundExpr, group_in, second_in, first_arg, later_arg, one_in, two_left, two_right, let_value, item_in, condition, RoundAnd, first_and, after_or, RoundCmp, first_cmp, after_and, RoundSum, first_sum, after_compare, RoundTerm, first_term, after_plus, after_minus, RoundUnary, first_unary, after_times, after_not, RoundOther, no_sign, after_negate, open_items, open_block, open_if, open_expr, open_and, open_cmp, open_sum, open_term, open_unary, open_other, open_type, State, fn_read, fn_named, params_open, param_owed, param_named, params_closed, owes_type, chan_type_read, ref_type_read, has_type, owes, signed, opened, named, call_open, word_read, word_named, alone_read, alone_open, one_read, two_read, chan_read, chan_typed, chan_open, in_items, let_read, let_named, has, then_read, else_read, open_of, unary_at, put, put_other, put_primary, put_if, put_block, sum_with, round_term, cmp_with, round_sum, and_with, round_cmp, expr_with, round_and, params_with, opening_of, Move, fails, goes, opens, close_paren, comma, semicolon, close_brace, open_brace, ends_expr, ends_and, ends_cmp, relate, ends_sum, ends_term, step_done, begin_other, step_owes, step_signed, step_opened, step_call_open, end_block, step_items, step_named, step_then, step_else, step_owes_type, step_has_type, step}
 use Rattle.stab_parse.proofs.Machine as machine
-use Rattle.stab_parse.specs.Moves.{Outcome, move, open_total, Reached, reached, after_step, advance}
+use Rattle.stab_parse.specs.Moves.{Outcome, move, open_total, reached, after_step, advance}
 use Rattle.stab_parse.specs.Symbols.{symbol_of, span_of}
 use Rattle.stab_parse.proofs.Kept.{at_items, at_block, at_if, at_expr, at_and, at_cmp, at_sum, at_term, at_unary, at_other, at_type, phase_of, reader_of}
 use Rattle.stab_parse.proofs.Reading.{step_by, walk_on, okay, failed}
@@ -110,7 +111,7 @@ open_agrees (then_read i e b c) = omega (arith, open_at_if c)
 open_agrees (else_read i e b l c) = omega (arith, open_at_if c)
 
 -- what is kept of a state, or the fault
-abbrev pub kept_of : Result State ParseFault → Result Reached ParseFault
+abbrev pub kept_of : Result State ParseFault → Result Parser ParseFault
 kept_of (Ok st) = Ok (reached (phase_of st) (reader_of st))
 kept_of (Err f) = Err f
 

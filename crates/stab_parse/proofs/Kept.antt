@@ -81,7 +81,7 @@ place_of (else_block i e b l c) = place.Else i.start (both (expr_height e) (bloc
 abbrev mutual
   pub at_items : RoundItems → Reader
   at_items (items_in o is c) =
-      pushed (frame.Items o.start (names_of is) (count_of (parts_of_items is)) (height_of_parts (parts_of_items is)) (place_of c)) (with_parts (parts_of_items is) (at_block c))
+      pushed (frame.Items o.start (height_of_parts (parts_of_items is)) (names_of is) (count_of (parts_of_items is)) (place_of c)) (with_parts (parts_of_items is) (at_block c))
 
   pub at_block : RoundBlock → Reader
   at_block (body o xs e q t) = in_program (program_of o)

@@ -187,11 +187,6 @@ walk_standing ts c =
     let P : List Piece → Type 0 = AllByRecursion IsWithin in
     (h.state, walk_pieces ts h.parts.left start h.state h.parts.left_signs (subst P h.parts.left_is c.within) h.before)
 
-pub go_prefix : (ts : List Token) → IsPrefix ts → (st : State) × (go start ts ≡ Some st)
-go_prefix ts c =
-    let h : Halfway ts c.0 c.1 = halfway ts c.0 c.1 c.2 in
-    (h.state, go_pieces ts h.parts.left start h.state h.parts.left_signs h.before)
-
 -- ---- what a walk says
 
 -- the pieces that were walked through

@@ -8,7 +8,6 @@ use Rattle.stab_parse.specs.declared.frame.Frame.TheVariants as frame
 use Rattle.stab_parse.specs.declared.frame.Level.TheVariants as level
 use Rattle.stab_parse.specs.declared.frame.Seen.{Seen}
 use Rattle.stab_parse.specs.declared.reader.Reader.{Reader}
-use Rattle.stab_parse.specs.declared.reader.Step.TheVariants.{Refused, Goes, Opens}
 use Rattle.stab_parse.specs.declared.symbol.ActWord.{ActWord}
 use Rattle.stab_parse.specs.declared.symbol.ActWord.TheVariants.{Ref}
 use Rattle.stab_parse.specs.declared.symbol.Span.{Span}
@@ -22,7 +21,7 @@ use Rattle.stab_parse.proofs.Machine.{Opening, opening, RoundParam, first_param,
 use Rattle.stab_parse.proofs.Machine as machine
 use Rattle.stab_parse.specs.Frames.{top_of, below_top}
 use Rattle.stab_parse.specs.Moves as moves
-use Rattle.stab_parse.specs.Moves.{pushed, popped, both, alone, more, seen_at, settled, Settled, settle, settle_on, settle_if, settle_if_on, join_top, join, whole_sum, whole_and, whole_expr, Outcome, outcome, settled_outcome, complete, block_in, block_done, unit_place, ends, closes, ends_settled, move}
+use Rattle.stab_parse.specs.Moves.{Refused, Goes, Opens, pushed, popped, both, alone, more, seen_at, settled, Settled, settle, settle_on, settle_if, settle_if_on, join_top, join, whole_sum, whole_and, whole_expr, Outcome, outcome, settled_outcome, complete, block_in, block_done, unit_place, ends, closes, ends_settled, move}
 use Rattle.stab_parse.proofs.Kept.{with_form, with_parts, seen_of, kept_callee_of, before_of, name_of_opening, program_of, in_program, expr_height, block_height, place_of, at_items, at_block, at_if, at_expr, at_and, at_cmp, at_sum, at_term, at_unary, at_other, at_type, phase_of, reader_of}
 
 -- ---- what stands on top of the frames of a place

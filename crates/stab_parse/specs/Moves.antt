@@ -14,9 +14,10 @@ use Rattle.stab_parse.specs.declared.frame.Level.TheVariants.{Product, Sum, Rela
 use Rattle.stab_parse.specs.declared.frame.Phase.{Phase}
 use Rattle.stab_parse.specs.declared.frame.Phase.TheVariants as phase
 use Rattle.stab_parse.specs.declared.frame.Seen.{Seen}
+use Rattle.stab_parse.specs.declared.parser.Parser.{Parser}
 use Rattle.stab_parse.specs.declared.reader.Reader.{Reader}
-use Rattle.stab_parse.specs.declared.reader.Step.{Step}
-use Rattle.stab_parse.specs.declared.reader.Step.TheVariants.{Refused, Goes, Opens}
+use Rattle.stab_parse.specs.declared.parser.Admission.{Admission}
+use Rattle.stab_parse.specs.declared.parser.Admission.TheVariants as admission
 use Rattle.stab_parse.specs.declared.symbol.ActWord.TheVariants.{Ref}
 use Rattle.stab_parse.specs.declared.symbol.CallWord.{CallWord}
 use Rattle.stab_parse.specs.declared.symbol.Span.{Span}
@@ -131,6 +132,12 @@ else_top (Some f) at d r = else_frame f at d r
 abbrev pub settle_if : ℕ → ℕ → Reader → Settled
 settle_if at d r = settle_if_on r.frames at d r
 
+-- what a token does: it may not stand there, it leads to a phase, or it opens something and leads to one
+pub data Step : Type 0 where
+  Refused : Step
+  Goes : Phase → Step
+  Opens : Phase → Step
+
 abbrev pub has : Settled → Step
 has s = Goes (phase.Has s.seen)
 
@@ -141,6 +148,15 @@ pub record Outcome : Type 0 where
 
 abbrev pub outcome : Step → Reader → Outcome
 outcome s r = record { step = s; reader = r }
+
+-- what an admission says of a parser that is in the next phase
+abbrev pub step_to : Admission → Phase → Step
+step_to admission.Refused p = Refused
+step_to admission.Goes p = Goes p
+step_to admission.Opens p = Opens p
+
+abbrev pub did : Admission → Parser → Outcome
+did v p = outcome (step_to v p.phase) p.reader
 
 abbrev pub settled_outcome : Settled → Outcome
 settled_outcome s = outcome (has s) s.reader
@@ -213,8 +229,8 @@ comma _ s r = outcome Refused r
 
 -- an item is complete
 abbrev pub item : Option Span → Frame → Seen → Reader → Outcome
-item name (frame.Items at names n d place) s r =
-    outcome (Goes phase.InItems) (pushed (frame.Items at (names ++ name ∷ []) (more n) (max d s.depth) place) r)
+item name (frame.Items at d names n place) s r =
+    outcome (Goes phase.InItems) (pushed (frame.Items at (max d s.depth) (names ++ name ∷ []) (more n) place) r)
 item name _ s r = outcome Refused r
 
 abbrev pub item_in : Option Span → Option Frame → Seen → Reader → Outcome
@@ -243,7 +259,7 @@ block_done at [] n d place s r = block_in place (seen_at at s.depth) r
 block_done at (x ∷ xs) n d place s r = block_in place (seen_at at (deeper (max d s.depth))) (formed (head.Block (x ∷ xs)) (more n) at (max d s.depth) r)
 
 abbrev pub close_brace : Frame → Seen → Reader → Outcome
-close_brace (frame.Items at names n d place) s r = block_done at names n d place s r
+close_brace (frame.Items at d names n place) s r = block_done at names n d place s r
 close_brace _ s r = outcome Refused r
 
 -- the place of a unit that isn't written: the block's, where it is empty
@@ -252,12 +268,12 @@ unit_place [] at end = at
 unit_place (x ∷ xs) at end = end
 
 abbrev pub end_items : Option Frame → ℕ → Reader → Outcome
-end_items (Some (frame.Items at names n d place)) end r =
+end_items (Some (frame.Items at d names n place)) end r =
     block_done at names n d place (seen_at (unit_place names at end) 1) (formed head.Unit 0 (unit_place names at end) 0 r)
 end_items _ end r = outcome Refused r
 
 abbrev pub open_brace : Frame → Seen → ℕ → Reader → Outcome
-open_brace (frame.Condition at) s o r = outcome (Opens phase.InItems) (pushed (frame.Items o [] 0 0 (Then at s.depth)) r)
+open_brace (frame.Condition at) s o r = outcome (Opens phase.InItems) (pushed (frame.Items o 0 [] 0 (Then at s.depth)) r)
 open_brace _ s o r = outcome Refused r
 
 -- a token behind a whole expression
@@ -331,7 +347,7 @@ begins (symbol.Truth b) p r = settled_outcome (complete (head.Truth b) 0 p.start
 begins symbol.Name p r = outcome (Goes (phase.Named p)) r
 begins (symbol.Call w) p r = outcome (Goes (phase.WordRead w p.start)) r
 begins symbol.OpenParen p r = outcome (Opens (phase.Opened p.start)) r
-begins symbol.OpenBrace p r = outcome (Opens phase.InItems) (pushed (frame.Items p.start [] 0 0 Form) r)
+begins symbol.OpenBrace p r = outcome (Opens phase.InItems) (pushed (frame.Items p.start 0 [] 0 Form) r)
 begins symbol.WordIf p r = owed_in (frame.Condition p.start) r
 begins symbol.WordChan p r = outcome (Goes (phase.ChanRead p.start)) r
 begins (symbol.ActOne w) p r = outcome (Goes (phase.OneRead w p.start)) r
@@ -366,7 +382,7 @@ then_read at d k p r =
     else ends_settled k p (settle_if at (max d 1) (formed head.Unit 0 at 0 r))
 
 abbrev pub else_read : ℕ → ℕ → Symbol → Span → Reader → Outcome
-else_read at d symbol.OpenBrace p r = outcome (Opens phase.InItems) (pushed (frame.Items p.start [] 0 0 (Else at d)) r)
+else_read at d symbol.OpenBrace p r = outcome (Opens phase.InItems) (pushed (frame.Items p.start 0 [] 0 (Else at d)) r)
 else_read at d symbol.WordIf p r = outcome (Opens phase.Owes) (pushed (frame.Condition p.start) (pushed (frame.ElseIf at d) r))
 else_read at d _ p r = outcome Refused r
 
@@ -384,7 +400,7 @@ param_typed f ps x t symbol.CloseParen r = outcome (Goes (phase.ParamsClosed f (
 param_typed f ps x t _ r = outcome Refused r
 
 abbrev pub result_typed : Span → List Param → Written → Symbol → ℕ → Reader → Outcome
-result_typed f ps t symbol.OpenBrace p r = outcome (Opens phase.InItems) (pushed (frame.Items p [] 0 0 (Body f ps t)) r)
+result_typed f ps t symbol.OpenBrace p r = outcome (Opens phase.InItems) (pushed (frame.Items p 0 [] 0 (Body f ps t)) r)
 result_typed f ps t _ p r = outcome Refused r
 
 abbrev pub bracket_typed : Written → Symbol → Reader → Outcome
@@ -476,19 +492,25 @@ abbrev pub let_named : Span → Symbol → Reader → Outcome
 let_named x symbol.Equal r = owed_in (frame.Let x) r
 let_named x _ r = outcome Refused r
 
+-- a token in a phase that keeps parameters or a type
+abbrev pub move_typed : Phase → Symbol → Span → Reader → Outcome
+move_typed (phase.ParamOwed x ps) k p r = param_owed x ps k p r
+move_typed (phase.ParamNamed x ps y) k p r = param_named x ps y k r
+move_typed (phase.ParamsClosed x ps) k p r = params_closed x ps k r
+move_typed (phase.HasType t) k p r = typed_top t (top_of r.frames) k p.start (popped r)
+move_typed (phase.ChanTyped at t) k p r = paren (phase.ChanOpen at t) k r
+move_typed (phase.ChanOpen at t) k p r = paren_end (head.NewChan t) at k r
+move_typed _ k p r = outcome Refused r
+
 -- a token in each phase
 abbrev pub move : Phase → Symbol → Span → Reader → Outcome
 move phase.Between k p r = between k r
 move phase.FnRead k p r = fn_read k p r
 move (phase.FnNamed x) k p r = fn_named x k r
 move (phase.ParamsOpen x) k p r = params_open x k p r
-move (phase.ParamOwed x ps) k p r = param_owed x ps k p r
-move (phase.ParamNamed x ps y) k p r = param_named x ps y k r
-move (phase.ParamsClosed x ps) k p r = params_closed x ps k r
 move phase.OwesType k p r = owes_type k r
 move phase.ChanTypeRead k p r = bracket frame.ChanType k r
 move phase.RefTypeRead k p r = bracket frame.RefType k r
-move (phase.HasType t) k p r = typed_top t (top_of r.frames) k p.start (popped r)
 move phase.Owes k p r = begins k p r
 move (phase.Signed m) k p r = signed m k p r
 move (phase.Opened o) k p r = opened o k p r
@@ -501,14 +523,13 @@ move (phase.AloneOpen w at) k p r = paren_end (head.Act w) at k r
 move (phase.OneRead w at) k p r = paren_in (frame.One w at) k r
 move (phase.TwoRead w at) k p r = paren_in (frame.TwoLeft w at) k r
 move (phase.ChanRead at) k p r = bracket (frame.NewChan at) k r
-move (phase.ChanTyped at t) k p r = paren (phase.ChanOpen at t) k r
-move (phase.ChanOpen at t) k p r = paren_end (head.NewChan t) at k r
 move phase.InItems k p r = in_items k p r
 move phase.LetRead k p r = let_read k p r
 move (phase.LetNamed x) k p r = let_named x k r
 move (phase.Has s) k p r = ends k p s r
 move (phase.ThenRead at d) k p r = then_read at d k p r
 move (phase.ElseRead at d) k p r = else_read at d k p r
+move f k p r = move_typed f k p r
 
 -- how much a phase has open beside its frames
 abbrev pub open_at : Phase → ℕ
@@ -526,19 +547,14 @@ open_at _ = 0
 abbrev pub open_total : Phase → Reader → ℕ
 open_total p r = open_at p + open_in r.frames
 
--- a phase, and what is kept in it
-pub record Reached : Type 0 where
-  pub phase : Phase
-  pub reader : Reader
-
-abbrev pub reached : Phase → Reader → Reached
-reached p r = record { phase = p; reader = r }
+abbrev pub reached : Phase → Reader → Parser
+reached p r = record { reader = r; phase = p }
 
 -- what a token leads to
-abbrev pub after_step : Step → Reader → ℕ → Result Reached ParseFault
+abbrev pub after_step : Step → Reader → ℕ → Result Parser ParseFault
 after_step Refused r at = Err (Unexpected at)
 after_step (Goes next) r at = Ok (reached next r)
 after_step (Opens next) r at = if nat_lt max_open (open_total next r) then Err (TooNested at) else Ok (reached next r)
 
-abbrev pub advance : Phase → Token → Reader → Result Reached ParseFault
+abbrev pub advance : Phase → Token → Reader → Result Parser ParseFault
 advance p t r = after_step (move p (symbol_of t.kind) (span_of t) r).step (move p (symbol_of t.kind) (span_of t) r).reader t.start

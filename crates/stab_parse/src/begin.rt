@@ -1,14 +1,13 @@
 //! What a token does where a form may begin, and behind the first token of a form.
-ghost use Rattle.std.specs.Prelude.{◌≡◌, ◌<◌, ◌≤◌, ◌^◌, [], neg_ℤ, pos, IfOk, IfErr};
-ghost use Rattle.stab_parse.specs.Moves.{begins, call_open, complete, else_read, ends, in_items, is_close_brace, is_close_paren, is_else, is_let, is_open_paren, let_named, let_read, named, negative_of, opened, outcome, owed_in, pushed, settled_outcome, signed, signed_by, then_read};
+ghost use Rattle.std.specs.Prelude.{◌≡◌, ◌<◌, ◌≤◌, ◌^◌, [], neg_ℤ, pos, IfOk};
+ghost use Rattle.stab_parse.specs.Moves.{Opens, begins, call_open, complete, did, else_read, in_items, is_close_brace, is_close_paren, is_else, is_let, is_open_paren, let_named, let_read, named, negative_of, opened, outcome, pushed, settled_outcome, signed, then_read};
 ghost use Rattle.stab_parse.specs.Symbols.{IsSmall};
 
-use crate::fault::ParseFault;
 use crate::frame::{BlockPlace, Callee, Frame, Phase, Seen};
-use crate::reader::{Reader, Step};
+use crate::parser::{Admission, Parser};
 use crate::symbol::{Span, Symbol};
 use crate::tree::{Head, Lets};
-use std::alloc::Global;
+use std::alloc::{AllocError, Global};
 
 fn closes_paren(symbol: Symbol) -> bool
     ensures { result ≡ is_close_paren symbol }
@@ -59,78 +58,72 @@ fn negative(symbol: Symbol) -> Option<i64>
     }
 }
 
-impl Reader {
-    /// Pushes a frame.
-    #[inline(never)]
-    pub(crate) fn push(&mut self, frame: Frame) -> Result<(), ParseFault>
-        ensures ok { IfOk result (λ _. self.new ≡ pushed frame self.old) }
-        ensures fault { IfErr result (λ fault. fault ≡ ParseFault.NoMemory) }
-    {
-        self.frames.push(frame)
-    }
-
+impl Parser {
     /// A form that isn't an operation is complete, and may go on.
     #[inline(never)]
-    pub(crate) fn leaf(&mut self, head: Head, at: u32) -> Result<Step, ParseFault>
-        ensures ok { IfOk result (λ step. outcome step self.new
-            ≡ settled_outcome (complete head 0 at 0 self.old)) }
-        ensures fault { IfErr result (λ fault. fault ≡ ParseFault.NoMemory) }
+    pub(crate) fn leaf(&mut self, head: Head, at: u32) -> Result<Admission, AllocError>
+        ensures ok { IfOk result (λ admission. did admission self.new
+            ≡ settled_outcome (complete head 0 at 0 self.old.reader)) }
     {
-        let seen = self.complete(head, 0, at, 0)?;
-        Ok(Step::Goes(Phase::Has(seen)))
+        let seen = self.reader.complete(head, 0, at, 0)?;
+        Ok(self.goes(Phase::Has(seen)))
     }
 
     /// A block opens.
-    pub(crate) fn block(&mut self, at: u32, place: BlockPlace) -> Result<Step, ParseFault>
-        ensures ok { IfOk result (λ step. outcome step self.new
-            ≡ outcome (Step.Opens Phase.InItems) (pushed (Frame.Items at [] 0 0 place) self.old)) }
-        ensures fault { IfErr result (λ fault. fault ≡ ParseFault.NoMemory) }
+    pub(crate) fn block(&mut self, at: u32, place: BlockPlace) -> Result<Admission, AllocError>
+        ensures ok { IfOk result (λ admission. did admission self.new
+            ≡ outcome (Opens Phase.InItems) (pushed (Frame.Items at 0 [] 0 place) self.old.reader)) }
     {
-        self.push(Frame::Items(at, Lets::new(), 0, 0, place))?;
-        Ok(Step::Opens(Phase::InItems))
+        self.reader
+            .frames
+            .push(Frame::Items(at, 0, Lets::new(), 0, place))?;
+        Ok(self.opens(Phase::InItems))
     }
 
     /// A token where a form is owed.
     #[inline(never)]
-    pub(crate) fn begins(&mut self, symbol: Symbol, span: Span) -> Result<Step, ParseFault>
+    pub(crate) fn begins(&mut self, symbol: Symbol, span: Span) -> Result<Admission, AllocError>
         requires { IsSmall symbol }
-        ensures ok { IfOk result (λ step. outcome step self.new ≡ begins symbol span self.old) }
-        ensures fault { IfErr result (λ fault. fault ≡ ParseFault.NoMemory) }
+        ensures ok { IfOk result (λ admission. did admission self.new ≡ begins symbol span self.old.reader) }
     {
         let at = span.start;
         match symbol {
             Symbol::Number(value) => self.leaf(Head::Int(value as i64), at),
-            Symbol::Minus => Ok(Step::Opens(Phase::Signed(at))),
+            Symbol::Minus => Ok(self.opens(Phase::Signed(at))),
             Symbol::Not => {
-                self.push(Frame::Not(at))?;
-                Ok(Step::Opens(Phase::Owes))
+                self.reader.frames.push(Frame::Not(at))?;
+                Ok(self.opens(Phase::Owes))
             }
             Symbol::Text => self.leaf(Head::Text(span), at),
             Symbol::Truth(truth) => self.leaf(Head::Truth(truth), at),
-            Symbol::Name => Ok(Step::Goes(Phase::Named(span))),
-            Symbol::Call(word) => Ok(Step::Goes(Phase::WordRead(word, at))),
-            Symbol::OpenParen => Ok(Step::Opens(Phase::Opened(at))),
+            Symbol::Name => Ok(self.goes(Phase::Named(span))),
+            Symbol::Call(word) => Ok(self.goes(Phase::WordRead(word, at))),
+            Symbol::OpenParen => Ok(self.opens(Phase::Opened(at))),
             Symbol::OpenBrace => self.block(at, BlockPlace::Form),
             Symbol::WordIf => self.owed_in(Frame::Condition(at)),
-            Symbol::WordChan => Ok(Step::Goes(Phase::ChanRead(at))),
-            Symbol::ActOne(word) => Ok(Step::Goes(Phase::OneRead(word, at))),
-            Symbol::ActTwo(word) => Ok(Step::Goes(Phase::TwoRead(word, at))),
-            Symbol::ActAlone(word) => Ok(Step::Goes(Phase::AloneRead(word, at))),
-            _ => Ok(Step::Refused),
+            Symbol::WordChan => Ok(self.goes(Phase::ChanRead(at))),
+            Symbol::ActOne(word) => Ok(self.goes(Phase::OneRead(word, at))),
+            Symbol::ActTwo(word) => Ok(self.goes(Phase::TwoRead(word, at))),
+            Symbol::ActAlone(word) => Ok(self.goes(Phase::AloneRead(word, at))),
+            _ => Ok(Admission::Refused),
         }
     }
 
     /// A token behind a minus.
     #[inline(never)]
-    pub(crate) fn signed(&mut self, at: u32, symbol: Symbol, span: Span) -> Result<Step, ParseFault>
+    pub(crate) fn signed(
+        &mut self,
+        at: u32,
+        symbol: Symbol,
+        span: Span,
+    ) -> Result<Admission, AllocError>
         requires { IsSmall symbol }
-        ensures ok { IfOk result (λ step. outcome step self.new ≡ signed at symbol span self.old) }
-        ensures fault { IfErr result (λ fault. fault ≡ ParseFault.NoMemory) }
+        ensures ok { IfOk result (λ admission. did admission self.new ≡ signed at symbol span self.old.reader) }
     {
         match negative(symbol) {
             Some(value) => self.leaf(Head::Int(value), at),
             None => {
-                self.push(Frame::Negate(at))?;
+                self.reader.frames.push(Frame::Negate(at))?;
                 self.begins(symbol, span)
             }
         }
@@ -138,15 +131,19 @@ impl Reader {
 
     /// A token behind a bracket that begins a form.
     #[inline(never)]
-    pub(crate) fn opened(&mut self, at: u32, symbol: Symbol, span: Span) -> Result<Step, ParseFault>
+    pub(crate) fn opened(
+        &mut self,
+        at: u32,
+        symbol: Symbol,
+        span: Span,
+    ) -> Result<Admission, AllocError>
         requires { IsSmall symbol }
-        ensures ok { IfOk result (λ step. outcome step self.new ≡ opened at symbol span self.old) }
-        ensures fault { IfErr result (λ fault. fault ≡ ParseFault.NoMemory) }
+        ensures ok { IfOk result (λ admission. did admission self.new ≡ opened at symbol span self.old.reader) }
     {
         if closes_paren(symbol) {
             return self.leaf(Head::Unit, at);
         }
-        self.push(Frame::Group(at))?;
+        self.reader.frames.push(Frame::Group(at))?;
         self.begins(symbol, span)
     }
 
@@ -157,28 +154,26 @@ impl Reader {
         callee: Callee,
         symbol: Symbol,
         span: Span,
-    ) -> Result<Step, ParseFault>
+    ) -> Result<Admission, AllocError>
         requires { IsSmall symbol }
-        ensures ok { IfOk result (λ step. outcome step self.new ≡ call_open callee symbol span self.old) }
-        ensures fault { IfErr result (λ fault. fault ≡ ParseFault.NoMemory) }
+        ensures ok { IfOk result (λ admission. did admission self.new ≡ call_open callee symbol span self.old.reader) }
     {
         if closes_paren(symbol) {
-            let seen = self.call(callee, 0, 0)?;
-            return Ok(Step::Goes(Phase::Has(seen)));
+            let seen = self.reader.call(callee, 0, 0)?;
+            return Ok(self.goes(Phase::Has(seen)));
         }
-        self.push(Frame::Args(callee, 0, 0))?;
+        self.reader.frames.push(Frame::Args(callee, 0, 0))?;
         self.begins(symbol, span)
     }
 
     /// A token where an item may begin.
     #[inline(never)]
-    pub(crate) fn in_items(&mut self, symbol: Symbol, span: Span) -> Result<Step, ParseFault>
+    pub(crate) fn in_items(&mut self, symbol: Symbol, span: Span) -> Result<Admission, AllocError>
         requires { IsSmall symbol }
-        ensures ok { IfOk result (λ step. outcome step self.new ≡ in_items symbol span self.old) }
-        ensures fault { IfErr result (λ fault. fault ≡ ParseFault.NoMemory) }
+        ensures ok { IfOk result (λ admission. did admission self.new ≡ in_items symbol span self.old.reader) }
     {
         if begins_let(symbol) {
-            return Ok(Step::Goes(Phase::LetRead));
+            return Ok(self.goes(Phase::LetRead));
         }
         if closes_brace(symbol) {
             return self.end_items(span.start);
@@ -194,14 +189,15 @@ impl Reader {
         name: Span,
         symbol: Symbol,
         span: Span,
-    ) -> Result<Step, ParseFault>
-        ensures ok { IfOk result (λ step. outcome step self.new ≡ named name symbol span self.old) }
-        ensures fault { IfErr result (λ fault. fault ≡ ParseFault.NoMemory) }
+    ) -> Result<Admission, AllocError>
+        ensures ok { IfOk result (λ admission. did admission self.new ≡ named name symbol span self.old.reader) }
     {
         if opens_paren(symbol) {
-            return Ok(Step::Opens(Phase::CallOpen(Callee::Called(name))));
+            return Ok(self.opens(Phase::CallOpen(Callee::Called(name))));
         }
-        let seen = self.complete(Head::Variable(name), 0, name.start, 0)?;
+        let seen = self
+            .reader
+            .complete(Head::Variable(name), 0, name.start, 0)?;
         self.ends(alloc, symbol, span, seen)
     }
 
@@ -214,15 +210,14 @@ impl Reader {
         depth: u8,
         symbol: Symbol,
         span: Span,
-    ) -> Result<Step, ParseFault>
-        ensures ok { IfOk result (λ step. outcome step self.new ≡ then_read at depth symbol span self.old) }
-        ensures fault { IfErr result (λ fault. fault ≡ ParseFault.NoMemory) }
+    ) -> Result<Admission, AllocError>
+        ensures ok { IfOk result (λ admission. did admission self.new ≡ then_read at depth symbol span self.old.reader) }
     {
         if begins_else(symbol) {
-            return Ok(Step::Goes(Phase::ElseRead(at, depth)));
+            return Ok(self.goes(Phase::ElseRead(at, depth)));
         }
-        self.form(Head::Unit, 0, at, 0)?;
-        let seen = self.settle_if(at, depth.max(1))?;
+        self.reader.form(Head::Unit, 0, at, 0)?;
+        let seen = self.reader.settle_if(at, depth.max(1))?;
         self.ends(alloc, symbol, span, seen)
     }
 
@@ -234,40 +229,37 @@ impl Reader {
         depth: u8,
         symbol: Symbol,
         span: Span,
-    ) -> Result<Step, ParseFault>
-        ensures ok { IfOk result (λ step. outcome step self.new ≡ else_read at depth symbol span self.old) }
-        ensures fault { IfErr result (λ fault. fault ≡ ParseFault.NoMemory) }
+    ) -> Result<Admission, AllocError>
+        ensures ok { IfOk result (λ admission. did admission self.new ≡ else_read at depth symbol span self.old.reader) }
     {
         match symbol {
             Symbol::OpenBrace => self.block(span.start, BlockPlace::Else(at, depth)),
             Symbol::WordIf => {
-                self.push(Frame::ElseIf(at, depth))?;
-                self.push(Frame::Condition(span.start))?;
-                Ok(Step::Opens(Phase::Owes))
+                self.reader.frames.push(Frame::ElseIf(at, depth))?;
+                self.reader.frames.push(Frame::Condition(span.start))?;
+                Ok(self.opens(Phase::Owes))
             }
-            _ => Ok(Step::Refused),
+            _ => Ok(Admission::Refused),
         }
     }
 
     #[inline(never)]
-    pub(crate) fn let_read(&mut self, symbol: Symbol, span: Span) -> Result<Step, ParseFault>
-        ensures ok { IfOk result (λ step. outcome step self.new ≡ let_read symbol span self.old) }
-        ensures fault { IfErr result (λ fault. fault ≡ ParseFault.NoMemory) }
+    pub(crate) fn let_read(&mut self, symbol: Symbol, span: Span) -> Result<Admission, AllocError>
+        ensures ok { IfOk result (λ admission. did admission self.new ≡ let_read symbol span self.old.reader) }
     {
         match symbol {
-            Symbol::Name => Ok(Step::Goes(Phase::LetNamed(span))),
-            _ => Ok(Step::Refused),
+            Symbol::Name => Ok(self.goes(Phase::LetNamed(span))),
+            _ => Ok(Admission::Refused),
         }
     }
 
     #[inline(never)]
-    pub(crate) fn let_named(&mut self, name: Span, symbol: Symbol) -> Result<Step, ParseFault>
-        ensures ok { IfOk result (λ step. outcome step self.new ≡ let_named name symbol self.old) }
-        ensures fault { IfErr result (λ fault. fault ≡ ParseFault.NoMemory) }
+    pub(crate) fn let_named(&mut self, name: Span, symbol: Symbol) -> Result<Admission, AllocError>
+        ensures ok { IfOk result (λ admission. did admission self.new ≡ let_named name symbol self.old.reader) }
     {
         match symbol {
             Symbol::Equal => self.owed_in(Frame::Let(name)),
-            _ => Ok(Step::Refused),
+            _ => Ok(Admission::Refused),
         }
     }
 }

@@ -1,13 +1,12 @@
 //! What is owed while a program is read: a frame for each thing that stands round the place.
-ghost use Rattle.std.specs.Prelude.{◌≡◌, ◌++◌, ◌∷◌, [], OnOk, IfErr};
+ghost use Rattle.std.specs.Prelude.{◌≡◌, ◌++◌, ◌∷◌, [], OnOk};
 ghost use Rattle.std.specs.Option.{option_copied};
 ghost use Rattle.stab_parse.specs.Frames.{open_by, open_in, top_of, below_top};
 
-use crate::fault::ParseFault;
 use crate::symbol::{ActWord, CallWord, Span};
 use crate::tree::{Lets, Params, ParsedType};
 use stab_code::Op;
-use std::alloc::Global;
+use std::alloc::{AllocError, Global};
 use std::marker::Model;
 
 /// A form that was read: the first byte of what is written for it, with the brackets round it, and its depth.
@@ -83,7 +82,7 @@ pub enum Frame {
     /// The form of a let, by its name, over the frame of its block.
     Let(Span),
     /// The items of a block: their names, and how many there were.
-    Items(u32, Lets, usize, u8, BlockPlace),
+    Items(u32, u8, Lets, usize, BlockPlace),
     Condition(u32),
     ElseIf(u32, u8),
     /// An operator with what stands left of it.
@@ -170,9 +169,8 @@ impl Stack {
     }
 
     #[inline(always)]
-    pub(crate) fn push(&mut self, frame: Frame) -> Result<(), ParseFault>
+    pub(crate) fn push(&mut self, frame: Frame) -> Result<(), AllocError>
         ensures ok { OnOk result (self.new ≡ frame ∷ self.old) }
-        ensures fault { IfErr result (λ fault. fault ≡ ParseFault.NoMemory) }
     {
         let more = opens(&frame);
         self.frames.reserve(1)?;

@@ -1,20 +1,18 @@
 //! What a token does in the words of a function before its body, and in a written type.
-ghost use Rattle.std.specs.Prelude.{◌≡◌, IfOk, IfErr};
+ghost use Rattle.std.specs.Prelude.{◌≡◌, IfOk};
 ghost use Rattle.stab_parse.specs.Forms.{basic_of};
 ghost use Rattle.stab_parse.specs.Frames.{top_of};
-ghost use Rattle.stab_parse.specs.Moves.{between, fn_named, fn_read, outcome, owes_type, param_named, param_owed, params_closed, params_open, popped, param_typed, result_typed, bracket_typed, left_typed, right_typed, chan_typed, typed, typed_top};
+ghost use Rattle.stab_parse.specs.Moves.{between, did, fn_named, fn_read, owes_type, param_named, param_owed, params_closed, params_open, popped, param_typed, result_typed, bracket_typed, left_typed, right_typed, chan_typed, typed, typed_top};
 
-use crate::fault::ParseFault;
 use crate::frame::{BlockPlace, Frame, Phase};
-use crate::reader::{Reader, Step};
+use crate::parser::{Admission, Parser};
 use crate::symbol::{ActWord, BasicType, Span, Symbol};
 use crate::tree::{Param, Params, ParsedType};
 use stab_code::TyForm;
-use std::alloc::Global;
+use std::alloc::{AllocError, Global};
 
-fn basic(alloc: Global, word: BasicType) -> Result<ParsedType, ParseFault>
+fn basic(alloc: Global, word: BasicType) -> Result<ParsedType, AllocError>
     ensures ok { IfOk result (λ ty. ty ≡ basic_of word) }
-    ensures fault { IfErr result (λ fault. fault ≡ ParseFault.NoMemory) }
 {
     match word {
         BasicType::Unit => ParsedType::new(alloc, TyForm::Unit),
@@ -24,37 +22,34 @@ fn basic(alloc: Global, word: BasicType) -> Result<ParsedType, ParseFault>
     }
 }
 
-impl Reader {
+impl Parser {
     #[inline(never)]
-    pub(crate) fn between(&mut self, symbol: Symbol) -> Result<Step, ParseFault>
-        ensures ok { IfOk result (λ step. outcome step self.new ≡ between symbol self.old) }
-        ensures fault { IfErr result (λ fault. fault ≡ ParseFault.NoMemory) }
+    pub(crate) fn between(&mut self, symbol: Symbol) -> Result<Admission, AllocError>
+        ensures ok { IfOk result (λ admission. did admission self.new ≡ between symbol self.old.reader) }
     {
         match symbol {
-            Symbol::WordFn => Ok(Step::Goes(Phase::FnRead)),
-            _ => Ok(Step::Refused),
+            Symbol::WordFn => Ok(self.goes(Phase::FnRead)),
+            _ => Ok(Admission::Refused),
         }
     }
 
     #[inline(never)]
-    pub(crate) fn fn_read(&mut self, symbol: Symbol, span: Span) -> Result<Step, ParseFault>
-        ensures ok { IfOk result (λ step. outcome step self.new ≡ fn_read symbol span self.old) }
-        ensures fault { IfErr result (λ fault. fault ≡ ParseFault.NoMemory) }
+    pub(crate) fn fn_read(&mut self, symbol: Symbol, span: Span) -> Result<Admission, AllocError>
+        ensures ok { IfOk result (λ admission. did admission self.new ≡ fn_read symbol span self.old.reader) }
     {
         match symbol {
-            Symbol::Name => Ok(Step::Goes(Phase::FnNamed(span))),
-            _ => Ok(Step::Refused),
+            Symbol::Name => Ok(self.goes(Phase::FnNamed(span))),
+            _ => Ok(Admission::Refused),
         }
     }
 
     #[inline(never)]
-    pub(crate) fn fn_named(&mut self, name: Span, symbol: Symbol) -> Result<Step, ParseFault>
-        ensures ok { IfOk result (λ step. outcome step self.new ≡ fn_named name symbol self.old) }
-        ensures fault { IfErr result (λ fault. fault ≡ ParseFault.NoMemory) }
+    pub(crate) fn fn_named(&mut self, name: Span, symbol: Symbol) -> Result<Admission, AllocError>
+        ensures ok { IfOk result (λ admission. did admission self.new ≡ fn_named name symbol self.old.reader) }
     {
         match symbol {
-            Symbol::OpenParen => Ok(Step::Opens(Phase::ParamsOpen(name))),
-            _ => Ok(Step::Refused),
+            Symbol::OpenParen => Ok(self.opens(Phase::ParamsOpen(name))),
+            _ => Ok(Admission::Refused),
         }
     }
 
@@ -65,20 +60,19 @@ impl Reader {
         function: Span,
         symbol: Symbol,
         span: Span,
-    ) -> Result<Step, ParseFault>
-        ensures ok { IfOk result (λ step. outcome step self.new ≡ params_open function symbol span self.old) }
-        ensures fault { IfErr result (λ fault. fault ≡ ParseFault.NoMemory) }
+    ) -> Result<Admission, AllocError>
+        ensures ok { IfOk result (λ admission. did admission self.new ≡ params_open function symbol span self.old.reader) }
     {
         match symbol {
             Symbol::CloseParen => {
                 let params = Params::new(alloc)?;
-                Ok(Step::Goes(Phase::ParamsClosed(function, params)))
+                Ok(self.goes(Phase::ParamsClosed(function, params)))
             }
             Symbol::Name => {
                 let params = Params::new(alloc)?;
-                Ok(Step::Goes(Phase::ParamNamed(function, params, span)))
+                Ok(self.goes(Phase::ParamNamed(function, params, span)))
             }
-            _ => Ok(Step::Refused),
+            _ => Ok(Admission::Refused),
         }
     }
 
@@ -89,13 +83,12 @@ impl Reader {
         before: Params,
         symbol: Symbol,
         span: Span,
-    ) -> Result<Step, ParseFault>
-        ensures ok { IfOk result (λ step. outcome step self.new ≡ param_owed function before symbol span self.old) }
-        ensures fault { IfErr result (λ fault. fault ≡ ParseFault.NoMemory) }
+    ) -> Result<Admission, AllocError>
+        ensures ok { IfOk result (λ admission. did admission self.new ≡ param_owed function before symbol span self.old.reader) }
     {
         match symbol {
-            Symbol::Name => Ok(Step::Goes(Phase::ParamNamed(function, before, span))),
-            _ => Ok(Step::Refused),
+            Symbol::Name => Ok(self.goes(Phase::ParamNamed(function, before, span))),
+            _ => Ok(Admission::Refused),
         }
     }
 
@@ -106,16 +99,17 @@ impl Reader {
         before: Params,
         name: Span,
         symbol: Symbol,
-    ) -> Result<Step, ParseFault>
-        ensures ok { IfOk result (λ step. outcome step self.new ≡ param_named function before name symbol self.old) }
-        ensures fault { IfErr result (λ fault. fault ≡ ParseFault.NoMemory) }
+    ) -> Result<Admission, AllocError>
+        ensures ok { IfOk result (λ admission. did admission self.new ≡ param_named function before name symbol self.old.reader) }
     {
         match symbol {
             Symbol::Colon => {
-                self.push(Frame::ParamType(function, before, name))?;
-                Ok(Step::Goes(Phase::OwesType))
+                self.reader
+                    .frames
+                    .push(Frame::ParamType(function, before, name))?;
+                Ok(self.goes(Phase::OwesType))
             }
-            _ => Ok(Step::Refused),
+            _ => Ok(Admission::Refused),
         }
     }
 
@@ -125,34 +119,38 @@ impl Reader {
         function: Span,
         params: Params,
         symbol: Symbol,
-    ) -> Result<Step, ParseFault>
-        ensures ok { IfOk result (λ step. outcome step self.new ≡ params_closed function params symbol self.old) }
-        ensures fault { IfErr result (λ fault. fault ≡ ParseFault.NoMemory) }
+    ) -> Result<Admission, AllocError>
+        ensures ok { IfOk result (λ admission. did admission self.new ≡ params_closed function params symbol self.old.reader) }
     {
         match symbol {
             Symbol::Colon => {
-                self.push(Frame::ResultType(function, params))?;
-                Ok(Step::Goes(Phase::OwesType))
+                self.reader
+                    .frames
+                    .push(Frame::ResultType(function, params))?;
+                Ok(self.goes(Phase::OwesType))
             }
-            _ => Ok(Step::Refused),
+            _ => Ok(Admission::Refused),
         }
     }
 
     /// A token where a type is owed.
     #[inline(never)]
-    pub(crate) fn owes_type(&mut self, alloc: Global, symbol: Symbol) -> Result<Step, ParseFault>
-        ensures ok { IfOk result (λ step. outcome step self.new ≡ owes_type symbol self.old) }
-        ensures fault { IfErr result (λ fault. fault ≡ ParseFault.NoMemory) }
+    pub(crate) fn owes_type(
+        &mut self,
+        alloc: Global,
+        symbol: Symbol,
+    ) -> Result<Admission, AllocError>
+        ensures ok { IfOk result (λ admission. did admission self.new ≡ owes_type symbol self.old.reader) }
     {
         match symbol {
-            Symbol::Basic(word) => Ok(Step::Goes(Phase::HasType(basic(alloc, word)?))),
-            Symbol::WordChan => Ok(Step::Goes(Phase::ChanTypeRead)),
-            Symbol::ActOne(ActWord::Ref) => Ok(Step::Goes(Phase::RefTypeRead)),
+            Symbol::Basic(word) => Ok(self.goes(Phase::HasType(basic(alloc, word)?))),
+            Symbol::WordChan => Ok(self.goes(Phase::ChanTypeRead)),
+            Symbol::ActOne(ActWord::Ref) => Ok(self.goes(Phase::RefTypeRead)),
             Symbol::OpenParen => {
-                self.push(Frame::PairLeft)?;
-                Ok(Step::Opens(Phase::OwesType))
+                self.reader.frames.push(Frame::PairLeft)?;
+                Ok(self.opens(Phase::OwesType))
             }
-            _ => Ok(Step::Refused),
+            _ => Ok(Admission::Refused),
         }
     }
 
@@ -163,21 +161,20 @@ impl Reader {
         name: Span,
         ty: ParsedType,
         symbol: Symbol,
-    ) -> Result<Step, ParseFault>
-        ensures ok { IfOk result (λ step. outcome step self.new
-            ≡ param_typed function before name ty symbol self.old) }
-        ensures fault { IfErr result (λ fault. fault ≡ ParseFault.NoMemory) }
+    ) -> Result<Admission, AllocError>
+        ensures ok { IfOk result (λ admission. did admission self.new
+            ≡ param_typed function before name ty symbol self.old.reader) }
     {
         match symbol {
             Symbol::Comma => {
                 before.push(Param { name, ty })?;
-                Ok(Step::Goes(Phase::ParamOwed(function, before)))
+                Ok(self.goes(Phase::ParamOwed(function, before)))
             }
             Symbol::CloseParen => {
                 before.push(Param { name, ty })?;
-                Ok(Step::Goes(Phase::ParamsClosed(function, before)))
+                Ok(self.goes(Phase::ParamsClosed(function, before)))
             }
-            _ => Ok(Step::Refused),
+            _ => Ok(Admission::Refused),
         }
     }
 
@@ -188,60 +185,60 @@ impl Reader {
         ty: ParsedType,
         symbol: Symbol,
         at: u32,
-    ) -> Result<Step, ParseFault>
-        ensures ok { IfOk result (λ step. outcome step self.new
-            ≡ result_typed function params ty symbol at self.old) }
-        ensures fault { IfErr result (λ fault. fault ≡ ParseFault.NoMemory) }
+    ) -> Result<Admission, AllocError>
+        ensures ok { IfOk result (λ admission. did admission self.new
+            ≡ result_typed function params ty symbol at self.old.reader) }
     {
         match symbol {
             Symbol::OpenBrace => {
                 let place = BlockPlace::Body(function, params, ty);
                 self.block(at, place)
             }
-            _ => Ok(Step::Refused),
+            _ => Ok(Admission::Refused),
         }
     }
 
-    fn bracket_typed(&mut self, outer: ParsedType, symbol: Symbol) -> Result<Step, ParseFault>
-        ensures ok { IfOk result (λ step. outcome step self.new ≡ bracket_typed outer symbol self.old) }
-        ensures fault { IfErr result (λ fault. fault ≡ ParseFault.NoMemory) }
+    fn bracket_typed(&mut self, outer: ParsedType, symbol: Symbol) -> Result<Admission, AllocError>
+        ensures ok { IfOk result (λ admission. did admission self.new ≡ bracket_typed outer symbol self.old.reader) }
     {
         match symbol {
-            Symbol::CloseBracket => Ok(Step::Goes(Phase::HasType(outer))),
-            _ => Ok(Step::Refused),
+            Symbol::CloseBracket => Ok(self.goes(Phase::HasType(outer))),
+            _ => Ok(Admission::Refused),
         }
     }
 
-    fn left_typed(&mut self, left: ParsedType, symbol: Symbol) -> Result<Step, ParseFault>
-        ensures ok { IfOk result (λ step. outcome step self.new ≡ left_typed left symbol self.old) }
-        ensures fault { IfErr result (λ fault. fault ≡ ParseFault.NoMemory) }
+    fn left_typed(&mut self, left: ParsedType, symbol: Symbol) -> Result<Admission, AllocError>
+        ensures ok { IfOk result (λ admission. did admission self.new ≡ left_typed left symbol self.old.reader) }
     {
         match symbol {
             Symbol::Comma => {
-                self.push(Frame::PairRight(left))?;
-                Ok(Step::Goes(Phase::OwesType))
+                self.reader.frames.push(Frame::PairRight(left))?;
+                Ok(self.goes(Phase::OwesType))
             }
-            _ => Ok(Step::Refused),
+            _ => Ok(Admission::Refused),
         }
     }
 
-    fn right_typed(&mut self, outer: ParsedType, symbol: Symbol) -> Result<Step, ParseFault>
-        ensures ok { IfOk result (λ step. outcome step self.new ≡ right_typed outer symbol self.old) }
-        ensures fault { IfErr result (λ fault. fault ≡ ParseFault.NoMemory) }
+    fn right_typed(&mut self, outer: ParsedType, symbol: Symbol) -> Result<Admission, AllocError>
+        ensures ok { IfOk result (λ admission. did admission self.new ≡ right_typed outer symbol self.old.reader) }
     {
         match symbol {
-            Symbol::CloseParen => Ok(Step::Goes(Phase::HasType(outer))),
-            _ => Ok(Step::Refused),
+            Symbol::CloseParen => Ok(self.goes(Phase::HasType(outer))),
+            _ => Ok(Admission::Refused),
         }
     }
 
-    fn chan_typed(&mut self, at: u32, ty: ParsedType, symbol: Symbol) -> Result<Step, ParseFault>
-        ensures ok { IfOk result (λ step. outcome step self.new ≡ chan_typed at ty symbol self.old) }
-        ensures fault { IfErr result (λ fault. fault ≡ ParseFault.NoMemory) }
+    fn chan_typed(
+        &mut self,
+        at: u32,
+        ty: ParsedType,
+        symbol: Symbol,
+    ) -> Result<Admission, AllocError>
+        ensures ok { IfOk result (λ admission. did admission self.new ≡ chan_typed at ty symbol self.old.reader) }
     {
         match symbol {
-            Symbol::CloseBracket => Ok(Step::Goes(Phase::ChanTyped(at, ty))),
-            _ => Ok(Step::Refused),
+            Symbol::CloseBracket => Ok(self.goes(Phase::ChanTyped(at, ty))),
+            _ => Ok(Admission::Refused),
         }
     }
 
@@ -252,9 +249,8 @@ impl Reader {
         top: Frame,
         symbol: Symbol,
         at: u32,
-    ) -> Result<Step, ParseFault>
-        ensures ok { IfOk result (λ step. outcome step self.new ≡ typed ty top symbol at self.old) }
-        ensures fault { IfErr result (λ fault. fault ≡ ParseFault.NoMemory) }
+    ) -> Result<Admission, AllocError>
+        ensures ok { IfOk result (λ admission. did admission self.new ≡ typed ty top symbol at self.old.reader) }
     {
         match top {
             Frame::ParamType(function, before, name) => {
@@ -268,7 +264,7 @@ impl Reader {
             Frame::PairLeft => self.left_typed(ty, symbol),
             Frame::PairRight(left) => self.right_typed(left.pair(alloc, ty)?, symbol),
             Frame::NewChan(first) => self.chan_typed(first, ty, symbol),
-            _ => Ok(Step::Refused),
+            _ => Ok(Admission::Refused),
         }
     }
 
@@ -280,14 +276,13 @@ impl Reader {
         ty: ParsedType,
         symbol: Symbol,
         at: u32,
-    ) -> Result<Step, ParseFault>
-        ensures ok { IfOk result (λ step. outcome step self.new
-            ≡ typed_top ty (top_of self.old.frames) symbol at (popped self.old)) }
-        ensures fault { IfErr result (λ fault. fault ≡ ParseFault.NoMemory) }
+    ) -> Result<Admission, AllocError>
+        ensures ok { IfOk result (λ admission. did admission self.new
+            ≡ typed_top ty (top_of self.old.reader.frames) symbol at (popped self.old.reader)) }
     {
-        match self.frames.pop() {
+        match self.reader.frames.pop() {
             Some(top) => self.typed(alloc, ty, top, symbol, at),
-            None => Ok(Step::Refused),
+            None => Ok(Admission::Refused),
         }
     }
 }

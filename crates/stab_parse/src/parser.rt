@@ -3,6 +3,7 @@ ghost use Rattle.std.specs.Prelude.{◌≡◌, ◌⊎◌, IfOk, IfErr, Some};
 ghost use Rattle.stab_parse.specs.Faults.{HasFault, IsParsed};
 ghost use Rattle.stab_parse.specs.FormList.{IsTreeOf, deep_among, least_of, least_with};
 ghost use Rattle.stab_parse.specs.Grammar.{Program};
+ghost use Rattle.stab_parse.specs.Moves.{Goes, Opens, did, outcome};
 
 use crate::fault::ParseFault;
 use crate::frame::{Phase, Stack};
@@ -14,6 +15,42 @@ use std::alloc::Global;
 /// The depth of a form that is just too deep.
 const TOO_DEEP: u8 = 201;
 
+/// Whether a token may stand where it stands.
+#[derive(Clone, Copy)]
+pub enum Admission {
+    Refused,
+    Goes,
+    /// The token opens something.
+    Opens,
+}
+
+/// What was read so far, and what was read last.
+#[derive(Drop)]
+pub struct Parser {
+    pub reader: Reader,
+    pub phase: Phase,
+}
+
+impl Parser {
+    /// The token may stand here, and what was read last is then this.
+    #[inline(always)]
+    pub(crate) fn goes(&mut self, next: Phase) -> Admission
+        ensures { did result self.new ≡ outcome (Goes next) self.old.reader }
+    {
+        self.phase = next;
+        Admission::Goes
+    }
+
+    /// The token opens something, and what was read last is then this.
+    #[inline(always)]
+    pub(crate) fn opens(&mut self, next: Phase) -> Admission
+        ensures { did result self.new ≡ outcome (Opens next) self.old.reader }
+    {
+        self.phase = next;
+        Admission::Opens
+    }
+}
+
 /// The syntax of a program from its tokens. The bytes are those that the tokens were read from: names and texts stay
 /// places in them.
 pub fn parse(alloc: Global, tokens: &[Token], _bytes: &[u8]) -> Result<Tree, ParseFault>
@@ -21,15 +58,18 @@ pub fn parse(alloc: Global, tokens: &[Token], _bytes: &[u8]) -> Result<Tree, Par
     ensures fault { IfErr result (λ fault. (fault ≡ ParseFault.NoMemory) ⊎ HasFault tokens.now fault) }
 {
     let forms = Forms::with_capacity(alloc, tokens.len())?;
-    let mut reader = Reader {
-        frames: Stack::new(alloc),
-        forms,
-        functions: Functions::new(alloc),
+    let mut parser = Parser {
+        reader: Reader {
+            frames: Stack::new(alloc),
+            forms,
+            functions: Functions::new(alloc),
+        },
+        phase: Phase::Between,
     };
-    let mut phase = Phase::Between;
     for token in tokens {
-        phase = reader.advance(alloc, phase, token)?;
+        parser.advance(alloc, token)?;
     }
+    let Parser { reader, phase } = parser;
     let Phase::Between = phase else {
         return Err(ParseFault::EarlyEnd);
     };

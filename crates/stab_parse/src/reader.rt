@@ -1,23 +1,14 @@
-//! What a parser keeps beside the phase that it is in, and how forms that were read go into it.
-ghost use Rattle.std.specs.Prelude.{◌≡◌, IfOk, IfErr};
+//! What stands round the place that was read last, and how forms that were read go into it.
+ghost use Rattle.std.specs.Prelude.{◌≡◌, IfOk};
 ghost use Rattle.stab_parse.specs.Frames.{top_of};
 ghost use Rattle.std.specs.Option.{option_copied};
 ghost use Rattle.stab_parse.specs.Takes.{is_operator, left_of, taken, taker_of, takes_if, takes_right};
 ghost use Rattle.stab_parse.specs.Moves.{alone, both, complete, deeper, else_frame, else_top, formed, if_step, join_top, joined, more, popped, seen_at, settle, settle_if, settle_step, settle_top, settled};
 
-use crate::fault::ParseFault;
 use crate::frame::{Frame, Left, Level, Phase, Seen, Stack, Taker};
 use crate::tree::{FormNode, Forms, Functions, Head};
 use stab_code::Op;
-
-/// Whether a token may stand where it stands.
-#[derive(Drop)]
-pub enum Step {
-    Refused,
-    Goes(Phase),
-    /// The token opens something.
-    Opens(Phase),
-}
+use std::alloc::AllocError;
 
 /// What stands round the place, and the forms and functions that were read.
 #[derive(Drop)]
@@ -133,10 +124,9 @@ impl Reader {
         parts: usize,
         at: u32,
         depth: u8,
-    ) -> Result<Seen, ParseFault>
+    ) -> Result<Seen, AllocError>
         ensures ok { IfOk result (λ seen. settled seen self.new
             ≡ settled (seen_at at (deeper depth)) (formed head parts at depth self.old)) }
-        ensures fault { IfErr result (λ fault. fault ≡ ParseFault.NoMemory) }
     {
         let depth = above(depth);
         self.forms.push(FormNode {
@@ -150,9 +140,8 @@ impl Reader {
 
     /// An operator has both sides.
     #[inline(always)]
-    pub(crate) fn two(&mut self, op: Op, left: Seen, right: Seen) -> Result<Seen, ParseFault>
+    pub(crate) fn two(&mut self, op: Op, left: Seen, right: Seen) -> Result<Seen, AllocError>
         ensures ok { IfOk result (λ seen. settled seen self.new ≡ joined op left right self.old) }
-        ensures fault { IfErr result (λ fault. fault ≡ ParseFault.NoMemory) }
     {
         self.form(
             Head::Two(op),
@@ -164,9 +153,8 @@ impl Reader {
 
     /// An operand is complete, and what it goes into was popped.
     #[inline(never)]
-    fn take(&mut self, taker: Taker, seen: Seen) -> Result<Seen, ParseFault>
+    fn take(&mut self, taker: Taker, seen: Seen) -> Result<Seen, AllocError>
         ensures ok { IfOk result (λ whole. settled whole self.new ≡ taken taker seen self.old) }
-        ensures fault { IfErr result (λ fault. fault ≡ ParseFault.NoMemory) }
     {
         match taker {
             Taker::Not(at) => self.form(Head::Not, 1, at, only(seen.depth)),
@@ -177,10 +165,9 @@ impl Reader {
 
     #[inline(always)]
     #[tactic(auto, using(crate::proofs::Settling::takes, crate::proofs::Settling::takes_none))]
-    fn settle_top(&mut self, seen: Seen) -> Result<Option<Seen>, ParseFault>
+    fn settle_top(&mut self, seen: Seen) -> Result<Option<Seen>, AllocError>
         ensures ok { IfOk result (λ next. settle_step next self.new
             ≡ settle_top (top_of self.old.frames) seen (popped self.old)) }
-        ensures fault { IfErr result (λ fault. fault ≡ ParseFault.NoMemory) }
     {
         let Some(taker) = taker_of(self.frames.top()) else {
             return Ok(None);
@@ -192,9 +179,8 @@ impl Reader {
 
     /// An operand is complete: it joins the prefix operators and the product before it.
     #[inline(always)]
-    pub(crate) fn settle(&mut self, seen: Seen) -> Result<Seen, ParseFault>
+    pub(crate) fn settle(&mut self, seen: Seen) -> Result<Seen, AllocError>
         ensures ok { IfOk result (λ whole. settled whole self.new ≡ settle seen self.old) }
-        ensures fault { IfErr result (λ fault. fault ≡ ParseFault.NoMemory) }
     {
         let mut operand = seen;
         while let Some(next) = self.settle_top(operand)? {
@@ -211,9 +197,8 @@ impl Reader {
         parts: usize,
         at: u32,
         depth: u8,
-    ) -> Result<Seen, ParseFault>
+    ) -> Result<Seen, AllocError>
         ensures ok { IfOk result (λ seen. settled seen self.new ≡ complete head parts at depth self.old) }
-        ensures fault { IfErr result (λ fault. fault ≡ ParseFault.NoMemory) }
     {
         let seen = self.form(head, parts, at, depth)?;
         self.settle(seen)
@@ -222,10 +207,9 @@ impl Reader {
     /// A form joins the operator of this level that stands next.
     #[inline(always)]
     #[tactic(auto, using(crate::proofs::Settling::joins, crate::proofs::Settling::joins_none))]
-    pub(crate) fn join(&mut self, level: Level, seen: Seen) -> Result<Seen, ParseFault>
+    pub(crate) fn join(&mut self, level: Level, seen: Seen) -> Result<Seen, AllocError>
         ensures ok { IfOk result (λ whole. settled whole self.new
             ≡ join_top level (top_of self.old.frames) seen (popped self.old)) }
-        ensures fault { IfErr result (λ fault. fault ≡ ParseFault.NoMemory) }
     {
         let Some(left) = left_of(level, self.frames.top()) else {
             return Ok(seen);
@@ -235,9 +219,8 @@ impl Reader {
         Ok(whole)
     }
 
-    fn else_frame(&mut self, top: Frame, at: u32, depth: u8) -> Result<Option<Seen>, ParseFault>
+    fn else_frame(&mut self, top: Frame, at: u32, depth: u8) -> Result<Option<Seen>, AllocError>
         ensures ok { IfOk result (λ next. if_step next self.new ≡ else_frame top at depth self.old) }
-        ensures fault { IfErr result (λ fault. fault ≡ ParseFault.NoMemory) }
     {
         if let Frame::ElseIf(first, before) = top {
             let seen = self.form(Head::If, 3, at, depth)?;
@@ -250,10 +233,9 @@ impl Reader {
         Ok(None)
     }
 
-    fn else_top(&mut self, at: u32, depth: u8) -> Result<Option<Seen>, ParseFault>
+    fn else_top(&mut self, at: u32, depth: u8) -> Result<Option<Seen>, AllocError>
         ensures ok { IfOk result (λ next. if_step next self.new
             ≡ else_top (top_of self.old.frames) at depth (popped self.old)) }
-        ensures fault { IfErr result (λ fault. fault ≡ ParseFault.NoMemory) }
     {
         if !takes_if(self.frames.top()) {
             return Ok(None);
@@ -267,9 +249,8 @@ impl Reader {
     /// An `if` is complete, and with it each one that it stands in behind an `else`: its place, and the depth of
     /// its parts.
     #[inline(never)]
-    pub(crate) fn settle_if(&mut self, at: u32, depth: u8) -> Result<Seen, ParseFault>
+    pub(crate) fn settle_if(&mut self, at: u32, depth: u8) -> Result<Seen, AllocError>
         ensures ok { IfOk result (λ seen. settled seen self.new ≡ settle_if at depth self.old) }
-        ensures fault { IfErr result (λ fault. fault ≡ ParseFault.NoMemory) }
     {
         let mut place = at;
         let mut parts = depth;

@@ -1,14 +1,15 @@
 //! What a token does in each phase.
-ghost use Rattle.std.specs.Prelude.{◌≡◌, ◌≤◌, ◌⊎◌, IfOk, IfErr, Ok, Err};
-ghost use Rattle.stab_parse.specs.Moves.{advance, move, open_at, open_total, outcome, reached};
+ghost use Rattle.std.specs.Prelude.{◌≡◌, ◌≤◌, ◌⊎◌, IfOk, IfErr, OnOk, Ok, Err};
+ghost use Rattle.stab_parse.specs.Moves.{advance, did, move, move_typed, open_at};
 ghost use Rattle.stab_parse.specs.Symbols.{IsSmall};
 
 use crate::fault::ParseFault;
 use crate::frame::Phase;
-use crate::reader::{Reader, Step};
+use crate::parser::{Admission, Parser};
 use crate::symbol::{Span, Symbol, kind_symbol, token_span};
 use stab_lex::Token;
-use std::alloc::Global;
+use std::alloc::{AllocError, Global};
+use std::mem;
 
 /// The most that may be open at a time.
 const MAX_OPEN: usize = 200;
@@ -33,33 +34,20 @@ impl Phase {
     }
 }
 
-impl Reader {
+impl Parser {
     /// What a token does. No phase's function is inlined here, since one token would then pay for the locals of all.
-    fn step(
-        &mut self,
-        alloc: Global,
-        phase: Phase,
-        symbol: Symbol,
-        span: Span,
-    ) -> Result<Step, ParseFault>
+    fn step(&mut self, alloc: Global, symbol: Symbol, span: Span) -> Result<Admission, AllocError>
         requires { IsSmall symbol }
-        ensures ok { IfOk result (λ step. outcome step self.new ≡ move phase symbol span self.old) }
-        ensures fault { IfErr result (λ fault. fault ≡ ParseFault.NoMemory) }
+        ensures ok { IfOk result (λ admission. did admission self.new ≡ move self.old.phase symbol span self.old.reader) }
     {
-        match phase {
+        match self.phase {
             Phase::Between => self.between(symbol),
             Phase::FnRead => self.fn_read(symbol, span),
             Phase::FnNamed(name) => self.fn_named(name, symbol),
             Phase::ParamsOpen(name) => self.params_open(alloc, name, symbol, span),
-            Phase::ParamOwed(name, before) => self.param_owed(name, before, symbol, span),
-            Phase::ParamNamed(name, before, param) => {
-                self.param_named(name, before, param, symbol)
-            }
-            Phase::ParamsClosed(name, params) => self.params_closed(name, params, symbol),
             Phase::OwesType => self.owes_type(alloc, symbol),
             Phase::ChanTypeRead => self.chan_type_read(symbol),
             Phase::RefTypeRead => self.ref_type_read(symbol),
-            Phase::HasType(ty) => self.has_type(alloc, ty, symbol, span.start),
             Phase::Owes => self.begins(symbol, span),
             Phase::Signed(at) => self.signed(at, symbol, span),
             Phase::Opened(at) => self.opened(at, symbol, span),
@@ -72,37 +60,55 @@ impl Reader {
             Phase::OneRead(word, at) => self.one_read(word, at, symbol),
             Phase::TwoRead(word, at) => self.two_read(word, at, symbol),
             Phase::ChanRead(at) => self.chan_read(at, symbol),
-            Phase::ChanTyped(at, ty) => self.chan_typed_read(at, ty, symbol),
-            Phase::ChanOpen(at, ty) => self.chan_open(at, ty, symbol),
             Phase::InItems => self.in_items(symbol, span),
             Phase::LetRead => self.let_read(symbol, span),
             Phase::LetNamed(name) => self.let_named(name, symbol),
             Phase::Has(seen) => self.ends(alloc, symbol, span, seen),
             Phase::ThenRead(at, depth) => self.then_read(alloc, at, depth, symbol, span),
             Phase::ElseRead(at, depth) => self.else_read(at, depth, symbol, span),
+            _ => self.step_typed(alloc, symbol, span),
         }
     }
 
-    /// The phase behind a token, or the fault at it.
-    pub(crate) fn advance(
+    /// What a token does behind a type or parameters, which are taken out of the phase.
+    #[inline(never)]
+    fn step_typed(
         &mut self,
         alloc: Global,
-        phase: Phase,
-        token: &Token,
-    ) -> Result<Phase, ParseFault>
-        ensures ok { IfOk result (λ next. advance phase token.now self.old ≡ Ok (reached next self.new)) }
+        symbol: Symbol,
+        span: Span,
+    ) -> Result<Admission, AllocError>
+        ensures ok { IfOk result (λ admission. did admission self.new
+            ≡ move_typed self.old.phase symbol span self.old.reader) }
+    {
+        match mem::replace(&mut self.phase, Phase::Between) {
+            Phase::ParamOwed(name, before) => self.param_owed(name, before, symbol, span),
+            Phase::ParamNamed(name, before, param) => {
+                self.param_named(name, before, param, symbol)
+            }
+            Phase::ParamsClosed(name, params) => self.params_closed(name, params, symbol),
+            Phase::HasType(ty) => self.has_type(alloc, ty, symbol, span.start),
+            Phase::ChanTyped(at, ty) => self.chan_typed_read(at, ty, symbol),
+            Phase::ChanOpen(at, ty) => self.chan_open(at, ty, symbol),
+            _ => Ok(Admission::Refused),
+        }
+    }
+
+    /// Takes a token, or says the fault at it.
+    pub(crate) fn advance(&mut self, alloc: Global, token: &Token) -> Result<(), ParseFault>
+        ensures ok { OnOk result (advance self.old.phase token.now self.old.reader ≡ Ok self.new) }
         ensures fault { IfErr result (λ fault. (fault ≡ ParseFault.NoMemory)
-            ⊎ (advance phase token.now self.old ≡ Err fault)) }
+            ⊎ (advance self.old.phase token.now self.old.reader ≡ Err fault)) }
     {
         let symbol = kind_symbol(token.kind);
-        match self.step(alloc, phase, symbol, token_span(token))? {
-            Step::Refused => Err(ParseFault::Unexpected(token.start)),
-            Step::Goes(next) => Ok(next),
-            Step::Opens(next) => {
-                if self.frames.open() > MAX_OPEN - next.open() {
+        match self.step(alloc, symbol, token_span(token))? {
+            Admission::Refused => Err(ParseFault::Unexpected(token.start)),
+            Admission::Goes => Ok(()),
+            Admission::Opens => {
+                if self.reader.frames.open() > MAX_OPEN - self.phase.open() {
                     return Err(ParseFault::TooNested(token.start));
                 }
-                Ok(next)
+                Ok(())
             }
         }
     }

@@ -1,12 +1,11 @@
 //! The syntax of a program, as a flat list of forms.
 ghost use Rattle.stab_code.specs.Written.{chan_type, ref_type, pair_type};
 ghost use Rattle.stab_code.specs.WrittenType.{written_by};
-ghost use Rattle.std.specs.Prelude.{◌≡◌, IfOk, ◌++◌, ◌∷◌, [], length, reverse, OnOk, IfErr, IsTrue, ◌↔◌};
+ghost use Rattle.std.specs.Prelude.{◌≡◌, IfOk, ◌++◌, ◌∷◌, [], length, reverse, OnOk, IsTrue, ◌↔◌};
 
-use crate::fault::ParseFault;
 use crate::symbol::{ActWord, CallWord, Span};
 use stab_code::{Op, TyForm};
-use std::alloc::Global;
+use std::alloc::{AllocError, Global};
 use std::marker::Model;
 
 /// The names of a block's items in the order of writing, none for an item without `let`. A block without items takes no
@@ -34,9 +33,8 @@ impl Lets {
         Lets { names: None }
     }
 
-    pub(crate) fn push(&mut self, alloc: Global, name: Option<Span>) -> Result<(), ParseFault>
+    pub(crate) fn push(&mut self, alloc: Global, name: Option<Span>) -> Result<(), AllocError>
         ensures ok { OnOk result (self.new ≡ self.old ++ name ∷ []) }
-        ensures fault { IfErr result (λ fault. fault ≡ ParseFault.NoMemory) }
     {
         let mut names = match self.names.take() {
             Some(names) => names,
@@ -86,33 +84,29 @@ impl Model for ParsedType {
 }
 
 impl ParsedType {
-    pub(crate) fn new(alloc: Global, form: TyForm) -> Result<ParsedType, ParseFault>
+    pub(crate) fn new(alloc: Global, form: TyForm) -> Result<ParsedType, AllocError>
         ensures ok { IfOk result (λ ty. ty ≡ written_by form) }
-        ensures fault { IfErr result (λ fault. fault ≡ ParseFault.NoMemory) }
     {
         let form = Box::new(alloc, form)?;
         Ok(ParsedType { form })
     }
 
-    pub(crate) fn chan(self, alloc: Global) -> Result<ParsedType, ParseFault>
+    pub(crate) fn chan(self, alloc: Global) -> Result<ParsedType, AllocError>
         ensures ok { IfOk result (λ outer. outer ≡ chan_type self) }
-        ensures fault { IfErr result (λ fault. fault ≡ ParseFault.NoMemory) }
     {
         let ParsedType { form } = self;
         ParsedType::new(alloc, TyForm::Chan(form))
     }
 
-    pub(crate) fn reference(self, alloc: Global) -> Result<ParsedType, ParseFault>
+    pub(crate) fn reference(self, alloc: Global) -> Result<ParsedType, AllocError>
         ensures ok { IfOk result (λ outer. outer ≡ ref_type self) }
-        ensures fault { IfErr result (λ fault. fault ≡ ParseFault.NoMemory) }
     {
         let ParsedType { form } = self;
         ParsedType::new(alloc, TyForm::Ref(form))
     }
 
-    pub(crate) fn pair(self, alloc: Global, second: ParsedType) -> Result<ParsedType, ParseFault>
+    pub(crate) fn pair(self, alloc: Global, second: ParsedType) -> Result<ParsedType, AllocError>
         ensures ok { IfOk result (λ outer. outer ≡ pair_type self second) }
-        ensures fault { IfErr result (λ fault. fault ≡ ParseFault.NoMemory) }
     {
         let ParsedType { form: left } = self;
         let ParsedType { form: right } = second;
@@ -192,17 +186,15 @@ impl Model for Params {
 }
 
 impl Params {
-    pub(crate) fn new(alloc: Global) -> Result<Params, ParseFault>
+    pub(crate) fn new(alloc: Global) -> Result<Params, AllocError>
         ensures ok { IfOk result (λ params. params ≡ []) }
-        ensures fault { IfErr result (λ fault. fault ≡ ParseFault.NoMemory) }
     {
         let params = Box::new(alloc, Vec::new(alloc))?;
         Ok(Params { params })
     }
 
-    pub(crate) fn push(&mut self, param: Param) -> Result<(), ParseFault>
+    pub(crate) fn push(&mut self, param: Param) -> Result<(), AllocError>
         ensures ok { OnOk result (self.new ≡ self.old ++ param ∷ []) }
-        ensures fault { IfErr result (λ fault. fault ≡ ParseFault.NoMemory) }
     {
         self.params.push(param)?;
         Ok(())
@@ -248,18 +240,16 @@ impl Model for Forms {
 
 impl Forms {
     /// No forms yet, with room for so many.
-    pub(crate) fn with_capacity(alloc: Global, forms: usize) -> Result<Forms, ParseFault>
+    pub(crate) fn with_capacity(alloc: Global, forms: usize) -> Result<Forms, AllocError>
         ensures ok { IfOk result (λ made. made ≡ []) }
-        ensures fault { IfErr result (λ fault. fault ≡ ParseFault.NoMemory) }
     {
         let forms = Vec::with_capacity(alloc, forms)?;
         Ok(Forms { forms })
     }
 
     #[inline(always)]
-    pub(crate) fn push(&mut self, form: FormNode) -> Result<(), ParseFault>
+    pub(crate) fn push(&mut self, form: FormNode) -> Result<(), AllocError>
         ensures ok { OnOk result (self.new ≡ form ∷ self.old) }
-        ensures fault { IfErr result (λ fault. fault ≡ ParseFault.NoMemory) }
     {
         self.forms.reserve(1)?;
         self.forms.push_reserved(form);
@@ -308,9 +298,8 @@ impl Functions {
         }
     }
 
-    pub(crate) fn push(&mut self, function: Function) -> Result<(), ParseFault>
+    pub(crate) fn push(&mut self, function: Function) -> Result<(), AllocError>
         ensures ok { OnOk result (self.new ≡ self.old ++ function ∷ []) }
-        ensures fault { IfErr result (λ fault. fault ≡ ParseFault.NoMemory) }
     {
         self.functions.push(function)?;
         Ok(())

@@ -1,58 +1,54 @@
 //! What a token does behind the words that acts, calls by a word and the types of channels and references begin with.
-ghost use Rattle.std.specs.Prelude.{◌≡◌, IfOk, IfErr};
-ghost use Rattle.stab_parse.specs.Moves.{bracket, outcome, paren, paren_end, paren_in, word_read};
+ghost use Rattle.std.specs.Prelude.{◌≡◌, IfOk};
+ghost use Rattle.stab_parse.specs.Moves.{bracket, did, paren, paren_end, paren_in, word_read};
 
-use crate::fault::ParseFault;
 use crate::frame::{Callee, Frame, Phase};
-use crate::reader::{Reader, Step};
+use crate::parser::{Admission, Parser};
 use crate::symbol::{ActWord, CallWord, Span, Symbol};
 use crate::tree::{Head, ParsedType};
+use std::alloc::AllocError;
 
-impl Reader {
+impl Parser {
     /// The bracket behind a word, with the frame that it opens.
-    fn bracket(&mut self, frame: Frame, symbol: Symbol) -> Result<Step, ParseFault>
-        ensures ok { IfOk result (λ step. outcome step self.new ≡ bracket frame symbol self.old) }
-        ensures fault { IfErr result (λ fault. fault ≡ ParseFault.NoMemory) }
+    fn bracket(&mut self, frame: Frame, symbol: Symbol) -> Result<Admission, AllocError>
+        ensures ok { IfOk result (λ admission. did admission self.new ≡ bracket frame symbol self.old.reader) }
     {
         match symbol {
             Symbol::OpenBracket => {
-                self.push(frame)?;
-                Ok(Step::Opens(Phase::OwesType))
+                self.reader.frames.push(frame)?;
+                Ok(self.opens(Phase::OwesType))
             }
-            _ => Ok(Step::Refused),
+            _ => Ok(Admission::Refused),
         }
     }
 
-    fn paren(&mut self, next: Phase, symbol: Symbol) -> Result<Step, ParseFault>
-        ensures ok { IfOk result (λ step. outcome step self.new ≡ paren next symbol self.old) }
-        ensures fault { IfErr result (λ fault. fault ≡ ParseFault.NoMemory) }
+    fn paren(&mut self, next: Phase, symbol: Symbol) -> Result<Admission, AllocError>
+        ensures ok { IfOk result (λ admission. did admission self.new ≡ paren next symbol self.old.reader) }
     {
         match symbol {
-            Symbol::OpenParen => Ok(Step::Opens(next)),
-            _ => Ok(Step::Refused),
+            Symbol::OpenParen => Ok(self.opens(next)),
+            _ => Ok(Admission::Refused),
         }
     }
 
-    fn paren_in(&mut self, frame: Frame, symbol: Symbol) -> Result<Step, ParseFault>
-        ensures ok { IfOk result (λ step. outcome step self.new ≡ paren_in frame symbol self.old) }
-        ensures fault { IfErr result (λ fault. fault ≡ ParseFault.NoMemory) }
+    fn paren_in(&mut self, frame: Frame, symbol: Symbol) -> Result<Admission, AllocError>
+        ensures ok { IfOk result (λ admission. did admission self.new ≡ paren_in frame symbol self.old.reader) }
     {
         match symbol {
             Symbol::OpenParen => {
-                self.push(frame)?;
-                Ok(Step::Opens(Phase::Owes))
+                self.reader.frames.push(frame)?;
+                Ok(self.opens(Phase::Owes))
             }
-            _ => Ok(Step::Refused),
+            _ => Ok(Admission::Refused),
         }
     }
 
-    fn paren_end(&mut self, head: Head, at: u32, symbol: Symbol) -> Result<Step, ParseFault>
-        ensures ok { IfOk result (λ step. outcome step self.new ≡ paren_end head at symbol self.old) }
-        ensures fault { IfErr result (λ fault. fault ≡ ParseFault.NoMemory) }
+    fn paren_end(&mut self, head: Head, at: u32, symbol: Symbol) -> Result<Admission, AllocError>
+        ensures ok { IfOk result (λ admission. did admission self.new ≡ paren_end head at symbol self.old.reader) }
     {
         match symbol {
             Symbol::CloseParen => self.leaf(head, at),
-            _ => Ok(Step::Refused),
+            _ => Ok(Admission::Refused),
         }
     }
 
@@ -63,13 +59,12 @@ impl Reader {
         at: u32,
         symbol: Symbol,
         span: Span,
-    ) -> Result<Step, ParseFault>
-        ensures ok { IfOk result (λ step. outcome step self.new ≡ word_read word at symbol span self.old) }
-        ensures fault { IfErr result (λ fault. fault ≡ ParseFault.NoMemory) }
+    ) -> Result<Admission, AllocError>
+        ensures ok { IfOk result (λ admission. did admission self.new ≡ word_read word at symbol span self.old.reader) }
     {
         match symbol {
-            Symbol::Name => Ok(Step::Goes(Phase::WordNamed(word, at, span))),
-            _ => Ok(Step::Refused),
+            Symbol::Name => Ok(self.goes(Phase::WordNamed(word, at, span))),
+            _ => Ok(Admission::Refused),
         }
     }
 
@@ -80,10 +75,9 @@ impl Reader {
         at: u32,
         name: Span,
         symbol: Symbol,
-    ) -> Result<Step, ParseFault>
-        ensures ok { IfOk result (λ step. outcome step self.new
-            ≡ paren (Phase.CallOpen (Callee.Started word at name)) symbol self.old) }
-        ensures fault { IfErr result (λ fault. fault ≡ ParseFault.NoMemory) }
+    ) -> Result<Admission, AllocError>
+        ensures ok { IfOk result (λ admission. did admission self.new
+            ≡ paren (Phase.CallOpen (Callee.Started word at name)) symbol self.old.reader) }
     {
         self.paren(Phase::CallOpen(Callee::Started(word, at, name)), symbol)
     }
@@ -94,9 +88,8 @@ impl Reader {
         word: ActWord,
         at: u32,
         symbol: Symbol,
-    ) -> Result<Step, ParseFault>
-        ensures ok { IfOk result (λ step. outcome step self.new ≡ paren (Phase.AloneOpen word at) symbol self.old) }
-        ensures fault { IfErr result (λ fault. fault ≡ ParseFault.NoMemory) }
+    ) -> Result<Admission, AllocError>
+        ensures ok { IfOk result (λ admission. did admission self.new ≡ paren (Phase.AloneOpen word at) symbol self.old.reader) }
     {
         self.paren(Phase::AloneOpen(word, at), symbol)
     }
@@ -107,9 +100,8 @@ impl Reader {
         word: ActWord,
         at: u32,
         symbol: Symbol,
-    ) -> Result<Step, ParseFault>
-        ensures ok { IfOk result (λ step. outcome step self.new ≡ paren_end (Head.Act word) at symbol self.old) }
-        ensures fault { IfErr result (λ fault. fault ≡ ParseFault.NoMemory) }
+    ) -> Result<Admission, AllocError>
+        ensures ok { IfOk result (λ admission. did admission self.new ≡ paren_end (Head.Act word) at symbol self.old.reader) }
     {
         self.paren_end(Head::Act(word), at, symbol)
     }
@@ -120,9 +112,8 @@ impl Reader {
         word: ActWord,
         at: u32,
         symbol: Symbol,
-    ) -> Result<Step, ParseFault>
-        ensures ok { IfOk result (λ step. outcome step self.new ≡ paren_in (Frame.One word at) symbol self.old) }
-        ensures fault { IfErr result (λ fault. fault ≡ ParseFault.NoMemory) }
+    ) -> Result<Admission, AllocError>
+        ensures ok { IfOk result (λ admission. did admission self.new ≡ paren_in (Frame.One word at) symbol self.old.reader) }
     {
         self.paren_in(Frame::One(word, at), symbol)
     }
@@ -133,17 +124,15 @@ impl Reader {
         word: ActWord,
         at: u32,
         symbol: Symbol,
-    ) -> Result<Step, ParseFault>
-        ensures ok { IfOk result (λ step. outcome step self.new ≡ paren_in (Frame.TwoLeft word at) symbol self.old) }
-        ensures fault { IfErr result (λ fault. fault ≡ ParseFault.NoMemory) }
+    ) -> Result<Admission, AllocError>
+        ensures ok { IfOk result (λ admission. did admission self.new ≡ paren_in (Frame.TwoLeft word at) symbol self.old.reader) }
     {
         self.paren_in(Frame::TwoLeft(word, at), symbol)
     }
 
     #[inline(never)]
-    pub(crate) fn chan_read(&mut self, at: u32, symbol: Symbol) -> Result<Step, ParseFault>
-        ensures ok { IfOk result (λ step. outcome step self.new ≡ bracket (Frame.NewChan at) symbol self.old) }
-        ensures fault { IfErr result (λ fault. fault ≡ ParseFault.NoMemory) }
+    pub(crate) fn chan_read(&mut self, at: u32, symbol: Symbol) -> Result<Admission, AllocError>
+        ensures ok { IfOk result (λ admission. did admission self.new ≡ bracket (Frame.NewChan at) symbol self.old.reader) }
     {
         self.bracket(Frame::NewChan(at), symbol)
     }
@@ -154,9 +143,8 @@ impl Reader {
         at: u32,
         ty: ParsedType,
         symbol: Symbol,
-    ) -> Result<Step, ParseFault>
-        ensures ok { IfOk result (λ step. outcome step self.new ≡ paren (Phase.ChanOpen at ty) symbol self.old) }
-        ensures fault { IfErr result (λ fault. fault ≡ ParseFault.NoMemory) }
+    ) -> Result<Admission, AllocError>
+        ensures ok { IfOk result (λ admission. did admission self.new ≡ paren (Phase.ChanOpen at ty) symbol self.old.reader) }
     {
         self.paren(Phase::ChanOpen(at, ty), symbol)
     }
@@ -167,25 +155,22 @@ impl Reader {
         at: u32,
         ty: ParsedType,
         symbol: Symbol,
-    ) -> Result<Step, ParseFault>
-        ensures ok { IfOk result (λ step. outcome step self.new ≡ paren_end (Head.NewChan ty) at symbol self.old) }
-        ensures fault { IfErr result (λ fault. fault ≡ ParseFault.NoMemory) }
+    ) -> Result<Admission, AllocError>
+        ensures ok { IfOk result (λ admission. did admission self.new ≡ paren_end (Head.NewChan ty) at symbol self.old.reader) }
     {
         self.paren_end(Head::NewChan(ty), at, symbol)
     }
 
     #[inline(never)]
-    pub(crate) fn chan_type_read(&mut self, symbol: Symbol) -> Result<Step, ParseFault>
-        ensures ok { IfOk result (λ step. outcome step self.new ≡ bracket Frame.ChanType symbol self.old) }
-        ensures fault { IfErr result (λ fault. fault ≡ ParseFault.NoMemory) }
+    pub(crate) fn chan_type_read(&mut self, symbol: Symbol) -> Result<Admission, AllocError>
+        ensures ok { IfOk result (λ admission. did admission self.new ≡ bracket Frame.ChanType symbol self.old.reader) }
     {
         self.bracket(Frame::ChanType, symbol)
     }
 
     #[inline(never)]
-    pub(crate) fn ref_type_read(&mut self, symbol: Symbol) -> Result<Step, ParseFault>
-        ensures ok { IfOk result (λ step. outcome step self.new ≡ bracket Frame.RefType symbol self.old) }
-        ensures fault { IfErr result (λ fault. fault ≡ ParseFault.NoMemory) }
+    pub(crate) fn ref_type_read(&mut self, symbol: Symbol) -> Result<Admission, AllocError>
+        ensures ok { IfOk result (λ admission. did admission self.new ≡ bracket Frame.RefType symbol self.old.reader) }
     {
         self.bracket(Frame::RefType, symbol)
     }

@@ -10,30 +10,30 @@ loop-token-init c =
 
 pub loop-token-preserved : goal.loop-token-preserved
 loop-token-preserved c =
-    reaches_more c.args.tokens.now c.loop-token.token-index _ c.loop-token.phase c.in_ok-phase.phase c.loop-token.reader c.advance.new.self
-    c.loop-token-test.true c.loop-token.invariant c.in_ok-phase.ensures.ok
+    reaches_more c.args.tokens.now c.loop-token.token-index _ c.loop-token.parser.phase c.advance.new.self.phase c.loop-token.parser.reader c.advance.new.self.reader
+    c.loop-token-test.true c.loop-token.invariant c.in_ok-advance.ensures.ok
 
-pub returns-in_err-phase-clause-fault : goal.returns-in_err-phase-clause-fault
-returns-in_err-phase-clause-fault c =
-    let p = err_from_is_err_and c.from_residual-in_err-phase.result c.from_residual-in_err-phase.ensures.1 in
-    rw (p.1, p.2) (fault_or_memory c.args.tokens.now c.loop-token.token-index _ c.loop-token.phase c.loop-token.reader c.in_err-phase.field-0.0
-    c.loop-token-test.true c.loop-token.invariant c.in_err-phase.ensures.fault)
+pub returns-in_err-advance-clause-fault : goal.returns-in_err-advance-clause-fault
+returns-in_err-advance-clause-fault c =
+    let p = err_from_is_err_and c.from_residual-in_err-advance.result c.from_residual-in_err-advance.ensures.1 in
+    rw (p.1, p.2) (fault_or_memory c.args.tokens.now c.loop-token.token-index _ c.loop-token.parser.phase c.loop-token.parser.reader c.in_err-advance.field-0.0
+    c.loop-token-test.true c.loop-token.invariant c.in_err-advance.ensures.fault)
 
 pub returns-in_default : goal.returns-in_default
 returns-in_default c = record {
   parsed = tt;
-  fault = inr (end_early c.args.tokens.now c.loop-token.phase c.loop-token.reader
-      (reaches_end c.args.tokens.now c.loop-token.token-index c.loop-token.phase c.loop-token.reader c.loop-token-test.false c.loop-token.auto.token-index-end c.loop-token.invariant)
+  fault = inr (end_early c.args.tokens.now c.loop-token.parser.phase c.loop-token.parser.reader
+      (reaches_end c.args.tokens.now c.loop-token.token-index c.loop-token.parser.phase c.loop-token.parser.reader c.loop-token-test.false c.loop-token.auto.token-index-end c.loop-token.invariant)
       c.in_default.not-Between);
 }
 
 pub returns-in-Some-clause-fault : goal.returns-in-Some-clause-fault
 returns-in-Some-clause-fault c =
-    let whole = reaches_end c.args.tokens.now c.loop-token.token-index c.loop-token.phase c.loop-token.reader c.loop-token-test.false c.loop-token.auto.token-index-end c.loop-token.invariant in
-    inr (end_deep c.args.tokens.now c.loop-token.reader c.in-Some.at (rw c.in-Between.is at whole) (sym (c.in-Some.ensures ∙ ap (λ l. least_of (deep_among l)) c.all.ensures)))
+    let whole = reaches_end c.args.tokens.now c.loop-token.token-index c.loop-token.parser.phase c.loop-token.parser.reader c.loop-token-test.false c.loop-token.auto.token-index-end c.loop-token.invariant in
+    inr (end_deep c.args.tokens.now c.loop-token.parser.reader c.in-Some.at (rw c.in-Between.is at whole) (sym (c.in-Some.ensures ∙ ap (λ l. least_of (deep_among l)) c.all.ensures)))
 
 pub returns-clause-parsed : goal.returns-clause-parsed
 returns-clause-parsed c =
-    let whole = reaches_end c.args.tokens.now c.loop-token.token-index c.loop-token.phase c.loop-token.reader c.loop-token-test.false c.loop-token.auto.token-index-end c.loop-token.invariant in
-    let e = end_parsed c.args.tokens.now c.loop-token.reader (rw c.in-Between.is at whole) (sym (c.in_default-first_too_deep.ensures ∙ ap (λ l. least_of (deep_among l)) c.all.ensures)) in
+    let whole = reaches_end c.args.tokens.now c.loop-token.token-index c.loop-token.parser.phase c.loop-token.parser.reader c.loop-token-test.false c.loop-token.auto.token-index-end c.loop-token.invariant in
+    let e = end_parsed c.args.tokens.now c.loop-token.parser.reader (rw c.in-Between.is at whole) (sym (c.in_default-first_too_deep.ensures ∙ ap (λ l. least_of (deep_among l)) c.all.ensures)) in
     (e.0, e.1, (e.2, e.3))
