@@ -85,6 +85,8 @@ impl PrintLog {
     pub fn strike(&mut self, q: Seq)
         ensures finals { self.new.finals ≡ self.old.finals }
         ensures recent { self.new.recent ≡ without q.0 self.old.recent }
+        ensures spare { self.old.spare ≤ self.new.spare }
+        ensures places { self.new.places ≡ self.old.places }
     {
         strike(&mut self.recent, q);
     }
@@ -94,6 +96,8 @@ impl PrintLog {
         requires { length self.old.recent ≤ self.old.places }
         ensures finals { self.new.finals ≡ values self.old }
         ensures recent { self.new.recent ≡ [] }
+        ensures spare { self.old.spare + length self.old.recent ≤ self.new.spare }
+        ensures places { self.new.places ≡ self.old.places - length self.old.recent }
     {
         settle(&mut self.finals, &mut self.recent);
     }

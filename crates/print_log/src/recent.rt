@@ -19,6 +19,8 @@ pub fn strike(recent: &mut Vec<Entry>, q: Seq)
     requires { IsSound recent.old.items }
     ensures recent { live recent.new.items ≡ without q.0 (live recent.old.items) }
     ensures sound { IsSound recent.new.items }
+    ensures capacity { vec_capacity recent.new ≡ vec_capacity recent.old }
+    ensures fewer { length recent.new.items ≤ length recent.old.items }
 {
     if let Ok(i) = recent.binary_search_by_key(&q.0, |entry| entry.number.0) {
         recent[i].value = None;
@@ -31,6 +33,8 @@ fn drop_holes_at_end(recent: &mut Vec<Entry>)
     requires { IsRising recent.old.items }
     ensures recent { live recent.new.items ≡ live recent.old.items }
     ensures sound { IsSound recent.new.items }
+    ensures capacity { vec_capacity recent.new ≡ vec_capacity recent.old }
+    ensures fewer { length recent.new.items ≤ length recent.old.items }
 {
     while let Some(last) = recent.last() {
         if last.value.is_some() {
@@ -46,6 +50,8 @@ pub fn settle(finals: &mut Vec<Value>, recent: &mut Vec<Entry>)
     ensures finals { finals.new.items
         ≡ finals.old.items ++ each (λ (p : Print). p.value) (live recent.old.items) }
     ensures recent { recent.new.items ≡ [] }
+    ensures places { vec_capacity finals.new ≡ vec_capacity finals.old }
+    ensures capacity { vec_capacity recent.new ≡ vec_capacity recent.old }
 {
     for i in 0..recent.len() {
         if let Some(value) = recent[i].value.take() {

@@ -57,4 +57,5 @@ loop-i-preserved c =
         | in-Some w ↦ ap vec_capacity w.finals-is ∙ w.push_reserved.ensures.capacity ∙ c.loop-i.invariant.room
         | in_default w ↦ ap vec_capacity w.finals-is ∙ c.loop-i.invariant.room
       ];
+      capacity = c.loop-i.invariant.capacity;
     }

@@ -10,4 +10,5 @@ invariant-loop-i l = record {
   more : drop l.i l.recent.items ≡ drop l.i l.fn.recent.items;
   long : length l.recent.items ≡ length l.fn.recent.items;
   room : vec_capacity l.finals ≡ vec_capacity l.fn.finals;
+  capacity : vec_capacity l.recent ≡ vec_capacity l.fn.recent;
 }
