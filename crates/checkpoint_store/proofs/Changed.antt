@@ -1,5 +1,5 @@
 -- What entries have after each change of theirs.
-use Rattle.std.proofs.Common.{◌≡◌, ◌≢◌, ◌⊎◌, inl, inr, ℕ, ◌+◌, ◌<◌, ◌≤◌, Bool, true, false, cond, ◌&&◌, ◌||◌, nat_eq, nat_lt, List, [], ◌∷◌, ◌++◌, length, drop, Option, Some, None, is_some, option_to_list, refl, sym, ap, subst, ◌∙◌, arith}
+use Rattle.std.proofs.Common.{◌≡◌, ◌≢◌, ◌⊎◌, inl, inr, ℕ, ◌+◌, ◌<◌, ◌≤◌, Bool, true, false, cond, ◌&&◌, nat_eq, nat_lt, List, [], ◌∷◌, ◌++◌, length, drop, Option, Some, None, is_some, option_to_list, refl, sym, ap, subst, ◌∙◌, arith}
 use Rattle.std.specs.List.{slice_index_or, slice_set, AllWithin}
 use Rattle.std.proofs.Math.ListN.{get_or-map}
 use Rattle.std.proofs.Math.Seq.{map-set_same}
@@ -9,20 +9,13 @@ use Rattle.std.proofs.lemmas.List.Elements.{AllWithin-set, AllWithin-more}
 use Rattle.stab_base.specs.declared.numbers.Seq.{Seq}
 use Rattle.checkpoint_store.specs.declared.entries.Entry.{Entry}
 use Rattle.checkpoint_store.specs.Saved.{Place, IsBelow, same_place, before, at}
-use Rattle.checkpoint_store.specs.Layout.{is_below, places_of, found, Rises, IsKept}
+use Rattle.checkpoint_store.specs.Layout.{places_of, found, Rises, IsKept}
 use Rattle.checkpoint_store.proofs.Found.{found-none, found-set, found-hole, found-drop}
 use Rattle.checkpoint_store.proofs.Order.{rises-at, rises-front, kept-drop, below-apart}
 
 pub not_some : {T : Type 0} (o : Option T) → is_some o ≡ false → o ≡ None
 not_some None is = refl
 not_some (Some x) is = cc
-
-before_by : (a b c d q : ℕ) → (nat_lt a q || (nat_eq a q && nat_lt b 0)) ≡ nat_lt a q
-before_by a b c d q = grind (arith, nat_tests)
-
--- a place below the first of q is one of an event before q
-pub below-first : (q : Seq) (p : Place) → is_below p (q, record { 0 = 0 }) ≡ before q p
-below-first q p = before_by p.0.0 p.1.0 0 0 q.0
 
 late_by : (a b c d q : ℕ) → q ≤ a → (nat_eq c a && nat_eq d b) ≡ true → nat_lt c q ≡ true → ⊥
 late_by a b c d q late same low = absurd (grind (arith, nat_tests))

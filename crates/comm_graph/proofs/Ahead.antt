@@ -40,15 +40,6 @@ ahead_in_line es g threads t p last v line mem is =
       line = λ pos _. let w = a.there (omega arith) in ap (in_line (thread t) es g) is ∙ w.1;
     }
 
--- the next one of all
-pub ahead_next : (es : List Entry) (g threads t p : ℕ) → p < g + length es → threads ≤ t → IsAhead es g threads t p (p + 1)
-ahead_next es g threads t p lt far = record {
-  none = λ z. absurd (omega arith);
-  between = λ k lo hi. absurd (omega arith);
-  within = λ _. (omega arith, omega arith);
-  line = λ _ few. absurd (omega arith);
-}
-
 pub ahead_none : (es : List Entry) (g threads t p : ℕ) → g + length es ≤ p → IsAhead es g threads t p 0
 ahead_none es g threads t p far = record {
   none = λ _ k lt. nobody t es g k (omega arith);

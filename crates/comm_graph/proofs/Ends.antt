@@ -1,13 +1,13 @@
 -- Entries after a drop at either end.
-use Rattle.std.proofs.Common.{◌≡◌, ℕ, suc, ◌+◌, ◌<◌, ◌≤◌, Bool, true, false, not, cond, List, [], ◌∷◌, ◌++◌, length, get_or, ◌-◌, Option, Some, None, refl, sym, ap, subst, ◌∙◌, arith, inl, inr, length-append}
+use Rattle.std.proofs.Common.{◌≡◌, ℕ, suc, ◌+◌, ◌<◌, Bool, true, false, not, cond, List, [], ◌∷◌, ◌++◌, length, get_or, ◌-◌, Option, Some, None, refl, sym, ap, subst, ◌∙◌, arith, inl, inr, length-append}
 use Rattle.std.proofs.lemmas.Bool.{cases_eq, cases_lt, cases_Bool}
 use Rattle.comm_graph.specs.declared.table.Entry.{Entry}
 use Rattle.comm_graph.specs.Node.{Node}
 use Rattle.comm_graph.specs.Table.{entry_at, nodes_of}
-use Rattle.comm_graph.specs.Sound.{IsClosed, IsEndStruck, IsAtLeast, IsTrimmed, IsDropped, IsFirstBelow}
+use Rattle.comm_graph.specs.Sound.{IsClosed, IsEndStruck, IsTrimmed, IsDropped, IsFirstBelow}
 use Rattle.std.specs.Option.{IsSome, option_to_list}
 use Rattle.std.proofs.lemmas.Option.{slice_get_read}
-use Rattle.comm_graph.proofs.Tables.{push_other, push_same, in_range, at_index, at_front, at_behind}
+use Rattle.comm_graph.proofs.Tables.{push_other, push_same, in_range, at_index, at_behind}
 
 clash : {X : Type 0} (b : Bool) → b ≡ true → b ≡ false → X
 clash b t f = absurd (cc)
@@ -24,9 +24,6 @@ nodes_append (e ∷ es) fs = elim (cases_Bool e.live) [
 append_nil : (ns : List Node) → ns ++ [] ≡ ns
 append_nil [] = refl
 append_nil (n ∷ ns) = ap (λ r. n ∷ r) (append_nil ns)
-
-pub trimmed_none : (es : List Entry) (g : ℕ) → IsTrimmed es es g
-trimmed_none es g = record { nodes = refl; count = omega arith; kept = λ k e h. h; live = λ k e h l. h }
 
 pub trimmed_more : (es fs gs : List Entry) (e : Entry) (g : ℕ) → IsTrimmed es fs g → fs ≡ gs ++ e ∷ [] → e.live ≡ false → IsTrimmed es gs g
 trimmed_more es fs gs e g t split dead =
@@ -67,9 +64,6 @@ append_assoc_one (d ∷ ds) fs e = ap (λ r. d ∷ r) (append_assoc_one ds fs e)
 
 one_node : (e : Entry) → length (nodes_of (e ∷ [])) ≡ cond e.live 1 0
 one_node e = let n : Node = record { number = e.number.0; kind = e.kind } in elim e.live as (λ b. length (cond b (n ∷ []) []) ≡ cond b 1 0) [ true ↦ refl | false ↦ refl ]
-
-pub dropped_none : (es : List Entry) (g q : ℕ) → IsDropped es g es g q 0
-dropped_none es g q = record { dropped = []; split = refl; moved = zero_more g; below = λ k e h. absurd (cc); count = refl }
 
 pub dropped_more : (es : List Entry) (g : ℕ) (fs : List Entry) (g' : ℕ) (gs : List Entry) (g'' q n : ℕ) (live : Bool) → IsDropped es g fs g' q n → IsFirstBelow fs g' gs g'' q live → IsDropped es g gs g'' q (n + cond live 1 0)
 dropped_more es g fs g' gs g'' q n live d f =
@@ -126,16 +120,3 @@ empty_from es n len none = elim (cases_lt 0 n) [ inl lt ↦ absurd (none lt) | i
 
 pub first_at : (es : List Entry) (g n : ℕ) (e : Entry) → n ≡ length es → 0 < n → e ≡ get_or es 0 e → entry_at es g (suc g) ≡ Some e
 first_at es g n e len pos is = at_index es g 0 (suc g) (omega arith) ∙ slice_get_read es n 0 e len pos is
-
-pub least_by : (es : List Entry) (g q : ℕ) (e : Entry) → entry_at es g (suc g) ≡ Some e → q ≤ e.number.0 → IsAtLeast es g q
-least_by es g q e at le = λ x h. let both : Some x ≡ Some e = sym h ∙ at in let same : x ≡ e = cc in omega (arith, ap (λ (y : Entry). y.number.0) same)
-
-pub least_empty : (es : List Entry) (g q : ℕ) → length es ≡ 0 → IsAtLeast es g q
-least_empty es g q z = λ x h. let r = in_range es g (suc g) x h in absurd (omega arith)
-
-pub first_below : (es fs : List Entry) (g q : ℕ) (o : Option Entry) (e : Entry) → entry_at es g (suc g) ≡ Some e → e.number.0 < q → es ≡ option_to_list o ++ fs → IsSome o → IsFirstBelow es g fs (g + 1) q e.live
-first_below es fs g q None e at lt split some = absurd (cc)
-first_below es fs g q (Some x) e at lt split some =
-    let both : Some x ≡ Some e = sym (ap (λ y. entry_at y g (suc g)) split ∙ at_front x fs g (suc g) refl) ∙ at in
-    let same : x ≡ e = cc in
-    record { first = x; split = split; moved = omega arith; below = omega (arith, ap (λ (y : Entry). y.number.0) same); live_is = sym (ap (λ (y : Entry). y.live) same) }

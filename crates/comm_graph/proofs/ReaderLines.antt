@@ -16,9 +16,6 @@ use Rattle.comm_graph.proofs.Joins.{same_members, read_at, line_beside, but_besi
 use Rattle.comm_graph.proofs.Relinks.{look_kept, keeps, keeps_twice}
 use Rattle.comm_graph.proofs.ThreadLines.{reader_apart, acting_apart}
 
-clash : {X : Type 0} (b : Bool) → b ≡ true → b ≡ false → X
-clash b t f = absurd (cc)
-
 some_shape : (o : Option Entry) (s : Seq × NodeFor × Bool) → option_map_or (λ e. Some (shape e)) o None ≡ Some s → (e : Entry) × (o ≡ Some e) × (shape e ≡ s)
 some_shape None s h = absurd (cc)
 some_shape (Some e) s h = (e, refl, cc)

@@ -8,10 +8,9 @@ use Rattle.comm_graph.specs.declared.table.Line.{Line}
 use Rattle.comm_graph.specs.declared.table.Line.TheVariants.{Thread, Readers}
 use Rattle.comm_graph.specs.declared.table.Entry.{Entry}
 use Rattle.comm_graph.specs.Node.{first_of, other_of, touches}
-use Rattle.comm_graph.specs.Table.{stands, in_line, thread, readers, IsNodeAt, IsLineOf, IsLineBut, Beside, BesideThreads, AreTails, AreTailsBut}
-use Rattle.comm_graph.proofs.Touches.{touched_two, other_parts, first_touched, second_touched}
+use Rattle.comm_graph.specs.Table.{stands, in_line, thread, readers, IsNodeAt, IsLineOf, IsLineBut, Beside, AreTails, AreTailsBut}
+use Rattle.comm_graph.proofs.Touches.{touched_two, other_parts}
 use Rattle.comm_graph.proofs.Joins.{same_members, read_at, line_beside, but_beside, line_but, line_whole}
-use Rattle.comm_graph.proofs.Relinks.{keeps_twice}
 
 id_of : Line → ℕ
 id_of (Thread t) = t.0
@@ -25,9 +24,6 @@ pub reader_apart : (p q : ℕ) → p ≢ q → readers p ≢ readers q
 unfolding id_of
 reader_apart p q n s = n (ap id_of s)
 
-pub reading_apart : (q t : ℕ) → readers q ≢ thread t
-reading_apart q t s = cc
-
 pub acting_apart : (t q : ℕ) → thread t ≢ readers q
 acting_apart t q s = cc
 
@@ -39,35 +35,12 @@ both false b h = absurd (cc)
 pub standing : (es : List Entry) (g p : ℕ) (k : NodeFor) (t : ℕ) → IsNodeAt es g p k → in_line (thread t) es g p ≡ touches t k
 standing es g p k t n = read_at (stands (thread t)) false es g p n.entry n.at ∙ both n.entry.live (touches t n.entry.kind) n.live ∙ ap (touches t) n.kind_is
 
-pub first_stands : (es : List Entry) (g p : ℕ) (k : NodeFor) → IsNodeAt es g p k → in_line (thread (first_of k).0) es g p ≡ true
-first_stands es g p k n = standing es g p k (first_of k).0 n ∙ first_touched k
-
-pub other_stands : (es : List Entry) (g p : ℕ) (k : NodeFor) (x : ThreadId) → IsNodeAt es g p k → other_of k ≡ Some x → in_line (thread x.0) es g p ≡ true
-other_stands es g p k x n h = standing es g p k x.0 n ∙ second_touched k x (other_parts k x h).0
-
 -- a thread that is neither
 untouched : (es : List Entry) (g p : ℕ) (k : NodeFor) (t : ℕ) → IsNodeAt es g p k → t ≢ (first_of k).0 → ((x : ThreadId) → other_of k ≡ Some x → t ≢ x.0) → in_line (thread t) es g p ≡ false
 untouched es g p k t n a b = elim (cases_Bool (touches t k)) [
   | inl y ↦ elim (touched_two t k y) [ inl e ↦ absurd (a e) | inr w ↦ absurd (b w.0 w.1 (sym w.2)) ]
   | inr f ↦ standing es g p k t n ∙ f
 ]
-
-pub two_threads : (t u : ℕ) (es fs gs : List Entry) (g : ℕ) → Beside (thread t) es fs g → Beside (thread u) fs gs g → BesideThreads es gs g
-two_threads t u es fs gs g a b = record {
-  keeps = keeps_twice es fs gs g a.keeps b.keeps;
-  last_readers = λ k. b.readers k ∙ a.readers k;
-  reading = λ q k m.
-      let x = a.others (readers q) (reading_apart q t) k m in
-      let y = b.others (readers q) (reading_apart q u) k (same_members (readers q) es fs g a.keeps k ∙ m) in
-      (y.0 ∙ x.0, y.1 ∙ x.1);
-}
-
-pub one_thread : (t : ℕ) (es fs : List Entry) (g : ℕ) → Beside (thread t) es fs g → BesideThreads es fs g
-one_thread t es fs g a = record {
-  keeps = a.keeps;
-  last_readers = a.readers;
-  reading = λ q. a.others (readers q) (reading_apart q t);
-}
 
 none_other : (k : NodeFor) (x : ThreadId) (P : Type 0) → other_of k ≡ None → other_of k ≡ Some x → P
 none_other k x P a b = let e : None ≡ Some x = sym a ∙ b in absurd (cc)

@@ -37,18 +37,6 @@ first_touched (Set a) = yes a.0 false
 first_touched (NewRef a) = yes a.0 false
 first_touched (Pin a) = yes a.0 false
 
-later : (t a : ℕ) → (nat_eq t a || (nat_eq t t || false)) ≡ true
-later t a = elim (eqb_tells t a) [ inl y ↦ ap (λ x. x || (nat_eq t t || false)) y.0 | inr n ↦ ap (λ x. x || (nat_eq t t || false)) n.0 ∙ yes t false ]
-
-pub second_touched : (k : NodeFor) (x : ThreadId) → second_of k ≡ Some x → touches x.0 k ≡ true
-second_touched (Enter a) x h = absurd (cc)
-second_touched (Spawn a b) x h = let s : b ≡ x = cc in ap (λ (y : ThreadId). touches y.0 (Spawn a b)) (sym s) ∙ later b.0 a.0
-second_touched (Comm a b) x h = let s : b ≡ x = cc in ap (λ (y : ThreadId). touches y.0 (Comm a b)) (sym s) ∙ later b.0 a.0
-second_touched (Get a q) x h = absurd (cc)
-second_touched (Set a) x h = absurd (cc)
-second_touched (NewRef a) x h = absurd (cc)
-second_touched (Pin a) x h = absurd (cc)
-
 -- who acts in a node is touched by it
 pub acting_touched : (t : ℕ) (k : NodeFor) → acts t k ≡ true → touches t k ≡ true
 acting_touched t (Enter a) h = h

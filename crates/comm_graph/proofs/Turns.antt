@@ -18,7 +18,7 @@ use Rattle.std.specs.List.{slice_get}
 use Rattle.std.proofs.lemmas.Bool.Decides.{eqb_tells}
 use Rattle.comm_graph.proofs.Tables.{in_range, at_front, at_behind}
 use Rattle.comm_graph.proofs.Joins.{read_at, member_entry, member_range}
-use Rattle.comm_graph.proofs.Reading.{from_place, kind_found, must_be}
+use Rattle.comm_graph.proofs.Reading.{from_place, kind_found}
 use Rattle.comm_graph.proofs.Ahead.{until_place, before_all, no_readers, more_readers, last_first, both_true}
 
 append_nil : (ns : List ℕ) → ns ++ [] ≡ ns
@@ -44,9 +44,6 @@ the_second (NewRef t) ns = refl
 the_second (Pin t) ns = refl
 
 module _ (es : List Entry) (g p q : ℕ) (e : Entry) (sorted : IsSorted es g) (at : entry_at es g p ≡ Some e) (live : e.live ≡ true) (num : e.number.0 ≡ q) where
-  node : Node
-  node = record { number = e.number.0; kind = e.kind }
-
   from_here : from_number q (nodes_of es) ≡ record { number = e.number.0; kind = e.kind } ∷ nodes_behind es g p
   from_here = from_place es g p q e sorted at live num
 
@@ -176,9 +173,6 @@ reader_stands es g q r p e ready rd found at =
     let f = same_entry es g r p e found at in
     read_at (stands (readers q)) false es g p e at ∙ both_true e.live (reads q e.kind) f.0 (ap (reads q) k ∙ rd.2)
 
-pub nobody_else : (es : List Entry) (g q : ℕ) (o : Option NodeFor) → ((p : ℕ) → IsFound es g q p → ⊥) → o ≡ kind_of (nodes_of es) q → IsSome o → ⊥
-nobody_else es g q o none is some = must_be es g q none o is some
-
 drop_next : (xs : List ℕ) (n x : ℕ) (ys : List ℕ) → drop n xs ≡ x ∷ ys → (drop (suc n) xs ≡ ys) × (slice_get xs n ≡ Some x)
 drop_next [] zero x ys h = absurd (cc)
 drop_next [] (suc n) x ys h = absurd (cc)
@@ -234,10 +228,6 @@ between es g a b s first last = all_of (λ (n : Node). (a.number.0 ≤ n.number)
         | inr n ↦ omega (arith, s.rise k (g + length es) e b at last (omega arith))
       ],
     ))
-
-pub no_nodes : (es : List Entry) → length es ≡ 0 → nodes_of es ≡ []
-no_nodes [] z = refl
-no_nodes (x ∷ es) z = absurd (omega arith)
 
 pub in_order : (es : List Entry) (g : ℕ) (a b : Entry) → IsSorted es g → entry_at es g (suc g) ≡ Some a → entry_at es g (g + length es) ≡ Some b → a.number.0 ≤ b.number.0
 in_order es g a b s first last =

@@ -1,6 +1,6 @@
 -- The threads once one is added, and once a channel is made.
-use Rattle.std.proofs.Common.{◌≡◌, ℕ, ◌<◌, Bool, true, false, cond, nat_eq, Option, Some, None, refl, sym, ap, subst, ◌∙◌, arith}
-use Rattle.std.specs.Prelude.{IsSome, option_and_then, option_map, if◌then◌else◌}
+use Rattle.std.proofs.Common.{◌≡◌, ℕ, Bool, true, false, cond, nat_eq, Option, Some, None, refl, sym, ap, ◌∙◌}
+use Rattle.std.specs.Prelude.{option_and_then, option_map, if◌then◌else◌}
 use Rattle.std.specs.Ordering.{nat_cmp}
 use Rattle.std.specs.FinMap as map
 use Rattle.std.specs.FinMap.{FinMap}
@@ -8,7 +8,7 @@ use Rattle.std.proofs.lemmas.Bool.{false≢true, eqb-true}
 use Rattle.stab_code.specs.Program.{ProgramParts}
 use Rattle.thread_slots.specs.declared.state.State.{State}
 use Rattle.thread_slots.specs.declared.state.State.TheVariants.{Ready, Parked, Ended}
-use Rattle.thread_slots.specs.Slot.{Slot, Seen as SeenSlots, IsSound, started, same_state}
+use Rattle.thread_slots.specs.Slot.{Slot, started, same_state}
 use Rattle.rendezvous.specs.Line.{Seen, nobody}
 use Rattle.plain_language.specs.Expression.{Expr}
 use Rattle.plain_language.proofs.Applying.{get_inserted}
@@ -31,21 +31,6 @@ resting_ended false = refl
 pub resting_unparked : (b : Bool) → same_state Parked (resting_state b) ≡ false
 resting_unparked true = refl
 resting_unparked false = refl
-
-pub resting_ready : (b : Bool) → same_state Ready (resting_state b) ≡ cond b false true
-resting_ready true = refl
-resting_ready false = refl
-
--- the next number is no thread's
-pub next_free : {C : Type 0} (s : SeenSlots C) (t : ℕ) → IsSound s → t ≡ s.next → map.get s.threads t ≡ None
-next_free s t sound is =
-    elim (map.get s.threads t) as (λ o. map.get s.threads t ≡ o → o ≡ None) [
-      | None ↦ λ here. refl
-      | (Some slot) ↦ λ here. absurd (below t s.next is (sound.numbers t (subst (λ o. IsSome o) (sym here) refl)).1)
-    ] refl
-  where
-    below : (a b : ℕ) → a ≡ b → a < b → ⊥
-    below a b is h = omega arith
 
 module _ (p : ProgramParts) where
   -- under this number there is no thread, and nobody was put back; the child's control fits

@@ -22,7 +22,7 @@ use Rattle.thread_slots.specs.Slot.{Slot, same_state, is_in}
 use Rattle.thread_slots.proofs.Counted.{numbers-some}
 use Rattle.plain_language.specs.Plain.{PlainState, end_of, language_of}
 use Rattle.plain_language.specs.Quiet.{IsQuiet}
-use Rattle.journal_laws.proofs.Surviving.{some_is, some_none}
+use Rattle.journal_laws.proofs.Surviving.{some_is}
 use Rattle.journal_laws.proofs.Undone.{stands_run}
 use Rattle.step_eval.specs.ControlView.{ControlView, expr_of}
 use Rattle.commit_book.specs.declared.parts.Parts.{Parts}
@@ -46,61 +46,6 @@ due_is job parts kept =
     let runs = stands_run job.program parts.history.events kept.shown.run kept.shown.state journal.history.stands in
     ap (λ n. n - parts.tallies.released) (kept.tallied.finals ∙ ap final_prints (left ∙ runs.0))
     ∙ ap (λ n. final_prints (run_of parts.history.events) - n) kept.tallied.released
-
-none_below : (a : ℕ) → a ≡ 0 → nat_lt 0 a ≡ false
-none_below a h = grind (arith, nat_tests)
-
-some_below : (a : ℕ) → 0 < a → nat_lt 0 a ≡ true
-some_below a h = grind (arith, nat_tests)
-
-is_up : (a b : ℕ) → a ≤ b → nat_le a b ≡ true
-is_up a b h = grind (arith, nat_tests)
-
-is_down : (a b : ℕ) → b < a → nat_le a b ≡ false
-is_down a b h = grind (arith, nat_tests)
-
-pub choose_release : (b : BookView) → 0 < due b.history.events → choice_of b ≡ Release
-choose_release b some = ap (λ (k : Bool). if k then Release else (if is_empty b.queue && nat_eq (in_state Leased b) 0 then Quiet else (if nat_le b.job.fuel (weight_of b.history.events) then Spent else first_ready b.queue))) (some_below (due b.history.events) some)
-
--- where nothing is due
-undue : (b : BookView) → due b.history.events ≡ 0 → choice_of b ≡ (if is_empty b.queue && nat_eq (in_state Leased b) 0 then Quiet else (if nat_le b.job.fuel (weight_of b.history.events) then Spent else first_ready b.queue))
-undue b none = ap (λ (k : Bool). if k then Release else (if is_empty b.queue && nat_eq (in_state Leased b) 0 then Quiet else (if nat_le b.job.fuel (weight_of b.history.events) then Spent else first_ready b.queue))) (none_below (due b.history.events) none)
-
-pub choose_quiet : (b : BookView) → due b.history.events ≡ 0 → b.queue ≡ [] → in_state Leased b ≡ 0 → choice_of b ≡ Quiet
-choose_quiet b none empty unleased =
-    undue b none
-    ∙ ap (λ (k : List ℕ). if is_empty k && nat_eq (in_state Leased b) 0 then Quiet else (if nat_le b.job.fuel (weight_of b.history.events) then Spent else first_ready b.queue)) empty
-    ∙ ap (λ n. if nat_eq n 0 then Quiet else (if nat_le b.job.fuel (weight_of b.history.events) then Spent else first_ready b.queue)) unleased
-
--- where somebody is ready or leased
-awake : (b : BookView) → due b.history.events ≡ 0 → (is_empty b.queue && nat_eq (in_state Leased b) 0) ≡ false → choice_of b ≡ (if nat_le b.job.fuel (weight_of b.history.events) then Spent else first_ready b.queue)
-awake b none some = undue b none ∙ ap (λ (k : Bool). if k then Quiet else (if nat_le b.job.fuel (weight_of b.history.events) then Spent else first_ready b.queue)) some
-
-pub choose_spent : (b : BookView) → due b.history.events ≡ 0 → (is_empty b.queue && nat_eq (in_state Leased b) 0) ≡ false → b.job.fuel ≤ weight_of b.history.events → choice_of b ≡ Spent
-choose_spent b none some used = awake b none some ∙ ap (λ (k : Bool). if k then Spent else first_ready b.queue) (is_up b.job.fuel (weight_of b.history.events) used)
-
-pub choose_ready : (b : BookView) → due b.history.events ≡ 0 → (is_empty b.queue && nat_eq (in_state Leased b) 0) ≡ false → weight_of b.history.events < b.job.fuel → choice_of b ≡ first_ready b.queue
-choose_ready b none some left = awake b none some ∙ ap (λ (k : Bool). if k then Spent else first_ready b.queue) (is_down b.job.fuel (weight_of b.history.events) left)
-
--- the front of the queue, and an empty queue
-pub front_work : (queue : List ℕ) (t : ThreadId) → slice_get queue 0 ≡ Some t.0 → first_ready queue ≡ Work t
-front_work [] t is = absurd (some_none (sym is))
-front_work (u ∷ us) t is = ap (λ n. Work (record { 0 = n })) (some_is is)
-
-pub no_front : (queue : List ℕ) → slice_get queue 0 ≡ None → queue ≡ []
-no_front [] is = refl
-no_front (u ∷ us) is = absurd (some_none is)
-
-pub some_front : (queue : List ℕ) (n : ℕ) (t : ℕ) → slice_get queue 0 ≡ Some t → (is_empty queue && nat_eq n 0) ≡ false
-some_front [] n t is = absurd (some_none (sym is))
-some_front (u ∷ us) n t is = refl
-
-some_leased : (n : ℕ) → 0 < n → nat_eq n 0 ≡ false
-some_leased n h = grind (arith, nat_tests)
-
-pub leased_awake : (queue : List ℕ) (n : ℕ) → 0 < n → (is_empty queue && nat_eq n 0) ≡ false
-leased_awake [] n h = some_leased n h
-leased_awake (u ∷ us) n h = refl
 
 work_first : (queue : List ℕ) (t : ThreadId) → first_ready queue ≡ Work t → slice_get queue 0 ≡ Some t.0
 work_first [] t is = absurd (cc)

@@ -59,20 +59,6 @@ module _ (b : BookView) (shown : IsShown b) (free : in_state Leased b ≡ 0) whe
       by false false true some used is = (up b.job.fuel (weight_of b.history.events) used, queued_ready b.queue refl some)
       by false false false some used is = absurd (front b.queue is)
 
-  -- Idle never comes
-  pub never_idle : choice_of b ≡ choice.Idle → ⊥
-  never_idle is = by (nat_lt 0 (due b.history.events)) (is_empty b.queue && nat_eq (in_state Leased b) 0) (nat_le b.job.fuel (weight_of b.history.events)) refl is
-    where
-      front : (queue : List ℕ) → (is_empty queue && nat_eq (in_state Leased b) 0) ≡ false → first_ready queue ≡ choice.Idle → ⊥
-      front [] some is = false≢true (sym some ∙ zero_only (in_state Leased b) free)
-      front (u ∷ us) some is = absurd (cc)
-
-      by : (x y z : Bool) → (is_empty b.queue && nat_eq (in_state Leased b) 0) ≡ y → (if x then choice.Release else (if y then choice.Quiet else (if z then choice.Spent else first_ready b.queue))) ≡ choice.Idle → ⊥
-      by true y z some is = absurd (cc)
-      by false true z some is = absurd (cc)
-      by false false true some is = absurd (cc)
-      by false false false some is = front b.queue some is
-
 -- at Quiet nobody is ready
 pub quiet_unready : (b : BookView) → IsShown b → choice_of b ≡ choice.Quiet → in_state Ready b ≡ 0
 quiet_unready b shown is = none_counted (is_in Ready b.threads) b.next.thread (λ u. sym (shown.shows.threads.queue.ready u) ∙ ap (is_listed u) (chosen_quiet b is).0)

@@ -21,11 +21,6 @@ use Rattle.journal_laws.proofs.Surviving.{some_is}
 use Rattle.commit_book.proofs.Effects.{alone}
 use Rattle.commit_book.proofs.EffectsHeld.{act_known}
 
--- the state once the thread has made its pure steps
-abbrev pub moved : ProgramParts → PlainState → ThreadId → ℕ → Expr → PlainState
-moved p s t zero e = s
-moved p s t (suc n) e = apply s (Local t (suc n)) (to (language_of p) e)
-
 made_local : (p : ProgramParts) (n : ℕ) (e f : Expr) → 0 < n → pure_steps (language_of p) n e ≡ Some f → local_by (language_of p) n e ≡ Some (to (language_of p) f)
 made_local p zero e f some made = absurd (omega (arith, some))
 made_local p (suc n) e f some made = ap (option_map (to (language_of p))) made

@@ -12,15 +12,9 @@ use Rattle.plain_language.specs.Expression.{Expr}
 use Rattle.plain_language.specs.Look.{answered}
 use Rattle.plain_language.specs.Plain.{PlainState, effect_of, language_of, look_in, standing}
 use Rattle.plain_language.specs.Steps.{Effect, effect_in, exprs_at}
-use Rattle.plain_language.specs.Table.{sends, receives, picks, act, received_by, sent_by}
+use Rattle.plain_language.specs.Table.{sends, picks, act, received_by, sent_by}
 
 module _ (p : ProgramParts) where
-  -- a receiver gets the value, and a pick the index of the channel with it
-  pub received_plain : (c : ℕ) (e : Expr) (v : Datum) → look_in p e ≡ act (receives c) → received_by (language_of p) c e v (look_in p e) ≡ Some (answered e v)
-  received_plain c e v looks =
-      ap (received_by (language_of p) c e v) looks
-      ∙ ap (λ b. cond b (Some (answered e v)) None) (nat_eq_equiv.refl c)
-
   pub picked_first : (c a b : ℕ) (e : Expr) (v : Datum) → look_in p e ≡ act (picks a b) → nat_eq a c ≡ true → received_by (language_of p) c e v (look_in p e) ≡ Some (picked_at e (pos 0) v)
   picked_first c a b e v looks first =
       ap (received_by (language_of p) c e v) looks

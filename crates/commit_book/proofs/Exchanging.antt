@@ -1,16 +1,11 @@
 -- Whom a thread meets on a channel, and what both then stand at.
-use Rattle.std.proofs.Common.{◌≡◌, ◌≤◌, ℕ, Bool, true, false, cond, ◌||◌, nat_eq, List, length, Option, Some, None, refl, sym, ap, subst, ◌∙◌, arith}
-use Rattle.std.specs.Prelude.{pos, OnOk, Result, Ok, Err, IsSome, IsSomeAnd, if◌then◌else◌, option_and_then, option_map, slice_get, unwrap_or}
+use Rattle.std.proofs.Common.{◌≡◌, ◌≤◌, ℕ, Bool, true, false, cond, ◌||◌, nat_eq, List, length, Some, None, refl, sym, ap, subst, ◌∙◌, arith}
+use Rattle.std.specs.Prelude.{pos, OnOk, Result, Ok, Err, IsSome, IsSomeAnd, if◌then◌else◌}
 use Rattle.std.proofs.lemmas.Bool.{false≢true, eqb-true}
 use Rattle.stab_base.specs.Datum.{Datum}
 use Rattle.stab_base.specs.declared.numbers.ChanId.{ChanId}
-use Rattle.stab_base.specs.declared.numbers.ThreadId.{ThreadId}
 use Rattle.stab_code.specs.Program.{ProgramParts}
 use Rattle.rendezvous.specs.declared.offer.Offer.{Offer}
-use Rattle.rendezvous.specs.declared.offer.Offer.TheVariants as offer
-use Rattle.rendezvous.specs.Line.{Line, Lines, nobody, AreThere}
-use Rattle.std.specs.Cmp.{nat_eq_equiv}
-use Rattle.std.specs.FinMap as map
 use Rattle.rendezvous.specs.Offer.{sends_on, receives_on}
 use Rattle.plain_language.specs.Effects.{picked_at}
 use Rattle.plain_language.specs.Expression.{Expr}
@@ -31,54 +26,10 @@ use Rattle.commit_book.proofs.EffectsMeeting.{picked_first, picked_second}
 use Rattle.commit_book.proofs.Waiting.{flipped}
 use Rattle.journal_laws.proofs.Surviving.{some_is}
 
--- the first of a line that is there
-pub first_of_line : (f : Line → List ℕ) (o : Option Line) → IsSome o → option_and_then (λ line. slice_get (f line) 0) o ≡ slice_get (f (unwrap_or o nobody)) 0
-first_of_line f None there = absurd (false≢true there)
-first_of_line f (Some line) there = refl
-
--- whom a line gives, as a thread
-pub met_by : {M : Type 0} (F : ℕ → M) (f : Line → List ℕ) (o : Option Line) (r : Option ThreadId) → IsSome o → option_map (λ (t : ThreadId). t.0) r ≡ option_and_then (λ line. slice_get (f line) 0) o
-    → option_map (λ (t : ThreadId). F t.0) r ≡ option_map F (slice_get (f (unwrap_or o nobody)) 0)
-met_by F f o None there met = ap (option_map F) (met ∙ first_of_line f o there)
-met_by F f o (Some t) there met = ap (option_map F) (met ∙ first_of_line f o there)
-
--- the channels of an offer are there
-pub send_on : (lines : Lines) (c : ChanId) → AreThere lines (offer.Send c) → IsSome (map.get lines c.0)
-send_on lines c there = there c.0 (ap (λ b. b || false) (nat_eq_equiv.refl c.0))
-
-pub recv_on : (lines : Lines) (c : ChanId) → AreThere lines (offer.Recv c) → IsSome (map.get lines c.0)
-recv_on lines c there = there c.0 (nat_eq_equiv.refl c.0)
-
-pub pick_first_on : (lines : Lines) (c d : ChanId) → AreThere lines (offer.Pick c d) → IsSome (map.get lines c.0)
-pick_first_on lines c d there = there c.0 (ap (λ b. b || nat_eq c.0 d.0) (nat_eq_equiv.refl c.0))
-
-pub pick_second_on : (lines : Lines) (c d : ChanId) → AreThere lines (offer.Pick c d) → IsSome (map.get lines d.0)
-pick_second_on lines c d there = there d.0 (or_last (nat_eq d.0 c.0) (nat_eq d.0 d.0) (nat_eq_equiv.refl d.0))
-  where
-    or_last : (a b : Bool) → b ≡ true → (a || b) ≡ true
-    or_last true b h = refl
-    or_last false b h = h
-
 -- it is a pick
 abbrev pub is_pick : Look Expr → Bool
 is_pick (act (picks a b)) = true
 is_pick _ = false
-
-abbrev pub asks_pick : Ask → Bool
-asks_pick (ask.Act (Pick a b)) = true
-asks_pick _ = false
-
-pick_of : (fs : ℕ → Expr) (vs : List Datum) (c d : ℕ) (a : Act) → picks c d ≡ act_of fs vs a → asks_pick (ask.Act a) ≡ true
-pick_of fs vs c d (Pick x y) is = refl
-pick_of fs vs c d _ is = absurd (cc)
-
--- whoever stands at a pick answers that it does
-pub pick_asked : (fs : ℕ → Expr) (vs : List Datum) (k : Look Expr) (a : Ask) → IsAsked fs vs k a → is_pick k ≡ true → asks_pick a ≡ true
-pick_asked fs vs (act (picks c d)) (ask.Act a) is pick = pick_of fs vs c d a is
-pick_asked fs vs (act (picks c d)) ask.More is pick = absurd is
-pick_asked fs vs (act (picks c d)) ask.Done is pick = absurd is
-pick_asked fs vs (act (picks c d)) (ask.Failed f) is pick = absurd is
-pick_asked fs vs _ a is pick = absurd (false≢true pick)
 
 module _ (p : ProgramParts) (c : ℕ) (e : Expr) (v : Datum) where
   -- a receiver that doesn't pick gets the value

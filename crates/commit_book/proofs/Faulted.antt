@@ -74,14 +74,6 @@ module _ (p : ProgramParts) where
       ∙ one_other (is_faulted_at p threads) (is_faulted_at p (changed threads t f)) t n low others
       ∙ ap (λ b. faulted_in p threads n + one_if b) here
 
-  -- where it hadn't failed
-  pub faulted_more : (threads : FinMap nat_cmp (Slot ControlView)) (t n : ℕ) (f : Slot ControlView → Slot ControlView) (slot : Slot ControlView) → map.get threads t ≡ Some slot → t < n
-      → is_failed (expr_of p slot.control) ≡ false → faulted_in p (changed threads t f) n ≡ faulted_in p threads n + one_if (is_failed (expr_of p (f slot).control))
-  faulted_more threads t n f slot found low going =
-      let sum = faulted_changed threads t n f slot found low in
-      let none : one_if (is_failed (expr_of p slot.control)) ≡ 0 = ap one_if going in
-      omega (arith, sum, none)
-
   -- where it has failed as often as before
   pub faulted_same : (threads : FinMap nat_cmp (Slot ControlView)) (t n : ℕ) (f : Slot ControlView → Slot ControlView) (slot : Slot ControlView) → map.get threads t ≡ Some slot → t < n
       → is_failed (expr_of p (f slot).control) ≡ is_failed (expr_of p slot.control) → faulted_in p (changed threads t f) n ≡ faulted_in p threads n

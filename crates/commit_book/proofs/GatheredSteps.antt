@@ -1,12 +1,11 @@
 -- Steps that are taken out from the end of a thread, down to a line.
 use Rattle.std.proofs.Common.{◌≡◌, ℕ, zero, suc, ◌+◌, ◌-◌, ◌<◌, ◌≤◌, Bool, true, false, cond, not, ◌&&◌, ◌||◌, nat_eq, List, [], ◌∷◌, ◌++◌, get_or, length, Some, refl, sym, ap, subst, ◌∙◌, arith, append_assoc, append-nil}
 use Rattle.std.specs.Prelude.{nat_le, filter}
-use Rattle.std.specs.List.{AllByRecursion, slice_index_or, sum_by}
+use Rattle.std.specs.List.{AllByRecursion, slice_index_or}
 use Rattle.std.proofs.lemmas.Bool.Decides.{nat_tests}
-use Rattle.std.proofs.lemmas.List.{get_or-set_same, get_or-set_other, length_push}
+use Rattle.std.proofs.lemmas.List.{get_or-set_same, get_or-set_other}
 use Rattle.std.proofs.lemmas.List.Elements.{filter-append}
 use Rattle.std.proofs.lemmas.List.Folds.{list_any-append}
-use Rattle.std.proofs.lemmas.List.Sums.{sum_by-set}
 use Rattle.std.proofs.lemmas.Option.{slice_get-get_or}
 use Rattle.linked_lists.specs.Lists.{is_listed}
 use Rattle.own_steps.specs.Own.{Seen, but_last, last_step, steps_of}
@@ -87,15 +86,6 @@ row_inside [] t q last = absurd (cc last)
 row_inside (r ∷ rows) zero q last = omega arith
 row_inside (r ∷ rows) (suc t) q last = let inside = row_inside rows t q last in omega arith
 
-or_swap : (a b c : Bool) → ((a || b) || c) ≡ (b || (a || c))
-or_swap true true c = refl
-or_swap true false c = refl
-or_swap false b c = refl
-
-or_none : (a : Bool) → (a || false) ≡ a
-or_none true = refl
-or_none false = refl
-
 -- nothing is taken out yet
 pub taken_none : (own : Seen) (t line : ℕ) (lost : List Seq) → steps_of own t ≡ steps_of own t ++ [] → IsTakenSoFar own own t line lost lost
 taken_none own t line lost whole = record { taken = []; whole = whole; above = tt; others = λ u _. refl; lost = λ q. refl }
@@ -132,22 +122,6 @@ module _ (old mid new : Seen) (t line : ℕ) (first before after : List Seq) (so
       turned false true false = refl
       turned false false true = refl
       turned false false false = refl
-
-  -- and there is one step less
-  pub taken_less : sum_by length new.steps + 1 ≡ sum_by length mid.steps
-  taken_less =
-      let sums = sum_by-set length mid.steps t (but_last (steps_of mid t)) [] inside in
-      let long = ap length (whole-last (steps_of mid t) one.step one.last) in
-      let push = length_push (but_last (steps_of mid t)) one.step in
-      let same = ap (sum_by length) one.steps in
-      omega arith
-
-  pub taken_shorter : length (steps_of new t) < length (steps_of mid t)
-  taken_shorter =
-      let long = ap length (whole-last (steps_of mid t) one.step one.last) in
-      let push = length_push (but_last (steps_of mid t)) one.step in
-      let same = ap length here in
-      omega arith
 
 -- all that isn't below the line was taken out
 module _ (old new : Seen) (t line : ℕ) (before after : List Seq) (so : IsTakenSoFar old new t line before after) (rise : Rises (steps_of old t)) (low : (q : ℕ) → last_step (steps_of new t) ≡ Some q → q < line) where

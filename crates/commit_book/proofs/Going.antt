@@ -50,17 +50,6 @@ pub apply_two : (s : PlainState) (l : Label) (e : Effect Expr) (t v : ℕ) → t
 apply_two s l e t v two u = get-put_threads (touched l) e.mine e.other s.threads u ∙ ap (λ (ts : List ℕ). put_at ts e.mine e.other (map.get s.threads) u) two
 
 module _ {E : Type 0} where
-  pub put_same : (t : ℕ) (e : E) (f g : ℕ → Option E) (u : ℕ) → f u ≡ g u → put t e f u ≡ put t e g u
-  put_same t e f g u same = ap (cond (nat_eq u t) (Some e)) same
-
-  -- where it stood before doesn't count
-  pub put_again : (t : ℕ) (a b : E) (f : ℕ → Option E) (u : ℕ) → put t a (put t b f) u ≡ put t a f u
-  put_again t a b f u = elim (nat_eq u t) as (λ k. cond k (Some a) (cond k (Some b) (f u)) ≡ cond k (Some a) (f u)) [ true ↦ refl | false ↦ refl ]
-
-  pub put_between : (t v : ℕ) (a b c : E) (f : ℕ → Option E) (u : ℕ) → put t a (put v b (put t c f)) u ≡ put t a (put v b f) u
-  put_between t v a b c f u =
-      elim (nat_eq u t) as (λ k. cond k (Some a) (cond (nat_eq u v) (Some b) (cond k (Some c) (f u))) ≡ cond k (Some a) (cond (nat_eq u v) (Some b) (f u))) [ true ↦ refl | false ↦ refl ]
-
   -- of two threads, either may be first
   pub put_turned : (t v : ℕ) (a b : E) (f : ℕ → Option E) (u : ℕ) → nat_eq t v ≡ false → put t a (put v b f) u ≡ put v b (put t a f) u
   put_turned t v a b f u apart =

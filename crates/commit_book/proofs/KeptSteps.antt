@@ -278,9 +278,6 @@ module _ (old new : BookView) (run : List Numbered) (s : PlainState) (worker : �
 abbrev pub AreBoth : ThreadId → ThreadId → ThreadId → ThreadId → Type 0
 AreBoth x y a b = (u : ℕ) → has (x.0 ∷ y.0 ∷ []) u ≡ has (a.0 ∷ b.0 ∷ []) u
 
-pub both_as_they_are : (x y : ThreadId) → AreBoth x y x y
-both_as_they_are x y u = refl
-
 pub both_turned : (x y : ThreadId) → AreBoth x y y x
 both_turned x y u = elim (nat_eq u x.0) as (λ i. cond i true (cond (nat_eq u y.0) true false) ≡ cond (nat_eq u y.0) true (cond i true false)) [
   | true ↦ elim (nat_eq u y.0) as (λ j. true ≡ cond j true true) [ true ↦ refl | false ↦ refl ]

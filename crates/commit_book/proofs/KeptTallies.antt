@@ -13,9 +13,7 @@ use Rattle.stab_journal.specs.Journal.{Journal, step_at, survivors}
 use Rattle.stab_journal.specs.Script.{probed_by, probed}
 use Rattle.plain_language.specs.Plain.{PlainState}
 use Rattle.plain_language.specs.Standing.{Shows, event}
-use Rattle.commit_book.specs.declared.parts.Parts.{Parts}
-use Rattle.commit_book.specs.Counts.{is_undo, faulted_in}
-use Rattle.commit_book.specs.Layout.{AreTallied, without_spare}
+use Rattle.commit_book.specs.Counts.{is_undo}
 use Rattle.commit_book.proofs.EventSteps.{finals_step, probed_snoc, released_snoc}
 use Rattle.commit_book.proofs.Floors.{floor_below}
 use Rattle.commit_book.proofs.JournalSteps.{numbered}
@@ -46,22 +44,3 @@ finals_now p old new run s l shows uncut after =
     ∙ ap (λ ns. final_prints (ns ++ n ∷ [])) shows.left
     ∙ finals_step run n uncut above
     ∙ ap final_prints (sym shows.left)
-
--- the counts, where a step other than a cut was pushed and k threads more have failed
-pub record IsTalliedBy (p : ProgramParts) (old new : Parts) (worker : ℕ) (l : Label) : Type 0 where
-  pub events : new.history.events ≡ old.history.events ++ event worker (Step l) ∷ []
-  pub survivors : survivors new.history ≡ survivors old.history ++ step_at (length old.history.events + 1) (Step l)
-  pub probes : new.tallies.probes ≡ old.tallies.probes + length (probed_by (Step l))
-  pub finals : new.tallies.finals ≡ old.tallies.finals
-  pub released : new.tallies.released ≡ old.tallies.released
-  pub undos : new.tallies.undos ≡ old.tallies.undos
-  pub faulted : new.tallies.faulted ≡ faulted_in p new.slots.threads new.slots.next
-
-pub tallied_step : (p : ProgramParts) (old new : Parts) (run : List Numbered) (s : PlainState) (worker : ℕ) (l : Label) → Shows p (without_spare old.history) run s → is_cut l ≡ false → IsTalliedBy p old new worker l → AreTallied p old → AreTallied p new
-tallied_step p old new run s worker l shows uncut is tallied = record {
-  probes = is.probes ∙ ap (λ n. n + length (probed_by (Step l))) tallied.probes ∙ sym (probes_now old.history.events worker l) ∙ sym (ap (λ es. length (probed es)) is.events);
-  finals = is.finals ∙ tallied.finals ∙ sym (finals_now p (without_spare old.history) (without_spare new.history) run s l shows uncut is.survivors);
-  released = is.released ∙ tallied.released ∙ sym (released_now old.history.events worker l) ∙ sym (ap released is.events);
-  undos = is.undos ∙ tallied.undos ∙ sym (undos_now old.history.events worker l) ∙ sym (ap (count_by is_undo) is.events);
-  faulted = is.faulted;
-}

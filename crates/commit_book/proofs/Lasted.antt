@@ -1,6 +1,6 @@
 -- What is left of a book by an act after which the thread goes on from a control that was made for it: a section that is entered, a reference that is read, a stabilize that is refused.
 use Rattle.std.proofs.Common.{◌≡◌, ℕ, suc, ◌+◌, ◌<◌, Bool, true, false, cond, nat_eq, List, [], ◌∷◌, ◌++◌, length, Option, Some, None, refl, sym, ap, subst, ◌∙◌, length-append, arith}
-use Rattle.std.specs.Prelude.{IfSome, is_some, option_map, if◌then◌else◌}
+use Rattle.std.specs.Prelude.{IfSome, option_map, if◌then◌else◌}
 use Rattle.std.specs.FinMap as map
 use Rattle.stab_base.specs.Datum.{Datum}
 use Rattle.stab_base.specs.declared.fault.Fault.TheVariants.{NoSection}
@@ -56,11 +56,6 @@ use Rattle.commit_book.proofs.SingleLabels.{entered_at, got, refused}
 pub read_so : (o : Option Write) (v : Datum) (q n : ℕ) (e : Expr) (f : Datum → Expr) → option_map (λ (w : Write). w.value) o ≡ Some v → number_in o ≡ n → IfSome o (λ (w : Write). (q ≡ w.number) × (e ≡ f w.value)) → (q ≡ n) × (e ≡ f v)
 read_so None v q n e f holds number read = absurd (cc)
 read_so (Some w) v q n e f holds number read = let same : w.value ≡ v = cc in (read.0 ∙ number, read.1 ∙ ap f same)
-
--- whether a mark was handed out
-pub marked_so : (o : Option Seq) (m : Option ℕ) (b : Bool) → option_map (λ (x : Seq). x.0) o ≡ m → is_some o ≡ b → is_some m ≡ b
-marked_so None m b is at = sym (ap is_some is) ∙ at
-marked_so (Some q) m b is at = sym (ap is_some is) ∙ at
 
 pushed_long : (worker : ℕ) (ls : List Label) → length (events_by worker ls) ≡ length ls
 pushed_long worker [] = refl

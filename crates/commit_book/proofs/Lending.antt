@@ -1,12 +1,11 @@
 -- What a lease, its return and a recall leave of a book.
-use Rattle.std.proofs.Common.{◌≡◌, ℕ, true, false, cond, ◌&&◌, nat_eq, List, [], ◌∷◌, ◌++◌, length, Option, Some, None, refl, sym, ap, subst, ◌∙◌}
-use Rattle.std.specs.Prelude.{option_map, if◌then◌else◌}
+use Rattle.std.proofs.Common.{◌≡◌, ℕ, true, false, cond, ◌&&◌, nat_eq, List, [], ◌++◌, length, Option, Some, None, refl, sym, ap, subst, ◌∙◌}
+use Rattle.std.specs.Prelude.{option_map}
 use Rattle.std.specs.Option.{option_map_or}
 use Rattle.std.specs.Ordering.{nat_cmp}
 use Rattle.std.specs.FinMap as map
 use Rattle.std.specs.FinMap.{FinMap}
 use Rattle.std.proofs.lemmas.Bool.{false≢true, eqb-true, and_parts}
-use Rattle.linked_lists.specs.Lists.{without}
 use Rattle.stab_base.specs.declared.numbers.ThreadId.{ThreadId}
 use Rattle.stab_code.specs.JobParts.{JobParts}
 use Rattle.stab_code.specs.Program.{ProgramParts}
@@ -25,9 +24,8 @@ use Rattle.commit_book.specs.Counts.{is_faulted_at, faulted_in}
 use Rattle.commit_book.specs.Doing.{is_failed}
 use Rattle.commit_book.specs.Layout.{IsKept, view_of}
 use Rattle.commit_book.specs.declared.turn.Choice.TheVariants.{Work}
-use Rattle.commit_book.specs.Leases.{LeaseView}
 use Rattle.commit_book.specs.Restated.{IsRestated}
-use Rattle.commit_book.specs.Turns.{choice_of, requeued, is_lent, is_held, given_back, IsRecalled}
+use Rattle.commit_book.specs.Turns.{choice_of, requeued, is_lent, IsRecalled}
 use Rattle.commit_book.proofs.Choosing.{chosen_front, found_in}
 use Rattle.commit_book.proofs.Meeting.{first_listed}
 use Rattle.commit_book.proofs.Requeued.{IsRequeuedAs, IsRequeuedAt, AreRequeued, requeued_same, fit_requeued, generations_requeued, parked_requeued, threads_requeued, doing_requeued, offers_requeued}
@@ -178,17 +176,6 @@ kept_given job old new t g kept lent rest next threads sound =
 -- what callers see, where slots alone change
 pub seen_as : (job : JobParts) (old : Parts) (s : Seen ControlView) → s.next ≡ old.slots.next → view_of job (record old { slots = s }) ≡ requeued (view_of job old) s.threads s.queue
 seen_as job old s next = ap (λ n. record (requeued (view_of job old) s.threads s.queue) { next = record { thread = n; chan = old.next_chan; ref = old.next_ref } }) next
-
-pub seen_given : (job : JobParts) (old : Parts) (s : Seen ControlView) (lease : LeaseView) → is_held (view_of job old) lease ≡ true → s.next ≡ old.slots.next → s.threads ≡ changed old.slots.threads lease.thread (λ slot. record slot { state = Ready }) → s.queue ≡ without lease.thread old.slots.queue ++ lease.thread ∷ [] → view_of job (record old { slots = s }) ≡ given_back (view_of job old) lease
-seen_given job old s lease held next threads queue =
-    let b = view_of job old in
-    seen_as job old s next
-    ∙ ap (λ m. requeued b m s.queue) threads
-    ∙ ap (requeued b (changed old.slots.threads lease.thread (λ slot. record slot { state = Ready }))) queue
-    ∙ sym (ap (λ k. if k then requeued b (changed b.threads lease.thread (λ slot. record slot { state = Ready })) (without lease.thread b.queue ++ lease.thread ∷ []) else b) held)
-
-pub seen_kept : (b : BookView) (lease : LeaseView) → is_held b lease ≡ false → b ≡ given_back b lease
-seen_kept b lease away = sym (ap (λ k. if k then requeued b (changed b.threads lease.thread (λ slot. record slot { state = Ready })) (without lease.thread b.queue ++ lease.thread ∷ []) else b) away)
 
 pub kept_recalled : (job : JobParts) (old : Parts) (s : Seen ControlView) → IsKept job old → s.next ≡ old.slots.next → ((t : ℕ) → map.get s.threads t ≡ option_map recalled (map.get old.slots.threads t)) → IsSound s → IsKept job (record old { slots = s })
 kept_recalled job old s kept next threads sound = kept_requeued job old (record old { slots = s }) refl next (recalled_requeued old.slots.threads s.threads threads) sound.queue kept

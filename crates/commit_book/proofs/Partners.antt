@@ -7,7 +7,6 @@ use Rattle.std.specs.FinMap as map
 use Rattle.std.specs.FinMap.{FinMap}
 use Rattle.std.proofs.lemmas.Bool.{false≢true, eqb-true}
 use Rattle.linked_lists.specs.Lists.{is_listed}
-use Rattle.stab_base.specs.Datum.{Datum}
 use Rattle.stab_base.specs.declared.numbers.ChanId.{ChanId}
 use Rattle.thread_slots.specs.declared.state.State.{State}
 use Rattle.thread_slots.specs.declared.state.State.TheVariants.{Ready, Leased, Parked, Ended}
@@ -17,9 +16,9 @@ use Rattle.rendezvous.specs.declared.offer.Offer.{Offer}
 use Rattle.rendezvous.specs.declared.offer.Offer.TheVariants as offer
 use Rattle.rendezvous.specs.Line.{Line, Lines, Seen, nobody, offered, LineBacked}
 use Rattle.rendezvous.specs.Offer.{sends_on, receives_on}
-use Rattle.plain_language.specs.Table.{Look, act, sends, receives, picks}
+use Rattle.plain_language.specs.Table.{sends, receives}
 use Rattle.journal_laws.proofs.Surviving.{some_is, some_none}
-use Rattle.commit_book.specs.Doing.{IsDoing, offer_at, waits_with}
+use Rattle.commit_book.specs.Doing.{IsDoing, waits_with}
 use Rattle.commit_book.specs.Offers.{sends_at, receives_at, AreOffers}
 
 -- the value of an option about which something holds
@@ -144,33 +143,3 @@ unmet_pick lines c d first second = record {
     either : (k : ℕ) (b : Bool) → nat_eq k c.0 ≡ b → (b || nat_eq k d.0) ≡ true → sends_at lines k ≡ []
     either k true is on = ap (sends_at lines) (eqb-true k c.0 is) ∙ no_first (sends_at lines c.0) first
     either k false is on = ap (sends_at lines) (eqb-true k d.0 on) ∙ no_first (sends_at lines d.0) second
-
--- ---- what a partner stands at
-
-module _ {E : Type 0} where
-  -- at a send of some value on the channel
-  pub record IsSender (c : ℕ) (l : Look E) : Type 0 where
-    pub value : Datum
-    pub looks : l ≡ act (sends c value)
-
-  -- at a receive from it, or at a pick of which it is one
-  pub record IsPicker (c : ℕ) (l : Look E) : Type 0 where
-    pub first : ℕ
-    pub second : ℕ
-    pub looks : l ≡ act (picks first second)
-    pub one : (nat_eq c first || nat_eq c second) ≡ true
-
-  sender_at : (c d : ℕ) (v : Datum) → nat_eq c d ≡ true → IsSender c (act (sends d v))
-  sender_at c d v is = record { value = v; looks = ap (λ k. act (sends k v)) (sym (eqb-true c d is)) }
-
-  pub sender_looks : (c : ℕ) (l : Look E) (o : Offer) → offer_at l ≡ Some o → sends_on c o ≡ true → IsSender c l
-  sender_looks c (act (sends d v)) o is on = sender_at c d v (ap (sends_on c) (some_is is) ∙ on)
-  sender_looks c (act (receives d)) o is on = absurd (false≢true (ap (sends_on c) (some_is is) ∙ on))
-  sender_looks c (act (picks a b)) o is on = absurd (false≢true (ap (sends_on c) (some_is is) ∙ on))
-  sender_looks c _ o is on = absurd (some_none (sym is))
-
-  pub receiver_looks : (c : ℕ) (l : Look E) (o : Offer) → offer_at l ≡ Some o → receives_on c o ≡ true → (l ≡ act (receives c)) ⊎ IsPicker c l
-  receiver_looks c (act (receives d)) o is on = inl (ap (λ k. act (receives k)) (sym (eqb-true c d (ap (receives_on c) (some_is is) ∙ on))))
-  receiver_looks c (act (picks a b)) o is on = inr (record { first = a; second = b; looks = refl; one = ap (receives_on c) (some_is is) ∙ on })
-  receiver_looks c (act (sends d v)) o is on = absurd (false≢true (ap (receives_on c) (some_is is) ∙ on))
-  receiver_looks c _ o is on = absurd (some_none (sym is))

@@ -1,62 +1,23 @@
 -- What a commit does, by what is asked of its thread.
-use Rattle.std.proofs.Common.{◌≡◌, ℕ, Bool, true, false, List, None, refl, sym, ap, subst, ◌∙◌}
+use Rattle.std.proofs.Common.{◌≡◌, ℕ, Bool, true, false, List, None, refl, sym, subst}
 use Rattle.std.specs.Prelude.{Err, IfErr, IfOk, Ok, OnErr, OnOk, Result}
 use Rattle.std.proofs.lemmas.Bool.{false≢true}
-use Rattle.stab_base.specs.Datum.{Datum}
 use Rattle.stab_code.specs.JobParts.{JobParts}
-use Rattle.stab_code.specs.Program.{ProgramParts}
 use Rattle.stab_journal.specs.declared.event.Numbered.{Numbered}
-use Rattle.plain_language.specs.Expression.{Expr}
-use Rattle.plain_language.specs.Plain.{look_in}
-use Rattle.plain_language.specs.Program.{body}
-use Rattle.plain_language.specs.Table.{Look, act, done, fault, pure}
+use Rattle.plain_language.specs.Table.{done}
 use Rattle.step_eval.specs.declared.act.Act.{Act}
 use Rattle.step_eval.specs.declared.act.Act.TheVariants as own
-use Rattle.step_eval.specs.declared.ask.Ask.{Ask}
-use Rattle.step_eval.specs.declared.ask.Ask.TheVariants as ask
-use Rattle.step_eval.specs.Acts.{act_of}
-use Rattle.step_eval.specs.Asked.{AsksRightly, IsAsked, act_in, act_next, operands_of}
-use Rattle.step_eval.specs.ControlView.{ControlView, expr_of}
 use Rattle.step_eval.specs.Progress.{ProgressView}
 use Rattle.commit_book.specs.declared.done.Outcome.TheVariants as outcome
 use Rattle.commit_book.specs.declared.parts.Parts.{Parts}
-use Rattle.commit_book.specs.Acting.{IsDone, IsDoneBy, IsPerformed, StandsAt, IsOutcomeOf, is_simple, offer_of, row_by, stands_at_none}
+use Rattle.commit_book.specs.Acting.{IsDone, IsDoneBy, IsPerformed, StandsAt, IsOutcomeOf, is_simple, offer_of, row_by}
 use Rattle.commit_book.specs.Book.{BookView}
 use Rattle.commit_book.specs.Commits.{IsMoved, row_at}
 use Rattle.commit_book.specs.Layout.{view_of}
 use Rattle.commit_book.specs.Leases.{LeaseView}
 use Rattle.commit_book.specs.Rows.{Row, alone, starts, meets}
 use Rattle.commit_book.specs.Undoing.{begun}
-use Rattle.commit_book.proofs.Rowing.{row_none, row_simple}
-
--- ---- what is asked
-
-module _ (fs : ℕ → Expr) (vs : List Datum) where
-  asked_act : (k : Look Expr) (a : Act) → IsAsked fs vs k (ask.Act a) → k ≡ act (act_of fs vs a)
-  asked_act (done v) a is = cc
-  asked_act (fault f) a is = cc
-  asked_act (pure e) a is = cc
-  asked_act (act x) a is = ap act is
-
-  asked_none : (k : Look Expr) (q : Ask) → act_in q ≡ None → IsAsked fs vs k q → stands_at_none k ≡ true
-  asked_none (done v) q unasked is = refl
-  asked_none (fault f) q unasked is = refl
-  asked_none (pure e) q unasked is = refl
-  asked_none (act x) (ask.Act a) unasked is = absurd (cc)
-  asked_none (act x) _ unasked is = absurd is
-
-module _ (p : ProgramParts) (c : ControlView) (q : Ask) (look : IsAsked (body p) (operands_of c) (look_in p (expr_of p c)) q) where
-  -- an act
-  pub at_act : (a : Act) → q ≡ ask.Act a → act_in q ≡ act_next c → AsksRightly p (operands_of c) q → StandsAt p c a
-  at_act a is next operands = record {
-    look = asked_act (body p) (operands_of c) (look_in p (expr_of p c)) a (subst (IsAsked (body p) (operands_of c) (look_in p (expr_of p c))) is look);
-    next = sym next ∙ ap act_in is;
-    operands = subst (AsksRightly p (operands_of c)) is operands;
-  }
-
-  -- none
-  pub at_none : act_in q ≡ None → stands_at_none (look_in p (expr_of p c)) ≡ true
-  at_none unasked = asked_none (body p) (operands_of c) (look_in p (expr_of p c)) q unasked look
+use Rattle.commit_book.proofs.Rowing.{row_simple}
 
 -- ---- which act it is
 
@@ -113,9 +74,6 @@ module _ (job : JobParts) (old : Parts) (lease : LeaseView) (progress : Progress
   pub simple_performed : (new : Parts) (a : Act) → StandsAt job.program progress.end a → is_simple a ≡ true → IsDone job old new lease progress (row_by (view_of job old) lease.thread a) → IsPerformed job old new lease progress outcome.Taken
   simple_performed new a at simple is =
       performed_as new (row_by (view_of job old) lease.thread a) (row_simple (view_of job old) lease progress a at simple) (simple_goes (view_of job old) lease.thread a simple) is
-
-  pub rest_performed : (new : Parts) → stands_at_none (look_in job.program (expr_of job.program progress.end)) ≡ true → IsDone job old new lease progress (alone None) → IsPerformed job old new lease progress outcome.Taken
-  rest_performed new none is = performed_as new (alone None) (row_none (view_of job old) lease progress none) refl is
 
 -- ---- where an answer is passed on
 

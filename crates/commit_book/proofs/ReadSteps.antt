@@ -1,11 +1,9 @@
 -- What is read of the steps of a run, with one event more.
-use Rattle.std.proofs.Common.{◌≡◌, ◌⊎◌, inl, inr, ℕ, zero, suc, ◌+◌, ◌<◌, ◌≤◌, Bool, true, false, cond, ◌&&◌, ◌||◌, nat_eq, List, [], ◌∷◌, ◌++◌, length, map as each, Some, refl, sym, ap, subst, ◌∙◌, arith, add-one, append-nil}
+use Rattle.std.proofs.Common.{◌≡◌, ◌⊎◌, inl, inr, ℕ, zero, suc, ◌+◌, ◌<◌, ◌≤◌, Bool, true, false, cond, ◌&&◌, ◌||◌, nat_eq, List, [], ◌∷◌, ◌++◌, length, map as each, Some, refl, sym, ap, subst, ◌∙◌, arith, add-one}
 use Rattle.std.specs.Prelude.{nat_lt, nat_le, filter}
 use Rattle.std.specs.List.{AllByRecursion, flat_map, list_any}
 use Rattle.std.proofs.lemmas.Bool.Decides.{nat_tests}
-use Rattle.std.proofs.lemmas.List.{map-append}
 use Rattle.std.proofs.lemmas.Option.{same_Some}
-use Rattle.reach_line.specs.MarkList.{numbers}
 use Rattle.stab_base.specs.declared.numbers.Seq.{Seq}
 use Rattle.stab_journal.specs.declared.event.Event.{Event}
 use Rattle.stab_journal.specs.declared.event.Label.{Label}
@@ -217,7 +215,3 @@ same_number n = grind (arith, nat_tests)
 pub or_second : (a b : Bool) → b ≡ true → (a || b) ≡ true
 or_second true b is = refl
 or_second false b is = is
-
-pub numbers_more : (qs : List Seq) (q : Seq) (b : Bool) → numbers (qs ++ cond b (q ∷ []) []) ≡ numbers qs ++ cond b (q.0 ∷ []) []
-numbers_more qs q true = map-append (λ (k : Seq). k.0) qs (q ∷ [])
-numbers_more qs q false = ap numbers (append-nil qs) ∙ sym (append-nil (numbers qs))

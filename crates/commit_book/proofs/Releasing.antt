@@ -38,21 +38,6 @@ use Rattle.commit_book.proofs.ReleaseActs.{kept_released}
 use Rattle.commit_book.proofs.Room.{step_weighs}
 use Rattle.commit_book.proofs.SeenAfter.{kept_same, view_same}
 
--- no more pass two tests than one
-and_fewer : (p r : Numbered → Bool) (ns : List Numbered) → count_by (λ (n : Numbered). p n && r n) ns ≤ count_by p ns
-and_fewer p r [] = omega arith
-and_fewer p r (n ∷ ns) =
-    let both = counted (λ (k : Numbered). p k && r k) n ns in
-    let one = counted p n ns in
-    let more : count_by (λ (k : Numbered). p k && r k) ns ≤ count_by p ns = and_fewer p r ns in
-    let here : cond {A = ℕ} (p n && r n) 1 0 ≤ cond {A = ℕ} (p n) 1 0 = fewer (p n) (r n) in
-    omega (arith, both, one, more, here)
-  where
-    fewer : (a b : Bool) → cond {A = ℕ} (a && b) 1 0 ≤ cond {A = ℕ} a 1 0
-    fewer true true = omega arith
-    fewer true false = omega arith
-    fewer false b = omega arith
-
 pub all_few : (p : Numbered → Bool) (ns : List Numbered) → count_by p ns ≤ length ns
 all_few p [] = omega arith
 all_few p (n ∷ ns) =

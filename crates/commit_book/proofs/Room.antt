@@ -34,10 +34,6 @@ step_weighs (Local t n) is = is.1.1
 step_weighs _ is = omega arith
 
 module _ (n : ℕ) (events : List Event) (l : Label) (room : HasRoom (suc n) events) (is : IsLabel l) where
-  -- a step can be pushed
-  pub weighs_within : weight_of events + weigh (Step l) < 2 ^ 64
-  weighs_within = omega (arith, room.weight, step_weighs l is)
-
   -- and after it there is room for one fewer
   pub room_after : (worker : ℕ) → HasRoom n (events ++ event worker (Step l) ∷ [])
   room_after worker =

@@ -1,5 +1,5 @@
 -- Which row an act is in.
-use Rattle.std.proofs.Common.{◌≡◌, ℕ, true, List, None, refl, ap, ◌∙◌}
+use Rattle.std.proofs.Common.{◌≡◌, ℕ, true, List, refl, ap, ◌∙◌}
 use Rattle.std.proofs.lemmas.Bool.{false≢true}
 use Rattle.stab_base.specs.Datum.{Datum}
 use Rattle.stab_code.specs.Program.{ProgramParts}
@@ -8,19 +8,19 @@ use Rattle.plain_language.specs.Expression.{Expr}
 use Rattle.plain_language.specs.Plain.{look_in}
 use Rattle.plain_language.specs.Program.{body}
 use Rattle.plain_language.specs.Redex.{mark}
-use Rattle.plain_language.specs.Table.{Look, act, done, fault, pure}
+use Rattle.plain_language.specs.Table.{Look, act}
 use Rattle.step_eval.specs.declared.act.Act.{Act}
 use Rattle.step_eval.specs.declared.act.Act.TheVariants as own
 use Rattle.step_eval.specs.Acts.{act_of}
 use Rattle.step_eval.specs.Asked.{operands_of}
 use Rattle.step_eval.specs.ControlView.{ControlView, expr_of}
 use Rattle.step_eval.specs.Progress.{ProgressView}
-use Rattle.commit_book.specs.Acting.{StandsAt, is_simple, offer_of, row_by, stands_at_none}
+use Rattle.commit_book.specs.Acting.{StandsAt, is_simple, offer_of, row_by}
 use Rattle.commit_book.specs.Book.{BookView, offered}
 use Rattle.commit_book.specs.Commits.{row_at}
 use Rattle.commit_book.specs.Doing.{offer_at}
 use Rattle.commit_book.specs.Leases.{LeaseView}
-use Rattle.commit_book.specs.Rows.{alone, row_of, section_row}
+use Rattle.commit_book.specs.Rows.{row_of, section_row}
 
 -- an act after which the thread always goes on
 simple_row : (b : BookView) (t : ℕ) (e : Expr) (fs : ℕ → Expr) (vs : List Datum) (a : Act) → is_simple a ≡ true → row_of b t e (act (act_of fs vs a)) ≡ row_by b t a
@@ -39,13 +39,6 @@ simple_row b t e fs vs own.Pin h = refl
 simple_row b t e fs vs own.Print h = refl
 simple_row b t e fs vs own.Probe h = refl
 simple_row b t e fs vs own.Attempt h = refl
-
--- no act at all
-no_row : (b : BookView) (t : ℕ) (e : Expr) (k : Look Expr) → stands_at_none k ≡ true → row_of b t e k ≡ alone None
-no_row b t e (done v) h = refl
-no_row b t e (fault k) h = refl
-no_row b t e (pure x) h = refl
-no_row b t e (act a) h = absurd (false≢true h)
 
 own_offer : (fs : ℕ → Expr) (vs : List Datum) (a : Act) → offer_at (act (act_of fs vs a)) ≡ offer_of a
 own_offer fs vs (own.Spawn f) = refl
@@ -72,9 +65,6 @@ module _ (b : BookView) (lease : LeaseView) (progress : ProgressView) where
   row_simple a at simple =
       row_under (act (act_of (body b.job.program) (operands_of progress.end) a)) at.look
       ∙ simple_row b lease.thread (expr_of b.job.program progress.end) (body b.job.program) (operands_of progress.end) a simple
-
-  pub row_none : stands_at_none (look_in b.job.program (expr_of b.job.program progress.end)) ≡ true → row_at b lease progress ≡ alone None
-  row_none h = no_row b lease.thread (expr_of b.job.program progress.end) (look_in b.job.program (expr_of b.job.program progress.end)) h
 
   pub row_stabilize : StandsAt b.job.program progress.end own.Stabilize → row_at b lease progress ≡ section_row (survivors b.history) lease.thread (mark (expr_of b.job.program progress.end))
   row_stabilize at = row_under (act (act_of (body b.job.program) (operands_of progress.end) own.Stabilize)) at.look

@@ -86,9 +86,6 @@ not_parked : (P : ControlView → Type 0) (c : ControlView) (b : Bool) → same_
 not_parked P c true h = absurd (cc)
 not_parked P c false h = absurd (cc)
 
-generation_none : (c : ControlView) (b : Bool) → (started c b).generation ≡ 0
-generation_none c b = refl
-
 at_one : (f : Slot ControlView → Bool) (slot : Slot ControlView) → length (numbers (λ t. option_map_or f (map.get (map.insert {R = nat_cmp} map.empty 1 slot) t) false) 2) ≡ (if f slot then 1 else 0)
 at_one f slot =
     let m : FinMap nat_cmp (Slot ControlView) = map.insert {R = nat_cmp} map.empty 1 slot in

@@ -20,15 +20,15 @@ use Rattle.stab_journal.specs.Journal.{IsLive, Journal, label_at}
 use Rattle.stab_journal.specs.Label.{written}
 use Rattle.stab_journal.specs.Names.{has, is_at, made}
 use Rattle.reach_line.specs.MarkList.{numbers}
-use Rattle.ref_log.specs.Calls.{IsAllowed, struck}
-use Rattle.ref_log.specs.Log.{Log, Write, has_write, without, writes_of}
+use Rattle.ref_log.specs.Calls.{struck}
+use Rattle.ref_log.specs.Log.{Write, has_write, without, writes_of}
 use Rattle.print_log.specs.Log.{Print, has_print, without as without_print}
 use Rattle.rendezvous.specs.Line.{nobody}
 use Rattle.plain_language.proofs.Applying.{contains_inserted}
 use Rattle.journal_laws.proofs.Applying.{or_false}
 use Rattle.commit_book.specs.declared.parts.Parts.{Parts}
 use Rattle.commit_book.specs.declared.rollback.Rollback.{Rollback}
-use Rattle.commit_book.specs.Striking.{AllAreStruck, AreStruck, MayStrike, MayStrikeAll, makes_any, makes_at, prints_at, writes_at}
+use Rattle.commit_book.specs.Striking.{AreStruck, MayStrike, MayStrikeAll, makes_any, makes_at, prints_at, writes_at}
 use Rattle.commit_book.proofs.UndoneMarks.{listed_is}
 use Rattle.commit_book.proofs.UndoneQueue.{all_apart}
 
@@ -85,12 +85,6 @@ module _ (old : Parts) (q : ℕ) (may : MayStrike old q) (l : Label) (label : la
   makes_so : (c : ℕ) → makes_at old.history.events q c ≡ is_at (made l) c
   makes_so c = ap (λ o. option_map_or (λ (k : Label). is_at (made k) c) o false) label
 
-  pub write_allowed : (log : Log) → log ≡ old.log → (r : ℕ) → is_at (written l) r ≡ true → IsAllowed (struck r q) log
-  write_allowed log same r at = subst (IsAllowed (struck r q)) (sym same) (may.writes r ∙ writes_so r ∙ at, may.above)
-
-  pub nobody_there : (c : ℕ) → is_at (made l) c ≡ true → map.get old.offers.lines c ≡ Some nobody
-  nobody_there c at = may.nobody c (makes_so c ∙ at)
-
   pub one_struck : (new : Parts) → new.history ≡ record old.history { struck = set.insert old.history.struck q } → ((r : ℕ) → writes_of new.log r ≡ cond (is_at (written l) r) (without q (writes_of old.log r)) (writes_of old.log r)) → new.log.last_cut ≡ old.log.last_cut
       → ((c : ℕ) → map.get new.offers.lines c ≡ cond (is_at (made l) c) None (map.get old.offers.lines c)) → new.offers.offers ≡ old.offers.offers → new.rollback ≡ old.rollback
       → new.printed.finals ≡ old.printed.finals → new.printed.recent ≡ cond (is_print l) (without_print q old.printed.recent) old.printed.recent
@@ -125,10 +119,6 @@ module _ (old : Parts) (q : ℕ) (may : MayStrike old q) (l : Label) (label : la
       or_no false = refl
 
 -- ---- one step more
-
-or_assoc : (a b c : Bool) → ((a || b) || c) ≡ (a || (b || c))
-or_assoc true b c = refl
-or_assoc false b c = refl
 
 left_more : (q : ℕ) (qs : List ℕ) (ws : List Write) → filter (λ (w : Write). not (has (q ∷ []) w.number)) (filter (λ (w : Write). not (has qs w.number)) ws) ≡ filter (λ (w : Write). not (has (q ∷ qs) w.number)) ws
 left_more q qs [] = refl
@@ -386,18 +376,3 @@ module _ (old now mid : Parts) (lost : List ℕ) (left rest : List Seq) (q : Seq
           or_no : (b : Bool) → b ≡ (b || false)
           or_no true = refl
           or_no false = refl
-
--- nothing is left
-pub all_struck : (old now : Parts) (lost : List ℕ) (removed : ℕ) → IsStriking old now lost (numbers now.rollback.lost.items) removed → now.rollback.lost.items ≡ [] → AllAreStruck old now lost removed
-all_struck old now lost removed so none = record {
-  qs = so.qs;
-  none_left = none;
-  struck = so.struck;
-  same = λ k. or_no (has so.qs k) ∙ ap (λ l. has so.qs k || has (numbers l) k) (sym none) ∙ so.parts k;
-  once = so.once;
-  count = so.count;
-}
-  where
-    or_no : (b : Bool) → b ≡ (b || false)
-    or_no true = refl
-    or_no false = refl

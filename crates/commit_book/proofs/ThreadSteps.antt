@@ -4,13 +4,10 @@ use Rattle.std.specs.Ordering.{nat_cmp}
 use Rattle.std.specs.FinMap as map
 use Rattle.std.specs.FinMap.{FinMap}
 use Rattle.stab_journal.specs.declared.event.Label.{Label}
-use Rattle.stab_journal.specs.Label.{touched}
 use Rattle.stab_journal.specs.Names.{is_at, made}
-use Rattle.thread_slots.specs.Slot.{Slot}
 use Rattle.rendezvous.specs.Line.{Lines}
 use Rattle.plain_language.specs.Steps.{State, Effect, apply, put_threads}
 use Rattle.plain_language.proofs.Applying.{get_inserted, put_channel-is}
-use Rattle.commit_book.specs.Threads.{stands, AreThreads}
 use Rattle.commit_book.specs.Channels.{AreChannels}
 
 -- where threads stand, once the first of these stands at a and the others at b
@@ -21,25 +18,6 @@ put_at (t ∷ ts) a b f q = cond (nat_eq q t) (Some a) (put_at ts b b f q)
 pub get-put_threads : {E : Type 0} (ts : List ℕ) (a b : E) (m : FinMap nat_cmp E) (q : ℕ) → map.get (put_threads ts a b m) q ≡ put_at ts a b (map.get m) q
 get-put_threads [] a b m q = refl
 get-put_threads (t ∷ ts) a b m q = get_inserted (put_threads ts b b m) t a q ∙ ap (cond (nat_eq q t) (Some a)) (get-put_threads ts b b m q)
-
--- the first function counts alone
-pub put_at-same : {E : Type 0} (ts : List ℕ) (a b : E) (f g : ℕ → Option E) (q : ℕ) → f q ≡ g q → put_at ts a b f q ≡ put_at ts a b g q
-put_at-same [] a b f g q same = same
-put_at-same (t ∷ ts) a b f g q same = ap (cond (nat_eq q t) (Some a)) (put_at-same ts b b f g q same)
-
-module _ {C E : Type 0} (expr : C → E) where
-  -- those that a step touches stand as its effect says, and the others as before
-  pub threads_step : (new : FinMap nat_cmp (Slot C)) (s : State E) (l : Label) (e : Effect E)
-      → ((t : ℕ) → stands expr new t ≡ put_at (touched l) e.mine e.other (map.get s.threads) t) → AreThreads expr new (apply s l e)
-  threads_step new s l e changed t = changed t ∙ sym (get-put_threads (touched l) e.mine e.other s.threads t)
-
-  -- two steps, one after the other
-  pub threads_steps : (new : FinMap nat_cmp (Slot C)) (s : State E) (l m : Label) (e f : Effect E)
-      → ((t : ℕ) → stands expr new t ≡ put_at (touched m) f.mine f.other (put_at (touched l) e.mine e.other (map.get s.threads)) t) → AreThreads expr new (apply (apply s l e) m f)
-  threads_steps new s l m e f changed t =
-      changed t
-      ∙ put_at-same (touched m) f.mine f.other _ _ t (sym (get-put_threads (touched l) e.mine e.other s.threads t))
-      ∙ sym (get-put_threads (touched m) f.mine f.other (apply s l e).threads t)
 
 module _ {E : Type 0} where
   -- a step adds the channel that it makes

@@ -27,7 +27,6 @@ use Rattle.journal_laws.proofs.Stepping.{both}
 use Rattle.commit_book.specs.Doing.{waits_with, offer_at}
 use Rattle.commit_book.specs.Offers.{AreOffers}
 use Rattle.commit_book.specs.Threads.{AreThreads}
-use Rattle.commit_book.proofs.Waiting.{get_removed}
 
 -- ---- threads withdraw
 
@@ -76,33 +75,6 @@ module _ (touched : ℕ → Bool) where
         once = λ c. subst (λ (l : Option Line). IfSome l (λ l. IsDistinct nat_eq l.sends × IsDistinct nat_eq l.receives)) (sym (is.lines c)) (once_withdrawn (map.get before.lines c) (shown.lines.once c));
       };
       one_side = λ c. subst (λ (l : Option Line). ((unwrap_or l nobody).sends ≡ []) ⊎ ((unwrap_or l nobody).receives ≡ [])) (sym (is.lines c)) (one_side_withdrawn (map.get before.lines c) (shown.one_side c));
-    }
-
--- ---- a channel is removed on which nobody waits
-
-cases_eq : {P : Type 0} (a b : ℕ) → (a ≡ b → P) → (nat_eq a b ≡ false → P) → P
-cases_eq {P} a b same other = elim (nat_eq a b) as (λ r. nat_eq a b ≡ r → P) [ true ↦ λ e. same (eqb-true a b e) | false ↦ λ e. other e ] refl
-
-pub offers_unmade : {C : Type 0} (offer_of : C → Option Offer) (threads : FinMap nat_cmp (Slot C)) (before after : Seen) (k : ℕ) → map.get before.lines k ≡ Some nobody → after.lines ≡ map.remove before.lines k → after.offers ≡ before.offers
-    → AreOffers offer_of threads before → AreOffers offer_of threads after
-offers_unmade offer_of threads before after k empty removed same shown =
-    let line : (c : ℕ) → map.get after.lines c ≡ cond (nat_eq c k) None (map.get before.lines c) = λ c. ap (λ m. map.get m c) removed ∙ get_removed before.lines k c in
-    let here : map.get after.lines k ≡ None = line k ∙ ap (λ b. cond b None (map.get before.lines k)) (nat_eq_equiv.refl k) in
-    let there : (c : ℕ) → nat_eq c k ≡ false → map.get after.lines c ≡ map.get before.lines c = λ c other. line c ∙ ap (λ b. cond b None (map.get before.lines c)) other in
-    record {
-      each = λ t. ap (λ m. map.get m t) same ∙ shown.each t;
-      lines = record {
-        backed = λ c t. subst (λ (o : Option Offer). LineBacked c t o (map.get after.lines c)) (sym (ap (λ m. map.get m t) same)) (cases_eq c k
-            (λ is. subst (λ d. LineBacked d t (map.get before.offers t) (map.get after.lines d)) (sym is) (subst (λ (l : Option Line). LineBacked k t (map.get before.offers t) l) (sym here) (
-            let b = subst (λ (l : Option Line). LineBacked k t (map.get before.offers t) l) empty (shown.lines.backed k t) in (sym b.0, sym b.1))))
-            (λ other. subst (λ (l : Option Line). LineBacked c t (map.get before.offers t) l) (sym (there c other)) (shown.lines.backed c t)));
-        once = λ c. cases_eq c k
-            (λ is. subst (λ d. IfSome (map.get after.lines d) (λ l. IsDistinct nat_eq l.sends × IsDistinct nat_eq l.receives)) (sym is) (subst (λ (l : Option Line). IfSome l (λ l. IsDistinct nat_eq l.sends × IsDistinct nat_eq l.receives)) (sym here) tt))
-            (λ other. subst (λ (l : Option Line). IfSome l (λ l. IsDistinct nat_eq l.sends × IsDistinct nat_eq l.receives)) (sym (there c other)) (shown.lines.once c));
-      };
-      one_side = λ c. cases_eq c k
-          (λ is. inl (ap (λ d. (unwrap_or (map.get after.lines d) nobody).sends) is ∙ ap (λ (l : Option Line). (unwrap_or l nobody).sends) here))
-          (λ other. subst (λ (l : Option Line). ((unwrap_or l nobody).sends ≡ []) ⊎ ((unwrap_or l nobody).receives ≡ [])) (sym (there c other)) (shown.one_side c));
     }
 
 -- ---- nobody waits on a channel that isn't there

@@ -88,10 +88,6 @@ module _ {E : Type 0} (effect : Table E) where
         ∙ ap (λ f. kept f (writes_in effect r (Some start) (run ++ n ∷ []))) (sym (floor_snoc 0 run n uncut));
   }
 
-  -- a step that writes nothing
-  pub no_write : (q : ℕ) (l : Label) (e : Effect E) (ws : List Write) (r : ℕ) → is_at (written l) r ≡ false → ws ≡ ws ++ write_now r q l e
-  no_write q l e ws r none = sym (ap (λ b. ws ++ cond b (record { number = q; value = e.value } ∷ []) []) none ∙ append-nil ws)
-
   one_read : (r : ℕ) (n : Numbered) (m : State E) (now : Option Write) (ws : List Write) (end : Option Datum) (v : Option Datum) → map.get m.references r ≡ v → is_some v ≡ true
       → ((now : Option Write) → value_in now ≡ map.get m.references r → value_in (last_or now ws) ≡ end)
       → value_in (last_or now (write_of n.seq.0 v ++ ws)) ≡ end

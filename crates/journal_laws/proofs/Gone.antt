@@ -1,5 +1,5 @@
--- A thread whose Spawn is marked loses all its steps; and what an Undo leaves of a journal.
-use Rattle.std.proofs.Common.{◌≡◌, ℕ, suc, Bool, true, false, cond, ◌||◌, nat_eq, List, [], ◌∷◌, ◌++◌, Some, refl, sym, ap, subst, ◌∙◌}
+-- Where a step stands beside one that touches the same thread; and what an Undo leaves of a journal.
+use Rattle.std.proofs.Common.{◌≡◌, ℕ, suc, Bool, true, false, cond, ◌||◌, nat_eq, List, [], ◌∷◌, ◌++◌, refl, sym, ap, ◌∙◌}
 use Rattle.std.specs.Ordering.{nat_cmp}
 use Rattle.std.specs.FinSet.{FinSet, contains}
 use Rattle.std.proofs.lemmas.Bool.{false≢true}
@@ -9,15 +9,12 @@ use Rattle.stab_journal.specs.declared.event.What.{What}
 use Rattle.stab_journal.specs.declared.event.What.TheVariants.{Step, Undo, Release}
 use Rattle.stab_journal.specs.declared.event.Event.{Event}
 use Rattle.stab_journal.specs.declared.event.Numbered.{Numbered}
-use Rattle.stab_journal.specs.Label.{actors, touched, spawned}
+use Rattle.stab_journal.specs.Label.{touched, spawned}
 use Rattle.stab_journal.specs.Journal.{step_at, survivors_from}
-use Rattle.plain_language.specs.Steps.{State, Table, after_steps}
 use Rattle.stab_journal.specs.Names.{has, is_at}
 use Rattle.stab_journal.specs.Reached.{rest}
-use Rattle.journal_laws.specs.Lines.{Marked, same, earlier, IsFromLine}
 use Rattle.journal_laws.proofs.Chains.{or_right}
 use Rattle.journal_laws.specs.Lines.{is_touched}
-use Rattle.journal_laws.proofs.FirstLost.{spawned_once}
 
 -- where f stands in a run, seen from e: later, the same, or before it
 pub data Order (u : ℕ) (before : List Numbered) (e : Numbered) (after : List Numbered) (f : Numbered) (rest : List Numbered) : Type 0 where
@@ -42,17 +39,6 @@ order u (k ∷ before) e after (l ∷ front) f rest at cut = deeper u k before e
 pub spawn_touches : (l : Label) (u : ℕ) → is_at (spawned l) u ≡ true → has (touched l) u ≡ true
 spawn_touches (Spawn t v) u h = elim (nat_eq u t.0) as (λ b. cond b true (cond (nat_eq u v.0) true false) ≡ true) [ true ↦ refl | false ↦ ap (λ b. cond b true false) h ]
 spawn_touches _ u h = absurd (false≢true h)
-
-module _ {E : Type 0} (effect : Table E) where
-  -- of a thread that a marked node spawned, each step is from its line
-  pub gone_steps : (run : List Numbered) (s end : State E) (m u : ℕ) (e : Numbered) (before after : List Numbered) → after_steps effect (Some s) run ≡ Some end → run ≡ before ++ e ∷ after → Marked run m e → is_at (spawned e.label) u ≡ true
-      → (front : List Numbered) (f : Numbered) (rest : List Numbered) → run ≡ front ++ f ∷ rest → has (actors f.label) u ≡ true → has (touched f.label) u ≡ true → IsFromLine run m f
-  gone_steps run s end m u e before after runs cut marked spawns front f rest there acts touches =
-      elim (order u before e after front f rest touches (sym cut ∙ there)) [
-        | (later between is) ↦ record { thread = u; acts = acts; line = record { node = e; marked = marked; touches = spawn_touches e.label u spawns; place = earlier before between rest f (cut ∙ ap (λ k. before ++ e ∷ k) is) } }
-        | (itself is) ↦ subst (λ (n : Numbered). IsFromLine run m n) is (record { thread = u; acts = subst (λ (n : Numbered). has (actors n.label) u ≡ true) (sym is) acts; line = record { node = e; marked = marked; touches = spawn_touches e.label u spawns; place = same before after cut } })
-        | (sooner h) ↦ absurd (spawned_once effect before (Some s) e after end u (ap (after_steps effect (Some s)) (sym cut) ∙ runs) (λ t is. or_right _ _ h) spawns)
-      ]
 
 rest_step : (gone : ℕ → Bool) (b : Bool) (q : ℕ) (w : What) (ns : List Numbered) → rest gone (cond b [] (step_at q w) ++ ns) ≡ cond (b || gone q) [] (step_at q w) ++ rest gone ns
 rest_step gone true q w ns = refl

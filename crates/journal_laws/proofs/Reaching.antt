@@ -1,5 +1,5 @@
 -- What is reached is closed under dependence, and none of it is below m.
-use Rattle.std.proofs.Common.{◌≡◌, ℕ, suc, ◌≤◌, ◌<◌, Bool, true, false, cond, ◌||◌, nat_eq, List, [], ◌∷◌, refl, sym, ap, ◌∙◌, arith}
+use Rattle.std.proofs.Common.{◌≡◌, ℕ, suc, ◌≤◌, ◌<◌, Bool, true, false, cond, nat_eq, List, [], ◌∷◌, refl, sym, ap, ◌∙◌, arith}
 use Rattle.std.specs.Cmp.{nat_eq_equiv}
 use Rattle.std.proofs.lemmas.Bool.{ne_eqb}
 use Rattle.stab_journal.specs.declared.event.Numbered.{Numbered}
@@ -70,13 +70,4 @@ rise_rest gone q (n ∷ ns) rise =
     elim (gone n.seq.0) as (λ b. RiseFrom q (cond b (rest gone ns) (n ∷ rest gone ns))) [
       | true ↦ rise_more (suc n.seq.0) (rest gone ns) q (omega (arith, rise.0)) (rise_rest gone (suc n.seq.0) ns rise.1)
       | false ↦ (rise.0, rise_rest gone (suc n.seq.0) ns rise.1)
-    ]
-
--- what stays after one loss and then another
-pub rest-rest : (gone more : ℕ → Bool) (ns : List Numbered) → rest more (rest gone ns) ≡ rest (λ k. gone k || more k) ns
-rest-rest gone more [] = refl
-rest-rest gone more (n ∷ ns) =
-    elim (gone n.seq.0) as (λ b. rest more (cond b (rest gone ns) (n ∷ rest gone ns)) ≡ cond (b || more n.seq.0) (rest (λ k. gone k || more k) ns) (n ∷ rest (λ k. gone k || more k) ns)) [
-      | true ↦ rest-rest gone more ns
-      | false ↦ ap (λ k. cond (more n.seq.0) k (n ∷ k)) (rest-rest gone more ns)
     ]

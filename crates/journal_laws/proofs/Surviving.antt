@@ -3,7 +3,6 @@ use Rattle.std.proofs.Common.{◌≡◌, ℕ, Bool, true, false, cond, ◌&&◌,
 use Rattle.std.specs.Ordering.{nat_cmp}
 use Rattle.std.specs.FinMap as map
 use Rattle.stab_base.specs.Datum.{Datum}
-use Rattle.stab_journal.specs.declared.event.Label.{Label}
 use Rattle.stab_journal.specs.declared.event.Numbered.{Numbered}
 use Rattle.stab_journal.specs.Label.{touched, written}
 use Rattle.plain_language.specs.Steps.{State, Effect, Table, allows, apply, put_value, effect_in, plain, after_steps}
@@ -25,10 +24,6 @@ module _ {E : Type 0} (effect : Table E) where
   pub no_steps : (ns : List Numbered) → after_steps effect None ns ≡ None
   no_steps [] = refl
   no_steps (n ∷ ns) = no_steps ns
-
-  lost_more : (b : Bool) (l : Label) (x : Lost) (t : ℕ) → x.threads t ≡ true → (after_step b l x).threads t ≡ true
-  lost_more true l x t h = or_right effect (has (touched l) t) (x.threads t) h
-  lost_more false l x t h = h
 
   module _ (gone : ℕ → Bool) where
     -- a step that goes is no step of the rest

@@ -1,22 +1,19 @@
 -- Marks that grow: what stays marked, and what is then closed.
-use Rattle.std.proofs.Common.{◌≡◌, ◌≢◌, ℕ, zero, suc, ◌+◌, ◌*◌, ◌<◌, ◌≤◌, Bool, true, false, cond, ◌||◌, nat_eq, List, [], ◌∷◌, ◌++◌, length, take, drop, reverse, map, filter, Option, Some, None, IsSome, refl, sym, ap, subst, ◌∙◌, arith, inl, inr, ◌⊎◌, eq-eqb, eqb-true, length-append}
-use Rattle.std.specs.List.{All, AllByRecursion, list_any, flat_map, slice_get}
-use Rattle.std.specs.Option.{option_to_list}
-use Rattle.std.proofs.lemmas.Bool.{cases_eq, cases_lt, cases_Bool}
-use Rattle.std.proofs.lemmas.Bool.Decides.{eqb_tells}
+use Rattle.std.proofs.Common.{◌≡◌, ℕ, zero, suc, ◌+◌, ◌<◌, ◌≤◌, Bool, true, false, cond, ◌||◌, nat_eq, List, [], ◌∷◌, ◌++◌, length, take, reverse, map, filter, Some, None, IsSome, refl, sym, ap, subst, ◌∙◌, arith, inl, inr, ◌⊎◌, eq-eqb, eqb-true, length-append}
+use Rattle.std.specs.List.{AllByRecursion, flat_map, slice_get}
+use Rattle.std.proofs.lemmas.Bool.{cases_Bool}
 use Rattle.std.proofs.lemmas.List.{reverse-append}
 use Rattle.std.proofs.lemmas.List.Elements.{recursion_from_All}
 use Rattle.stab_base.specs.declared.numbers.Seq.{Seq}
-use Rattle.comm_graph.specs.declared.node.NodeFor.{NodeFor}
 use Rattle.comm_graph.specs.declared.edges.Edges.{Edges}
 use Rattle.comm_graph.specs.Node.{Node, acts, touched, is_write, reads}
 use Rattle.comm_graph.specs.Edge.{next_of, readers_of, thread_ends, read_ends, from_number, ends_at, ends, kind_at, kind_of}
-use Rattle.comm_graph.specs.Left.{left_of, IsTurn, number_of}
+use Rattle.comm_graph.specs.Left.{left_of, IsTurn}
 use Rattle.reach_line.specs.Reached.{has, Reached}
 use Rattle.reach_line.specs.Reached.Reached.{itself, edge}
 use Rattle.reach_line.specs.MarkList.{MarkList, HasSpare}
-use Rattle.reach_line.specs.Progress.{IsSpread, IsPart, named, AreClosed, cost}
-use Rattle.reach_line.proofs.Marking.{apart, has_append, has_push}
+use Rattle.reach_line.specs.Progress.{IsPart, named, AreClosed, cost}
+use Rattle.reach_line.proofs.Marking.{has_append, has_push}
 
 clash : {X : Type 0} (b : Bool) → b ≡ true → b ≡ false → X
 clash b t f = absurd (cc)
@@ -141,10 +138,6 @@ has_self x xs = or_left (nat_eq x x) (has x xs) (eq-eqb x x refl)
 pub has_more : (x : ℕ) (xs ys : List ℕ) → has x xs ≡ true → has x (xs ++ ys) ≡ true
 has_more x xs ys h = has_append x xs ys ∙ or_left (has x xs) (has x ys) h
 
-all_in : (xs ys : List ℕ) → ((x : ℕ) → has x xs ≡ true → has x ys ≡ true) → AllByRecursion (λ x. has x ys ≡ true) xs
-all_in [] ys f = tt
-all_in (x ∷ xs) ys f = (f x (has_self x xs), all_in xs ys (λ y h. f y (or_right (nat_eq y x) (has y xs) h)))
-
 append_assoc_cons : (xs ys : List ℕ) (x : ℕ) → xs ++ (x ∷ ys) ≡ (xs ++ x ∷ []) ++ ys
 append_assoc_cons [] ys x = refl
 append_assoc_cons (y ∷ xs) ys x = ap (λ r. y ∷ r) (append_assoc_cons xs ys x)
@@ -152,10 +145,6 @@ append_assoc_cons (y ∷ xs) ys x = ap (λ r. y ∷ r) (append_assoc_cons xs ys 
 append_twice : (xs ys zs : List ℕ) → (xs ++ ys) ++ zs ≡ xs ++ (ys ++ zs)
 append_twice [] ys zs = refl
 append_twice (x ∷ xs) ys zs = ap (λ r. x ∷ r) (append_twice xs ys zs)
-
-append_none : (xs : List ℕ) → xs ++ [] ≡ xs
-append_none [] = refl
-append_none (x ∷ xs) = ap (λ r. x ∷ r) (append_none xs)
 
 -- one end more is marked
 pub part_more : (ends left : List ℕ) (before mid after : MarkList) (start steps steps' x : ℕ) → IsPart ends (x ∷ left) before mid start steps → after ≡ record mid { nodes = cond (has x mid.nodes) mid.nodes (mid.nodes ++ x ∷ []) } → steps' ≡ steps + 1 → IsPart ends left before after start steps'

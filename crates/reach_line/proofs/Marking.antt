@@ -1,8 +1,8 @@
 -- The table of marks after one more and after one less.
-use Rattle.std.proofs.Common.{◌≡◌, ◌≢◌, ℕ, zero, suc, ◌+◌, ◌-◌, ◌<◌, ◌≤◌, Bool, true, false, not, cond, ◌||◌, nat_eq, List, [], ◌∷◌, ◌++◌, length, get_or, map, refl, sym, ap, subst, ◌∙◌, arith, inl, inr, eq-eqb, length-append, get_or-set_same, get_or-set_other}
-use Rattle.std.specs.List.{AllByRecursion, list_any, slice_set, count_by}
+use Rattle.std.proofs.Common.{◌≡◌, ◌≢◌, ℕ, suc, ◌+◌, ◌-◌, ◌<◌, ◌≤◌, Bool, true, false, cond, ◌||◌, nat_eq, List, [], ◌∷◌, ◌++◌, length, get_or, refl, sym, ap, subst, ◌∙◌, arith, inl, inr, eq-eqb, length-append, get_or-set_same, get_or-set_other}
+use Rattle.std.specs.List.{AllByRecursion, slice_set, count_by}
 use Rattle.std.proofs.Math.ListN.{length-set}
-use Rattle.std.proofs.lemmas.Bool.{cases_eq, cases_lt, cases_Bool}
+use Rattle.std.proofs.lemmas.Bool.{cases_eq, cases_Bool}
 use Rattle.std.proofs.lemmas.Bool.Decides.{eqb_tells}
 use Rattle.std.proofs.lemmas.List.Sums.{count_by-le-length, sum_by-set}
 use Rattle.stab_base.specs.declared.numbers.Seq.{Seq}
@@ -127,10 +127,6 @@ kept_less qs lowest q seen capacity more k le =
 -- the last mark is within the room
 pub last_within : (qs : List ℕ) (lowest q : ℕ) (seen : List Bool) (capacity : ℕ) → IsKept (qs ++ q ∷ []) lowest seen capacity → (lowest ≤ q) × (q < lowest + length seen)
 last_within qs lowest q seen capacity k = all_last (λ p. (lowest ≤ p) × (p < lowest + length seen)) qs q k.within
-
-pub unnot : (b : Bool) → not b ≡ true → b ≡ false
-unnot true h = absurd (cc)
-unnot false h = refl
 
 -- where nothing is marked, the room may begin anywhere
 pub kept_moved : (qs : List ℕ) (lowest lowest' : ℕ) (seen : List Bool) (capacity : ℕ) → qs ≡ [] → IsKept qs lowest seen capacity → IsKept qs lowest' seen capacity

@@ -1,17 +1,16 @@
 -- A cut, entry by entry.
-use Rattle.std.proofs.Common.{◌≡◌, ℕ, zero, suc, ◌+◌, ◌<◌, ◌≤◌, Bool, true, false, cond, not, ◌&&◌, ◌||◌, nat_lt, List, [], ◌∷◌, ◌++◌, length, take, drop, Option, Some, None, slice_get, refl, sym, ap, subst, ◌∙◌, arith, add-one, drop-cons, append_assoc, append-nil}
+use Rattle.std.proofs.Common.{◌≡◌, ℕ, zero, suc, ◌+◌, ◌<◌, ◌≤◌, Bool, true, false, cond, not, ◌&&◌, ◌||◌, nat_lt, List, [], ◌∷◌, ◌++◌, length, take, drop, refl, sym, ap, subst, ◌∙◌, arith, add-one, drop-cons, append_assoc, append-nil}
 use Rattle.std.specs.List.{slice_index_or, slice_set, AllByRecursion}
 use Rattle.std.proofs.Math.Seq.{take-suc, take-append_seam}
 use Rattle.std.proofs.lemmas.Bool.Decides.{nat_tests}
-use Rattle.std.proofs.lemmas.List.{take_all, take-set-le, drop-set-lt, take-append-drop}
+use Rattle.std.proofs.lemmas.List.{take-set-le, drop-set-lt, take-append-drop}
 use Rattle.std.proofs.lemmas.List.Folds.{list_any-append}
 use Rattle.ref_log.specs.declared.places.Recent.{Recent}
 use Rattle.ref_log.specs.declared.places.Reference.{Reference}
 use Rattle.ref_log.specs.Log.{Write, has_below, kept, IsRising}
-use Rattle.ref_log.specs.Layout.{is_live, write_of, of_reference, settled_writes, settled_of, settled_at, head_at, held, IsLinked}
+use Rattle.ref_log.specs.Layout.{is_live, write_of, of_reference, settled_at, IsLinked}
 use Rattle.ref_log.specs.Moved.{IsCutSoFar}
 use Rattle.ref_log.proofs.Recent.{of_reference-append, of_reference-push}
-use Rattle.ref_log.proofs.Links.{linked-none}
 
 -- a slice that was lent comes back
 pub refilled : {A : Type 0} (n : ℕ) (xs ys : List A) → n ≡ length xs → take n (xs ++ ys) ≡ xs
@@ -77,23 +76,6 @@ rising-below (v ∷ ws) w vs rising = (last-of-all (λ u. v.number < u.number) w
 none-between : (n q : ℕ) (ws : List Write) → n < q → AllByRecursion (λ w. w.number < n) ws → AllByRecursion (λ w. q ≤ w.number) ws → ws ≡ []
 none-between n q [] low below above = refl
 none-between n q (w ∷ ws) low below above = absurd (omega (arith, below.0, above.0))
-
-one_kept : (q : ℕ) (o : Option Reference) → settled_of o ++ [] ≡ kept q (settled_of o ++ [])
-one_kept q None = refl
-one_kept q (Some x) = elim x.settled as (λ w. settled_writes w ++ [] ≡ kept q (settled_writes w ++ [])) [ None ↦ refl | Some w ↦ refl ]
-
--- nothing is cut yet
-pub cut-start : (q : ℕ) (xs : List Reference) (es : List Recent) → ((s : ℕ) → head_at xs s ≡ 0) → ((s : ℕ) → AllByRecursion (λ w. w.number ≤ q) (settled_at xs s)) → IsCutSoFar q xs es 0 0 xs es
-cut-start q xs es heads settled = record {
-  few = omega arith;
-  writes = λ s. one_kept q (slice_get xs s);
-  above = λ s. tt;
-  settled = settled;
-  linked = linked-none xs heads;
-  rest = refl;
-  long = refl;
-  places = refl;
-}
 
 lt_is : (a b : ℕ) → nat_lt a b ≡ true → a < b
 lt_is a b h = grind (arith, nat_tests)
@@ -231,7 +213,3 @@ module _ (q : ℕ) (xs₀ : List Reference) (es₀ : List Recent) (i stay : ℕ)
       long = long ∙ so.long;
       places = places ∙ so.places;
     }
-
--- all is cut
-pub cut-end : (q : ℕ) (xs₀ : List Reference) (es₀ : List Recent) (i stay : ℕ) (xs : List Reference) (es : List Recent) → IsCutSoFar q xs₀ es₀ i stay xs es → length es₀ ≤ i → (s : ℕ) → held xs (take stay es) s ≡ kept q (held xs₀ es₀ s)
-cut-end q xs₀ es₀ i stay xs es so all s = so.writes s ∙ ap (λ ys. kept q (settled_at xs₀ s ++ of_reference s ys)) (take_all i es₀ all)

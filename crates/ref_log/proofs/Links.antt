@@ -1,5 +1,5 @@
 -- The places that references and writes keep, before and after a change.
-use Rattle.std.proofs.Common.{◌≡◌, ◌⊎◌, inl, inr, ℕ, zero, suc, ◌+◌, ◌-◌, ◌<◌, ◌≤◌, Bool, true, false, cond, not, ◌&&◌, nat_eq, List, [], ◌∷◌, ◌++◌, length, take, Some, slice_get, refl, sym, ap, subst, ◌∙◌, arith}
+use Rattle.std.proofs.Common.{◌≡◌, ◌⊎◌, inl, inr, ℕ, zero, suc, ◌+◌, ◌-◌, ◌<◌, Bool, true, false, cond, not, ◌&&◌, nat_eq, List, [], ◌∷◌, ◌++◌, length, take, Some, slice_get, refl, sym, ap, subst, ◌∙◌, arith}
 use Rattle.std.specs.List.{slice_index_or, slice_set, AllByRecursion}
 use Rattle.std.proofs.Math.Seq.{get_or-append_seam, take-append_seam}
 use Rattle.std.proofs.lemmas.Bool.Decides.{nat_tests}
@@ -25,12 +25,6 @@ at-set (x ∷ xs) zero y zero h = refl
 at-set (x ∷ xs) zero y (suc s) h = ap (λ b. cond b (Some y) (slice_get xs s)) (sym (zero_apart s))
 at-set (x ∷ xs) (suc r) y zero h = ap (λ b. cond b (Some y) (Some x)) (sym (apart_zero r))
 at-set (x ∷ xs) (suc r) y (suc s) h = at-set xs r y s (omega arith) ∙ ap (λ b. cond b (Some y) (slice_get xs s)) (sym (next_same r s))
-
-pub take-take : {A : Type 0} (n m : ℕ) (xs : List A) → n ≤ m → take n (take m xs) ≡ take n xs
-take-take zero m xs h = refl
-take-take (suc n) zero xs h = absurd (omega arith)
-take-take (suc n) (suc m) [] h = refl
-take-take (suc n) (suc m) (x ∷ xs) h = ap (λ ys. x ∷ ys) (take-take n m xs (omega arith))
 
 before_or_last : (i n : ℕ) → i < n + 1 → (i < n) ⊎ (i ≡ n)
 before_or_last i n h = grind arith

@@ -107,12 +107,6 @@ place-take r [] (suc n) h = refl
 place-take r (e ∷ es) zero h = sym (zero_only _ h)
 place-take r (e ∷ es) (suc n) h = ap (place_with (is_of r e)) (place-take r es n (less_by (is_of r e) (last_place r es) n h))
 
-pub writes-take : (r : ℕ) (es : List Recent) (n : ℕ) → last_place r es ≤ n → of_reference r (take n es) ≡ of_reference r es
-writes-take r [] zero h = refl
-writes-take r [] (suc n) h = refl
-writes-take r (e ∷ es) zero h = sym (none_there r (e ∷ es) (zero_only _ h))
-writes-take r (e ∷ es) (suc n) h = ap (λ ws. cond (is_live r e) (write_of e ∷ []) [] ++ ws) (writes-take r es n (less_by (is_of r e) (last_place r es) n h))
-
 -- another entry in its place
 pub same-writes : (s : ℕ) (es : List Recent) (k : ℕ) (h : Recent) → cond (is_live s h) (write_of h ∷ []) [] ≡ (let e = slice_index_or es k h in cond (is_live s e) (write_of e ∷ []) []) → of_reference s (slice_set es k h) ≡ of_reference s es
 same-writes s [] k h same = refl

@@ -1,5 +1,5 @@
 -- The places after a write was struck or became a hole.
-use Rattle.std.proofs.Common.{◌≡◌, ◌⊎◌, ℕ, zero, suc, ◌-◌, ◌<◌, ◌≤◌, Bool, true, false, cond, not, ◌&&◌, nat_eq, List, [], ◌∷◌, ◌++◌, length, take, Option, Some, None, slice_get, option_to_list, refl, sym, ap, subst, ◌∙◌, arith, append-nil}
+use Rattle.std.proofs.Common.{◌≡◌, ℕ, zero, suc, ◌-◌, ◌<◌, ◌≤◌, Bool, true, false, cond, not, ◌&&◌, nat_eq, List, [], ◌∷◌, ◌++◌, length, take, Option, Some, None, slice_get, option_to_list, refl, sym, ap, subst, ◌∙◌, arith, append-nil}
 use Rattle.std.specs.List.{slice_index_or, slice_set, AllByRecursion}
 use Rattle.std.proofs.lemmas.Bool.Decides.{nat_tests}
 use Rattle.std.proofs.lemmas.Bool.{eqb-true}
@@ -35,9 +35,6 @@ is_of-other r s e here apart = other_by e.reference.0 e.number.0 r s (is_of-refe
 
 zero_is : (n : ℕ) → n ≡ 0 → nat_eq n 0 ≡ true
 zero_is n e = grind (arith, nat_tests)
-
-apart_sides : (a b : ℕ) → (a ≡ b → ⊥) → (a < b) ⊎ (b < a)
-apart_sides a b h = grind arith
 
 pub same_is : (n : ℕ) → nat_eq n n ≡ true
 same_is n = grind (arith, nat_tests)

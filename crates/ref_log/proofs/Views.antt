@@ -143,10 +143,6 @@ pub struck-held : (n q : ℕ) (b : Bool) (ws vs : List Write) → AllByRecursion
 struck-held n q true ws vs low high = sym (filter-append (λ w. not (nat_eq q w.number)) ws vs ∙ ap (λ us. us ++ without q vs) (without_low n q ws low high))
 struck-held n q false ws vs low high = refl
 
-pub all-more : (n m : ℕ) (ws : List Write) → AllByRecursion (λ w. w.number ≤ n) ws → n ≤ m → AllByRecursion (λ w. w.number ≤ m) ws
-all-more n m [] all h = tt
-all-more n m (w ∷ ws) all h = (omega (arith, all.0), all-more n m ws all.1 h)
-
 -- one more write of one reference
 pub written-held : (b : Bool) (ws vs : List Write) (w : Write) → ws ++ (vs ++ cond b (w ∷ []) []) ≡ cond b ((ws ++ vs) ++ w ∷ []) (ws ++ vs)
 written-held true ws vs w = sym (append_assoc ws vs (w ∷ []))

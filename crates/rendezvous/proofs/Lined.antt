@@ -1,9 +1,8 @@
 -- How what stands behind the lines changes.
-use Rattle.std.proofs.Common.{◌≡◌, ◌≢◌, ℕ, zero, suc, ◌+◌, ◌*◌, ◌≤◌, ◌<◌, map, Bool, true, false, cond, not, ◌&&◌, ◌||◌, nat_eq, List, [], ◌∷◌, ◌++◌, length, get_or, set, Option, Some, None, IsSome, IfSome, option_map, is_some, Result, Ok, Err, OnErr, refl, sym, ap, ◌∙◌, subst, arith}
-use Rattle.std.specs.List.{IsDistinct, list_any}
+use Rattle.std.proofs.Common.{◌≡◌, ℕ, zero, suc, ◌+◌, ◌*◌, ◌≤◌, ◌<◌, map, Bool, true, false, cond, not, ◌&&◌, ◌||◌, nat_eq, List, [], ◌∷◌, ◌++◌, length, get_or, Option, Some, None, IsSome, IfSome, option_map, is_some, Result, Ok, Err, OnErr, refl, sym, ap, ◌∙◌, subst, arith}
+use Rattle.std.specs.List.{IsDistinct}
 use Rattle.std.specs.Cmp.{nat_eq_equiv}
-use Rattle.std.specs.Ordering.{nat_cmp}
-use Rattle.std.specs.FinMap.{FinMap, get, empty, get-empty}
+use Rattle.std.specs.FinMap.{get, empty}
 use Rattle.std.proofs.lemmas.Bool.Decides.{nat_tests}
 use Rattle.std.proofs.lemmas.List.{append-nil}
 use Rattle.std.proofs.lemmas.List.Folds.{list_any-append}
@@ -14,7 +13,7 @@ use Rattle.rendezvous.specs.declared.offer.Offer.{Offer}
 use Rattle.rendezvous.specs.declared.offer.Side.{Side}
 use Rattle.rendezvous.specs.declared.offer.Side.TheVariants as side
 use Rattle.rendezvous.specs.Offer.{sends_on, receives_on}
-use Rattle.rendezvous.specs.Line.{Line, Lines, nobody, waiting, joined, left, offered, LineBacked, HasNoOffer, Absent, IsSound}
+use Rattle.rendezvous.specs.Line.{Line, Lines, nobody, waiting, joined, left, LineBacked, HasNoOffer, Absent, IsSound}
 use Rattle.rendezvous.specs.Line as line
 use Rattle.rendezvous.specs.Nodes.{thread_of, line_at, IsAway, AreListed}
 use Rattle.linked_lists.specs.Numbered.{by_number}
@@ -100,20 +99,6 @@ module _ {channels : List Bool} {offers : List (Option Offer)} {lists : Seen} (i
       let made : get_or channels c false ≡ true = sym (made_at (get_or channels c false) (line_at lists.lists c)) ∙ ap is_some (sym (get-lines channels lists.lists c) ∙ ap (λ m. get m c) seen) ∙ there in
       let low : c < length channels = within channels c made in
       (omega (arith, is.many), ap (λ b. cond b (Some (line_at lists.lists c)) None) made)
-
-  -- room for more channels, or for more threads
-  pub Backed-channels : (channels' : List Bool) (lists' : Seen) → ((c : ℕ) → get_or channels' c false ≡ get_or channels c false) → ((h : ℕ) → list_at lists'.lists h ≡ list_at lists.lists h) → length lists'.lists ≡ 2 * length channels' → lists'.places ≡ lists.places → Backed channels' offers lists'
-  Backed-channels channels' lists' there lines many places =
-      let same : (c : ℕ) → line_at lists'.lists c ≡ line_at lists.lists c = λ c. same_line (ap (map thread_of) (lines (2 * c))) (ap (map thread_of) (lines (2 * c + 1))) in
-      record {
-        many = many;
-        nodes = places ∙ is.nodes;
-        few = is.few;
-        nought = λ h. ap (is_listed 0) (lines h) ∙ is.nought h;
-        unmade = λ c no. same c ∙ is.unmade c (sym (there c) ∙ no);
-        backed = λ c t. subst (OnLine c t (get_or offers t None)) (sym (same c)) (is.backed c t);
-        once = λ c. subst (λ (l : Line). IsDistinct nat_eq l.sends × IsDistinct nat_eq l.receives) (sym (same c)) (is.once c);
-      }
 
   pub Backed-threads : (offers' : List (Option Offer)) (lists' : Seen) → ((t : ℕ) → get_or offers' t None ≡ get_or offers t None) → lists'.lists ≡ lists.lists → lists'.places ≡ 2 * length offers' → length offers' ≤ 4294967296 → Backed channels offers' lists'
   Backed-threads offers' lists' same lines nodes few =

@@ -1,5 +1,5 @@
 -- The nodes of a thread, and the lines that linked lists of nodes make.
-use Rattle.std.proofs.Common.{◌≡◌, ◌≢◌, ℕ, zero, suc, ◌+◌, ◌-◌, ◌*◌, ◌/◌, ◌<◌, ◌≤◌, Bool, true, false, cond, not, ◌&&◌, ◌||◌, ◌⊎◌, inl, inr, nat_eq, List, [], ◌∷◌, ◌++◌, length, map, Option, Some, None, option_map, slice_get, refl, sym, ap, ◌∙◌, subst, arith}
+use Rattle.std.proofs.Common.{◌≡◌, ◌≢◌, ℕ, zero, suc, ◌+◌, ◌-◌, ◌*◌, ◌/◌, ◌<◌, Bool, true, false, cond, not, ◌&&◌, ◌||◌, ◌⊎◌, inl, inr, nat_eq, List, [], ◌∷◌, map, option_map, slice_get, refl, sym, ap, ◌∙◌, arith}
 use Rattle.std.proofs.lemmas.Bool.Decides.{Decides-eqb, nat_tests}
 use Rattle.std.proofs.Math.ListN.{get_or-map}
 use Rattle.linked_lists.specs.Lists.{is_listed, list_at, without, StandsNowhere}
@@ -73,10 +73,6 @@ waiting_is side.Recv lists c = refl
 pub first-map : (list : List ℕ) → slice_get (map thread_of list) 0 ≡ option_map thread_of (slice_get list 0)
 first-map [] = refl
 first-map (x ∷ list) = refl
-
-pub number_below : (s : Side) (c n : ℕ) → 2 * c + 1 < n → list_number s c < n
-number_below side.Send c n low = omega arith
-number_below side.Recv c n low = low
 
 -- ---- a thread leaves
 

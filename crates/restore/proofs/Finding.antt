@@ -61,9 +61,6 @@ none_more : (lines : Table) (n : ℕ) → count_by (λ (o : Option Line). is_som
 none_more lines n =
     sym (length-filter (λ (o : Option Line). is_some o) (lines ++ replicate n None)) ∙ ap length (none_found_more lines n) ∙ length-filter (λ (o : Option Line). is_some o) lines
 
-apart : (a b : ℕ) → a ≢ b → nat_eq a b ≡ false
-apart a b other = grind (arith, nat_tests)
-
 flipped : (a b : ℕ) → nat_eq a b ≡ false → nat_eq b a ≡ false
 flipped a b e = grind (arith, nat_tests)
 
@@ -199,10 +196,6 @@ module _ (lines : Table) where
     count = is.count ∙ sym (ap (λ l. count_by (λ (o : Option Line). is_some o) (l ++ replicate (n - length lines) None)) (take_all n lines le) ∙ none_more lines (n - length lines));
     spare = (let a = length-append (take n lines) (replicate {A = Option Line} (n - length lines) None) in let b = length-replicate {A = Option Line} (n - length lines) None in let c : length (take n lines) ≡ length lines = ap length (take_all n lines le) in omega arith);
   }
-
-  -- with as much memory or more
-  pub found_within : (touched : List ℕ) (capacity more : ℕ) → capacity ≤ more → IsFound lines touched capacity → IsFound lines touched more
-  found_within touched capacity more le is = record { once = is.once; listed = is.listed; count = is.count; spare = (let r = is.spare in omega arith) }
 
   -- the same, from what the calls leave
   pub found_reserved : (new : Table) (ts us : List ThreadId) (capacity more n k : ℕ) → k ≡ length lines → length lines ≤ n → n ≤ more → us ≡ ts → new ≡ take n lines ++ replicate (n - k) None → IsFound lines (numbers ts) capacity → IsFound new (numbers us) more

@@ -13,9 +13,6 @@ use Rattle.stab_journal.specs.View.{entry_with, struck_from, journal_of}
 use Rattle.stab_journal.proofs.Events.{AreEvents-at}
 use Rattle.stab_journal.proofs.Entries.{contains-struck}
 
-event_of : Entry → Event
-event_of e = e.event
-
 pub event_at-map : (es : List Entry) (q : ℕ) → event_at (map (λ (e : Entry). e.event) es) q ≡ option_map (λ (e : Entry). e.event) (entry_with es q)
 event_at-map es zero = refl
 event_at-map es (suc i) = slice_get-map (λ (e : Entry). e.event) es i

@@ -41,9 +41,6 @@ each_from j q (e ∷ es) there =
     (ap (label_at j.events) (sym (add-zero q)) ∙ there 0)
     (each_from j (suc q) es (λ i. ap (label_at j.events) (sym (next_place q i)) ∙ there (suc i)))
 
-is_at : ℕ → Numbered → Bool
-is_at q n = nat_eq n.seq.0 q
-
 -- each live step is among them
 every_first : (b : Bool) (q : ℕ) (w : What) (ns : List Numbered) → b ≡ false → IsSome (label_of w) → list_any (λ (n : Numbered). nat_eq n.seq.0 (q + 0)) (cond b [] (step_at q w) ++ ns) ≡ true
 every_first true q w ns kept step = cc

@@ -1,16 +1,15 @@
 -- The pieces that were read so far, and one more.
-use Rattle.std.proofs.Common.{◌≡◌, ℕ, ◌+◌, ◌<◌, None, Option, List, [], ◌∷◌, ◌++◌, length, refl, sym, ap, ◌∙◌, arith, subst, append_assoc, append-nil, add-zero, zero-add, length-append, IsUtf8}
+use Rattle.std.proofs.Common.{◌≡◌, ℕ, ◌+◌, ◌<◌, None, Option, List, [], ◌∷◌, ◌++◌, length, refl, sym, ap, ◌∙◌, arith, subst, append_assoc, append-nil, add-zero, zero-add, IsUtf8}
 use Rattle.std.specs.List.{slice_get}
 use Rattle.std.specs.Str.{chars}
 use Rattle.std.proofs.lemmas.Bool.{false≢true}
 use Rattle.stab_lex.specs.declared.kind.Kind.{Kind}
 use Rattle.stab_lex.specs.declared.token.Token.{Token}
-use Rattle.stab_lex.specs.declared.token.LexFault.{LexFault}
 use Rattle.stab_lex.specs.Place.{Place, Leads, byte_len}
 use Rattle.stab_lex.specs.Pieces.{Piece, Blank, Comment, Word, Numeral, Quoted, Mark, spelling, Stands}
-use Rattle.stab_lex.specs.Readings.{spellings, AllStand, token_of, token_at, tokens_at, Reads, fault_at, IsBlocked, Passes, Meets}
+use Rattle.stab_lex.specs.Readings.{spellings, AllStand, token_of, token_at, tokens_at, Reads, Passes}
 use Rattle.stab_lex.proofs.Lengths.{byte_len-append}
-use Rattle.stab_lex.proofs.Ways.{Leads-none, Leads-append}
+use Rattle.stab_lex.proofs.Ways.{Leads-append}
 
 pub spellings-append : (ps qs : List Piece) → spellings (ps ++ qs) ≡ spellings ps ++ spellings qs
 spellings-append [] qs = refl
@@ -44,9 +43,6 @@ pub record ReadTo (text : List ℕ) (place : Place) (tokens : List Token) : Type
   pub stand : AllStand pieces place.rest
   pub tokens_are : tokens ≡ tokens_at 0 pieces
 
-pub ReadTo-none : (text : List ℕ) → ReadTo text (start_of text) []
-ReadTo-none text = record { pieces = []; way = Leads-none (start_of text); stand = tt; tokens_are = refl }
-
 pub ReadTo-more : {text : List ℕ} {old new : Place} {tokens more : List Token} {kind : Option Kind} → ReadTo text old tokens → Passes kind old new → more ≡ tokens ++ token_of kind old.at new.at → ReadTo text new more
 ReadTo-more {text} {old} {new} {tokens} {more} {kind} read passes grows =
     let ps = read.pieces in
@@ -78,20 +74,6 @@ reads_all {text} {place} {tokens} utf8 read ends =
     nothing_left [] e = refl
     nothing_left (c ∷ cs) e = absurd (cc)
 
-pub is_blocked : {text : List ℕ} {place : Place} {tokens : List Token} {fault : LexFault} → IsUtf8 text → ReadTo text place tokens → Meets fault place → IsBlocked text fault
-is_blocked {text} {place} {tokens} {fault} utf8 read meets =
-    let here : place.at ≡ byte_len (spellings read.pieces) = omega (arith, read.way.at) in
-    record {
-      utf8 = utf8;
-      pieces = read.pieces;
-      obstacle = meets.obstacle;
-      after = meets.after;
-      text = read.way.text ∙ ap (λ r. spellings read.pieces ++ r) meets.text;
-      stand = subst (AllStand read.pieces) meets.text read.stand;
-      blocks = meets.blocks;
-      fault_is = meets.fault_is ∙ ap (λ at. fault_at at meets.obstacle) here;
-    }
-
 -- no piece is empty
 pub some_spelling : (p : Piece) (after : List ℕ) → Stands p after → 0 < length (spelling p)
 some_spelling (Blank c) after stands = omega arith
@@ -103,7 +85,3 @@ some_spelling (Numeral (d ∷ ds)) after stands = omega arith
 some_spelling (Quoted cs) after stands = omega arith
 some_spelling (Mark []) after stands = absurd (false≢true stands.0)
 some_spelling (Mark (c ∷ cs)) after stands = omega arith
-
-pub Passes-shorter : {kind : Option Kind} {old new : Place} → Passes kind old new → length new.rest < length old.rest
-Passes-shorter {kind} {old} {new} passes =
-    omega (arith, some_spelling passes.piece new.rest passes.stands, ap length passes.way.text, length-append (spelling passes.piece) new.rest)

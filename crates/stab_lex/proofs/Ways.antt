@@ -26,9 +26,6 @@ pub record Run (test : ℕ → Bool) (old new : Place) : Type 0 where
   pub way : Leads passed old new
   pub pass : Pass test passed
 
-pub Run-none : (test : ℕ → Bool) (p : Place) → Run test p p
-Run-none test p = record { passed = []; way = Leads-none p; pass = tt }
-
 pub Run-more : {test : ℕ → Bool} {a b c : Place} {x : ℕ} → Run test a b → Leads (x ∷ []) b c → IsTrue (test x) → Run test a c
 Run-more {test} {a} {b} {c} {x} run step passes = record {
   passed = run.passed ++ x ∷ [];

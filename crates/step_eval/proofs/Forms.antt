@@ -1,7 +1,6 @@
 -- What a node's form stands for when it is begun.
-use Rattle.std.proofs.Common.{◌≡◌, ℕ, ◌<◌, List, length, slice_get, Some, refl, ap, sym, ◌∙◌, subst, ℤ, Bool, arith}
+use Rattle.std.proofs.Common.{◌≡◌, ℕ, ◌<◌, List, length, slice_get, Some, refl, ap, sym, ◌∙◌, subst, arith}
 use Rattle.stab_base.specs.Datum.{Datum}
-use Rattle.stab_base.specs.declared.numbers.TextId.{TextId}
 use Rattle.stab_code.specs.declared.head.Head as code
 use Rattle.stab_code.specs.declared.head.Head.TheVariants.{Unit, Truth, Int, Text, Var}
 use Rattle.stab_code.specs.declared.node_id.NodeId.{NodeId}
@@ -24,14 +23,6 @@ form_of-head (Int n) ps is = elim is [ ]
 form_of-head (Text t) ps is = elim is [ ]
 form_of-head (Var x) ps is = elim is [ ]
 form_of-head _ ps is = refl
-
-pub form_otherwise : (h : code.Head) → (h ≡ Unit → ⊥) → ((b : Bool) → h ≡ Truth b → ⊥) → ((n : ℤ) → h ≡ Int n → ⊥) → ((t : TextId) → h ≡ Text t → ⊥) → ((x : ℕ) → h ≡ Var x → ⊥) → IsForm h
-form_otherwise Unit u b n t v = absurd (u refl)
-form_otherwise (Truth a) u b n t v = absurd (b a refl)
-form_otherwise (Int k) u b n t v = absurd (n k refl)
-form_otherwise (Text k) u b n t v = absurd (t k refl)
-form_otherwise (Var x) u b n t v = absurd (v x refl)
-form_otherwise _ u b n t v = tt
 
 -- the head of a node, as it was matched
 pub head-is : (p : ProgramParts) (n : NodeId) (node : NodeParts) (head h : code.Head) → node ≡ node_at p n → head ≡ node.head → head ≡ h → (node_at p n).head ≡ h

@@ -6,7 +6,7 @@ use Rattle.stab_code.specs.declared.head.Head.TheVariants.{Unit, Block}
 use Rattle.stab_code.specs.declared.node_id.NodeId.{NodeId}
 use Rattle.stab_code.specs.Nodes.{NodeParts, node_of}
 use Rattle.stab_code.specs.Program.{ProgramParts, tree_at, trees_at}
-use Rattle.stab_code.specs.Trees.{tree, fold, fold_all}
+use Rattle.stab_code.specs.Trees.{tree}
 use Rattle.stab_code.specs.Valid.{IsValid, parts_of}
 use Rattle.stab_code.proofs.InOrder as order
 use Rattle.stab_code.proofs.Lists.{All-at}
@@ -16,12 +16,6 @@ use Rattle.step_eval.specs.Fits.{tree_left}
 pub left_of-zero : (h : Head) → left_of 0 h ≡ h
 left_of-zero (Block slots) = refl
 left_of-zero _ = refl
-
--- what the trees of nodes make, one by one
-pub fold-at : {A : Type 0} (f : Head → List A → A) (p : ProgramParts) (ns : List NodeId) (k : ℕ) (q : NodeId) → slice_get ns k ≡ Some q → slice_get (fold_all f (trees_at p ns)) k ≡ Some (fold f (tree_at p q))
-fold-at f p [] k q e = cc
-fold-at f p (n ∷ ns) zero q e = let same : n ≡ q = cc in ap (λ m. Some (fold f (tree_at p m))) same
-fold-at f p (n ∷ ns) (suc k) q e = fold-at f p ns k q e
 
 pub node_there : (p : ProgramParts) (n : NodeId) → n.0 < length p.nodes → slice_get p.nodes n.0 ≡ Some (node_at p n)
 node_there p n h =

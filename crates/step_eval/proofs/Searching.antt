@@ -1,6 +1,5 @@
 -- What is next in forms whose parts are still to be looked at, and how deep a redex lies in them.
-use Rattle.std.specs.Prelude.{nat_lt}
-use Rattle.std.proofs.Common.{◌≡◌, false, ℕ, zero, suc, ◌+◌, ◌<◌, ◌≤◌, List, [], ◌∷◌, ◌++◌, length, slice_get, get_or, Option, Some, None, refl, ap, sym, ◌∙◌, subst, arith, length-append}
+use Rattle.std.proofs.Common.{◌≡◌, ℕ, zero, suc, ◌+◌, ◌<◌, ◌≤◌, List, [], ◌∷◌, ◌++◌, length, slice_get, get_or, Option, Some, None, refl, ap, sym, ◌∙◌, subst, arith, length-append}
 use Rattle.std.proofs.lemmas.Option.{slice_get-get_or}
 use Rattle.std.specs.Arc.{arc_value}
 use Rattle.stab_base.specs.Datum.{Datum, unit}
@@ -92,9 +91,6 @@ pub record Deeper (p : ProgramParts) (n : NodeId) (from taken depth : ℕ) (mk :
   pub deep : length inner ≡ depth + length round
   pub same : within_forms p inner (form_at p here) ≡ e
 
-pub deeper-start : (p : ProgramParts) (n : NodeId) (from taken : ℕ) (here : FrameView) (mk : Option Seq) (round : List FrameView) → IsSearched p n from taken here → FramesFit p mk round → Deeper p n from taken 0 mk round (within_forms p round (form_at p here))
-deeper-start p n from taken here mk round s fit = record { here = here; inner = round; searched = s; frames = fit; deep = omega arith; same = refl }
-
 module _ (p : ProgramParts) (n : NodeId) (from taken depth : ℕ) (mk : Option Seq) (round : List FrameView) (e : Expr) (d : Deeper p n from taken depth mk round e) where
   pub deeper-in : (q : NodeId) → ((here : FrameView) → IsSearched p n from taken here → LooksPast p n from here (Some q)) → Deeper p q 0 0 (depth + 1) mk round e
   deeper-in q past =
@@ -166,10 +162,6 @@ first-form p mk round f n from fit first at =
     let its = first-fits p mk round f fit first in
     let P : Site → Type 0 = λ (s : Site). SiteFits p s (length f.env) in
     subst P at its.site
-
--- where no form stands round a value
-pub alone-deep : (p : ProgramParts) (round : List FrameView) (v : Datum) → round ≡ [] → false ≡ nat_lt 1000 (spine (within_forms p round (value v)))
-alone-deep p round v none = ap (λ r. nat_lt 1000 (spine (within_forms p r (value v)))) (sym none)
 
 found-deep : (p : ProgramParts) (f : Focus) (h : FrameView) (round : List FrameView) (mk : Option Seq) → ((n : NodeId) → f ≡ focus.Begun n → ⊥) → ((v : Datum) → f ≡ focus.Value v → ⊥) →
     Fits p (record { focus = focus_view f h; round = round; mark = mk }) → spine (within_forms p round (focus_expr p (focus_view f h))) ≡ length round

@@ -2,7 +2,6 @@
 use Rattle.std.proofs.Common.{◌≡◌, ℕ, zero, suc, ◌+◌, ◌<◌, ◌≤◌, Bool, true, false, cond, List, [], ◌∷◌, length, drop, slice_get, Option, Some, None, option_map, IfSome, IsSomeAnd, refl, ap, sym, ◌∙◌, subst, arith}
 use Rattle.std.specs.Prelude.{option_and_then}
 use Rattle.stab_base.specs.Datum.{Datum}
-use Rattle.stab_base.specs.declared.fault.Fault.TheVariants.{WrongKind}
 use Rattle.stab_base.specs.declared.numbers.FnId.{FnId}
 use Rattle.stab_code.specs.declared.head.Head as code
 use Rattle.stab_code.specs.declared.head.Head.TheVariants.{If, Two, Call}
@@ -13,9 +12,9 @@ use Rattle.stab_code.specs.Program.{FunctionParts, ProgramParts, arity_of, tree_
 use Rattle.stab_code.specs.Valid.{IsValid, parts_of}
 use Rattle.plain_language.specs.Expression.{part, none, put, put_parts}
 use Rattle.plain_language.specs.Operands.{one_of, truth_of}
-use Rattle.plain_language.specs.Outcome.{Outcome, becomes, fails, branch_of, outcome, truth_value, waiting_one, with_one, with_truth}
+use Rattle.plain_language.specs.Outcome.{Outcome, becomes, branch_of, outcome, truth_value, waiting_one, with_one, with_truth}
 use Rattle.plain_language.specs.Program.{body, expr_of, exprs_of}
-use Rattle.plain_language.proofs.Operands.{with_truth-none, with_truth-some}
+use Rattle.plain_language.proofs.Operands.{with_truth-some}
 use Rattle.step_eval.specs.declared.act.Act.{Act}
 use Rattle.step_eval.specs.declared.act.Act.TheVariants.{Spawn, Enter}
 use Rattle.step_eval.specs.declared.site.Site.{Site}
@@ -48,11 +47,6 @@ truth-some [] b k e = cc
 truth-some (v ∷ []) b k e = with_truth-some v b k e
 truth-some (v ∷ w ∷ vs) b k e = cc
 
-truth-none : (vs : List Datum) (k : Bool → Outcome) → None ≡ option_and_then truth_of (one_of vs) → with_one vs (λ v. with_truth v k) ≡ fails WrongKind
-truth-none [] k e = refl
-truth-none (v ∷ []) k e = with_truth-none v k e
-truth-none (v ∷ w ∷ vs) k e = refl
-
 module _ (p : ProgramParts) (n : NodeId) (from : ℕ) (here : FrameView) (at : here.site ≡ Form n from) where
   pub turn-is : (h : code.Head) → (node_at p n).head ≡ h → turn_at p here ≡ outcome (body p) (head_of (left_of from h)) here.done (rest_of p here)
   turn-is h is =
@@ -83,9 +77,6 @@ module _ (p : ProgramParts) (valid : IsValid p) (n : NodeId) (here : FrameView) 
     pub branch-some : (b : Bool) → Some b ≡ option_and_then truth_of (one_of here.done) → turn_at p here ≡ becomes (cond b (put (slice_get here.env) (expr_of (tree_at p yes))) (put (slice_get here.env) (expr_of (tree_at p no))))
     branch-some b e = turn-is p n 0 here at If is ∙ truth-some here.done b (λ t. branch_of t (rest_of p here)) e ∙ ap (branch_of b) branches
 
-    pub branch-none : None ≡ option_and_then truth_of (one_of here.done) → turn_at p here ≡ fails WrongKind
-    branch-none e = turn-is p n 0 here at If is ∙ truth-none here.done (λ t. branch_of t (rest_of p here)) e
-
   module _ (right : NodeId) (second : slice_get (node_at p n).parts 1 ≡ Some right) where
     pub and-some : (node_at p n).head ≡ Two And → (b : Bool) → Some b ≡ option_and_then truth_of (one_of here.done) → turn_at p here ≡ cond b (becomes (put (slice_get here.env) (expr_of (tree_at p right)))) (truth_value false)
     and-some is b e =
@@ -95,9 +86,6 @@ module _ (p : ProgramParts) (valid : IsValid p) (n : NodeId) (here : FrameView) 
         ∙ truth-some here.done b (λ t. cond t (waiting_one (rest_of p here)) (truth_value false)) e
         ∙ ap (λ rest. cond b (waiting_one rest) (truth_value false)) (rest-is p n 0 here at (right ∷ []) (ap (λ k. drop k (node_at p n).parts) (let k : 0 + length here.done ≡ 1 = omega arith in k) ∙ drop-last (node_at p n).parts 1 right second two))
 
-    pub and-none : (node_at p n).head ≡ Two And → None ≡ option_and_then truth_of (one_of here.done) → turn_at p here ≡ fails WrongKind
-    and-none is e = turn-is p n 0 here at (Two And) is ∙ truth-none here.done (λ t. cond t (waiting_one (rest_of p here)) (truth_value false)) e
-
     pub or-some : (node_at p n).head ≡ Two Or → (b : Bool) → Some b ≡ option_and_then truth_of (one_of here.done) → turn_at p here ≡ cond b (truth_value true) (becomes (put (slice_get here.env) (expr_of (tree_at p right))))
     or-some is b e =
         let one : length here.done ≡ 1 = count-is p n 0 here at (Two Or) settled is in
@@ -105,9 +93,6 @@ module _ (p : ProgramParts) (valid : IsValid p) (n : NodeId) (here : FrameView) 
         turn-is p n 0 here at (Two Or) is
         ∙ truth-some here.done b (λ t. cond t (truth_value true) (waiting_one (rest_of p here))) e
         ∙ ap (λ rest. cond b (truth_value true) (waiting_one rest)) (rest-is p n 0 here at (right ∷ []) (ap (λ k. drop k (node_at p n).parts) (let k : 0 + length here.done ≡ 1 = omega arith in k) ∙ drop-last (node_at p n).parts 1 right second two))
-
-    pub or-none : (node_at p n).head ≡ Two Or → None ≡ option_and_then truth_of (one_of here.done) → turn_at p here ≡ fails WrongKind
-    or-none is e = turn-is p n 0 here at (Two Or) is ∙ truth-none here.done (λ t. cond t (truth_value true) (waiting_one (rest_of p here))) e
 
 takes-by : (o : Option FunctionParts) (count size : ℕ) → option_map arity_of o ≡ Some count → size ≡ count → IsSomeAnd o (λ g. arity_of g ≡ size)
 takes-by None count size e is = cc

@@ -1,5 +1,5 @@
 -- The leased threads come back into the queue, the least number first.
-use Rattle.std.proofs.Common.{◌≡◌, ◌≢◌, ℕ, zero, suc, ◌+◌, ◌≤◌, ◌<◌, Bool, true, false, cond, ◌||◌, nat_eq, nat_lt, List, [], ◌∷◌, ◌++◌, length, min, Option, Some, None, IsSome, option_map, refl, sym, ap, ◌∙◌, subst, arith, append_assoc}
+use Rattle.std.proofs.Common.{◌≡◌, ◌≢◌, ℕ, zero, suc, ◌+◌, ◌≤◌, ◌<◌, Bool, true, false, cond, ◌||◌, nat_eq, nat_lt, List, [], ◌∷◌, ◌++◌, length, min, Option, Some, None, IsSome, option_map, refl, sym, ap, ◌∙◌, arith, append_assoc}
 use Rattle.std.specs.Option.{option_map_or}
 use Rattle.std.specs.Ordering.{nat_cmp}
 use Rattle.std.specs.FinMap.{FinMap, get}
@@ -19,9 +19,6 @@ use Rattle.thread_slots.proofs.CallerLemmas.{get-changed}
 use Rattle.thread_slots.proofs.Kept.{is_in-changed}
 use Rattle.thread_slots.proofs.Numbered.{cases_eq, apart, alike}
 use Rattle.thread_slots.proofs.Placed.{number_of_live}
-
-unlike : {P : Type 0} (b : Bool) → b ≡ true → b ≡ false → P
-unlike b is off = cc
 
 -- ---- the least of a list
 
@@ -95,14 +92,6 @@ module _ {C : Type 0} where
         | None ↦ λ e. refl
         | Some slot ↦ λ e. not_ready slot.state e
       ] leased
-
-  -- where none is leased nothing is recalled
-  pub none_recalled : (threads : FinMap nat_cmp (Slot C)) (t : ℕ) → is_in Leased threads t ≡ false → option_map recalled (get threads t) ≡ get threads t
-  none_recalled threads t none =
-      elim (get threads t) as (λ o. option_map_or (λ (slot : Slot C). same_state Leased slot.state) o false ≡ false → option_map recalled o ≡ o) [
-        | None ↦ λ e. refl
-        | Some slot ↦ λ e. ap (λ b. Some (cond b (record { control = slot.control; generation = slot.generation; state = Ready }) slot)) e
-      ] none
 
   again : (o : Option (Slot C)) → option_map_or (λ (slot : Slot C). same_state Leased slot.state) o false ≡ true → option_map recalled (option_map ready_again o) ≡ option_map recalled o
   again None e = refl
