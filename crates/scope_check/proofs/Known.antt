@@ -15,7 +15,7 @@ use Rattle.stab_parse.specs.declared.tree.Head.TheVariants as head
 use Rattle.stab_parse.specs.declared.tree.Param.{Param}
 use Rattle.stab_parse.specs.declared.tree.Tree.{Tree}
 use Rattle.stab_parse.specs.Forms.{Form, form, Parts, no_parts, next_part, body_of}
-use Rattle.stab_parse.specs.FormList.{count_of, function_of as written_function, functions_of, height_of_parts, nodes_of, nodes_of_parts, nodes_of_program}
+use Rattle.stab_parse.specs.FormList.{count_of, function_of as written_function, functions_of, nodes_of, nodes_of_parts, nodes_of_program}
 use Rattle.stab_parse.specs.Moves.{node_of}
 use Rattle.stab_parse.specs.Grammar.{Program, no_functions, next_function, Function as Rule, function}
 use Rattle.scope_check.specs.declared.fault.ScopeFault.{ScopeFault}
@@ -57,7 +57,7 @@ module _ (bytes : List ℕ) where
   mutual
     texts-form : (f : Form) → IsSound bytes f → HaveTexts bytes (nodes_of f)
     texts-form (form at h ps) sound =
-        let node = node_of h (count_of ps) at (height_of_parts ps) in
+        let node = node_of h (count_of ps) in
         All-append Texts (nodes_of_parts ps) (node ∷ []) (texts-parts ps sound.1) (All-cons Texts node [] (text-head h (number_of ps) sound.0) (All-nil Texts))
 
     texts-parts : (ps : Parts) → AreSound bytes ps → HaveTexts bytes (nodes_of_parts ps)

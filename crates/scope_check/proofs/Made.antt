@@ -15,7 +15,7 @@ use Rattle.stab_parse.specs.declared.tree.FormNode.{FormNode}
 use Rattle.stab_parse.specs.declared.tree.Function.{Function}
 use Rattle.stab_parse.specs.declared.tree.Head.{Head}
 use Rattle.stab_parse.specs.Forms.{Form, form, Parts, no_parts, next_part}
-use Rattle.stab_parse.specs.FormList.{count_of, height_of_parts}
+use Rattle.stab_parse.specs.FormList.{count_of}
 use Rattle.stab_parse.specs.Moves.{node_of as form_node}
 use Rattle.scope_check.specs.declared.fault.ScopeFault.{ScopeFault}
 use Rattle.scope_check.specs.declared.progress.Progress.{Progress}
@@ -65,11 +65,11 @@ module _ (bytes : List ℕ) (fs : List Function) (arity : ℕ) (forms : List For
 
 module _ (bytes : List ℕ) (fs : List Function) (arity : ℕ) (forms : List FormNode) (small : length forms < 2 ^ 32) where
   -- the head that stands in the list is the form's
-  node-is : (first at place : ℕ) (h : Head) (ps : Parts) (node : FormNode) → slice_get forms at ≡ Some node → IsAt forms first at (form place h ps) → form_node h (number_of ps) place (height_of_parts ps) ≡ node
+  node-is : (first at place : ℕ) (h : Head) (ps : Parts) (node : FormNode) → slice_get forms at ≡ Some node → IsAt forms first at (form place h ps) → form_node h (number_of ps) ≡ node
   node-is first at place h ps node found is =
       let few = sizes-in first (size_of_parts ps) (length forms) (at-within forms first at (form place h ps) is) small in
-      let there : form_node h (count_of ps) place (height_of_parts ps) ≡ node = cc (node-at forms first at place h ps is, found) in
-      ap (λ n. form_node h n place (height_of_parts ps)) (sym (count-is ps few)) ∙ there
+      let there : form_node h (count_of ps) ≡ node = cc (node-at forms first at place h ps is, found) in
+      ap (form_node h) (sym (count-is ps few)) ∙ there
 
   head-at : (seen : List Variable) (met : Met) (first at place : ℕ) (h : Head) (ps : Parts) (node : FormNode) → slice_get forms at ≡ Some node → IsAt forms first at (form place h ps) → head_met bytes fs seen met h (number_of ps) ≡ head_met bytes fs seen met node.head node.parts
   head-at seen met first at place h ps node found is = ap (λ n. head_met bytes fs seen met n.head n.parts) (node-is first at place h ps node found is)

@@ -11,7 +11,7 @@ use Rattle.stab_code.proofs.Lists.{slice_get-right}
 use Rattle.stab_parse.specs.declared.tree.FormNode.{FormNode}
 use Rattle.stab_parse.specs.declared.tree.Head.{Head}
 use Rattle.stab_parse.specs.Forms.{Form, form, Parts, no_parts, next_part}
-use Rattle.stab_parse.specs.FormList.{count_of, height_of_parts, nodes_of, nodes_of_parts}
+use Rattle.stab_parse.specs.FormList.{count_of, nodes_of, nodes_of_parts}
 use Rattle.stab_parse.specs.Moves.{node_of}
 use Rattle.scope_check.specs.Forms.{number_of}
 use Rattle.scope_check.specs.Placed.{size_of, size_of_parts}
@@ -78,7 +78,7 @@ plus-sum n a b = omega arith
 mutual
   lists-form : (n : ℕ) (whole : List NodeId) (f : Form) (rest : List FormNode) → size_of f < 2 ^ 32 → part_lists n whole (nodes_of f ++ rest) ≡ lists_of n f ++ part_lists (n + size_of f) (whole ++ own_number n f ∷ []) rest
   lists-form n whole (form at h ps) rest small =
-      let node = node_of h (count_of ps) at (height_of_parts ps) in
+      let node = node_of h (count_of ps) in
       let few : size_of_parts ps < 2 ^ 32 = omega arith in
       ap (part_lists n whole) (append_assoc (nodes_of_parts ps) (node ∷ []) rest)
       ∙ lists-parts n whole ps (node ∷ rest) few
@@ -150,9 +150,9 @@ parts-at forms first own place h ps small is =
     ∙ ap (λ n. Some (own_numbers n ps)) (omega arith)
 
 -- the form itself stands at its own number
-pub node-at : (forms : List FormNode) (first own place : ℕ) (h : Head) (ps : Parts) → IsAt forms first own (form place h ps) → slice_get forms own ≡ Some (node_of h (count_of ps) place (height_of_parts ps))
+pub node-at : (forms : List FormNode) (first own place : ℕ) (h : Head) (ps : Parts) → IsAt forms first own (form place h ps) → slice_get forms own ≡ Some (node_of h (count_of ps))
 node-at forms first own place h ps is =
-    let node = node_of h (count_of ps) place (height_of_parts ps) in
+    let node = node_of h (count_of ps) in
     let first_is = is.first_is in
     let own_is = is.own_is in
     ap (λ l. slice_get l own) is.forms_are
@@ -194,7 +194,7 @@ pub part-at : (forms : List FormNode) (first own place : ℕ) (h : Head) (ps : P
 part-at forms first own place h ps (form p g inner) fs is =
     let f = form p g inner in
     let all = followed (next_part ps f) fs in
-    let node = node_of h (count_of all) place (height_of_parts all) in
+    let node = node_of h (count_of all) in
     let first_is = is.first_is in
     record {
       before = is.before ++ nodes_of_parts ps;

@@ -3,14 +3,14 @@ use Rattle.std.proofs.Common.{◌≡◌, ℕ, suc, ◌+◌, ◌*◌, ◌≤◌, 
 use Rattle.stab_parse.specs.declared.symbol.Span.{Span}
 use Rattle.stab_parse.specs.declared.symbol.Symbol.TheVariants as symbol
 use Rattle.stab_parse.specs.Forms.{Form, form, Parts, no_parts, next_part, block_form, form_of_block, parts_of_items, form_of_item, form_of_expr, form_of_and, form_of_cmp, form_of_sum, form_of_term, form_of_unary, form_of_other, form_of_primary, parts_of_args, form_of_if, form_of_act, body_of}
-use Rattle.stab_parse.specs.FormList.{count_of, height_of_parts, nodes_of, nodes_of_parts, nodes_of_program}
+use Rattle.stab_parse.specs.FormList.{count_of, nodes_of, nodes_of_parts, nodes_of_program}
 use Rattle.stab_parse.specs.Moves.{node_of}
 use Rattle.scope_check.specs.Placed.{size_of, size_of_parts}
 use Rattle.stab_parse.specs.Grammar.{WrittenType, basic_type, chan_type, ref_type, pair_type, Param, param, ParamList, one_param, next_param, Params, no_params, some_params, called, started, Block, block, block_with_last, Items, no_items, next_item, Item, let_item, form_item, Expr, one_and, or, And, one_cmp, and, Cmp, one_sum, compare, Sum, one_term, plus, minus, Term, one_unary, times, Unary, number, other, Other, literal, least, negate, not, primary, Primary, text, truth, variable, call, call_with, unit, group, pair, in_block, in_if, act, Args, one_arg, next_arg, If, if_then, if_else, if_else_if, Act, new_chan, act_one, act_two, act_alone, Function, function, Program, no_functions, next_function, Piece, plain, opener, spell_type, spell_param, spell_param_list, spell_params, spell_block, spell_items, spell_item, spell_expr, spell_and, spell_cmp, spell_sum, spell_term, spell_unary, spell_other, spell_primary, spell_args, spell_if, spell_act, spell_function, spell_program}
 
 mutual
   pub length-nodes_of : (f : Form) → length (nodes_of f) ≡ size_of f
-  length-nodes_of (form at h parts) = omega (arith, length-append (nodes_of_parts parts) (node_of h (count_of parts) at (height_of_parts parts) ∷ []), length-nodes_of_parts parts)
+  length-nodes_of (form at h parts) = omega (arith, length-append (nodes_of_parts parts) (node_of h (count_of parts) ∷ []), length-nodes_of_parts parts)
 
   pub length-nodes_of_parts : (ps : Parts) → length (nodes_of_parts ps) ≡ size_of_parts ps
   length-nodes_of_parts no_parts = refl

@@ -10,7 +10,7 @@ use Rattle.stab_parse.specs.declared.frame.Phase.{Phase}
 use Rattle.stab_parse.specs.declared.frame.Phase.TheVariants as phase
 use Rattle.stab_parse.specs.declared.reader.Reader.{Reader}
 use Rattle.stab_parse.specs.Faults.{max_open, HasFault, IsParsed, EndsEarly}
-use Rattle.stab_parse.specs.FormList.{deep_among, deep_in_program, least_of, nodes_of_program, functions_of}
+use Rattle.stab_parse.specs.FormList.{deep_in_program, least_of, nodes_of_program, functions_of}
 use Rattle.stab_parse.specs.Grammar.{Program}
 use Rattle.stab_parse.specs.Moves.{reached, advance}
 use Rattle.stab_parse.proofs.FormsKept.{reverse_program, functions_kept, deep_program}
@@ -81,29 +81,29 @@ none_deep : (ns : List ℕ) → least_of ns ≡ None → ns ≡ []
 none_deep [] e = refl
 none_deep (n ∷ ns) e = absurd cc
 
+deep_kept : (r : Reader) (q : Program) → r ≡ in_program q → r.too_deep ≡ least_of (deep_in_program q)
+deep_kept r q e = ap (λ x. x.too_deep) e ∙ deep_program q
+
 -- no form is too deep
-pub end_parsed : (ts : List Token) (r : Reader) → Reaches ts phase.Between r → least_of (deep_among (reverse r.forms)) ≡ None → (q : Program) × IsParsed ts q × (r.functions ≡ functions_of q) × (reverse r.forms ≡ nodes_of_program q)
+pub end_parsed : (ts : List Token) (r : Reader) → Reaches ts phase.Between r → r.too_deep ≡ None → (q : Program) × IsParsed ts q × (r.functions ≡ functions_of q) × (reverse r.forms ≡ nodes_of_program q)
 end_parsed ts r w e =
     let b = end_of_program ts r w in
     let forms : reverse r.forms ≡ nodes_of_program b.0 = ap (λ x. reverse x.forms) b.2 ∙ reverse_program b.0 in
-    let deep : deep_among (reverse r.forms) ≡ deep_in_program b.0 = ap deep_among forms ∙ deep_program b.0 in
-    (b.0, record { is_program = program_walked ts b.0 b.1; no_deep = none_deep (deep_in_program b.0) (sym (ap least_of deep) ∙ e) }, ap (λ x. x.functions) b.2 ∙ functions_kept b.0, forms)
+    (b.0, record { is_program = program_walked ts b.0 b.1; no_deep = none_deep (deep_in_program b.0) (sym (deep_kept r b.0 b.2) ∙ e) }, ap (λ x. x.functions) b.2 ∙ functions_kept b.0, forms)
 
-pub end_deep : (ts : List Token) (r : Reader) (at : ℕ) → Reaches ts phase.Between r → least_of (deep_among (reverse r.forms)) ≡ Some at → HasFault ts (TooNested at)
+pub end_deep : (ts : List Token) (r : Reader) (at : ℕ) → Reaches ts phase.Between r → r.too_deep ≡ Some at → HasFault ts (TooNested at)
 end_deep ts r at w e =
     let b = end_of_program ts r w in
-    let forms : reverse r.forms ≡ nodes_of_program b.0 = ap (λ x. reverse x.forms) b.2 ∙ reverse_program b.0 in
-    let deep : deep_among (reverse r.forms) ≡ deep_in_program b.0 = ap deep_among forms ∙ deep_program b.0 in
-    inr (record { program = b.0; is_program = program_walked ts b.0 b.1; least = sym (ap least_of deep) ∙ e })
+    inr (record { program = b.0; is_program = program_walked ts b.0 b.1; least = sym (deep_kept r b.0 b.2) ∙ e })
 
-pub reaches_new : (r : Reader) → r.frames ≡ [] → r.forms ≡ [] → r.functions ≡ [] → Reaches [] phase.Between r
-reaches_new r a b c = record {
+pub reaches_new : (r : Reader) → r.frames ≡ [] → r.forms ≡ [] → r.functions ≡ [] → r.too_deep ≡ None → Reaches [] phase.Between r
+reaches_new r a b c d = record {
   state = machine.start;
   walked = refl;
   phase_is = refl;
   reader_is =
       ap (λ x. record r { frames = x }) a ∙ ap (λ x. record r { frames = []; forms = x }) b
-      ∙ ap (λ x. record { frames = []; forms = []; functions = x }) c;
+      ∙ ap (λ x. record r { frames = []; forms = []; functions = x }) c ∙ ap (λ x. record { frames = []; forms = []; functions = []; too_deep = x }) d;
 }
 
 -- one token more of a list, of which the one behind its end is any

@@ -1,21 +1,20 @@
 -- The forms and functions that a parser kept are those of the program.
-use Rattle.std.proofs.Common.{◌≡◌, ℕ, suc, Bool, true, false, cond, List, [], ◌∷◌, ◌++◌, length, refl, sym, ap, ◌∙◌, append_assoc, arith, eqb, eq-eqb, inl, inr, Option, Some, None}
+use Rattle.std.proofs.Common.{◌≡◌, ℕ, suc, Bool, true, false, cond, List, [], ◌∷◌, ◌++◌, length, refl, sym, ap, ◌∙◌, append_assoc, arith, eqb, Option, Some, None}
 use Rattle.std.specs.Prelude.{reverse, min, max}
 use Rattle.std.specs.Option.{option_map_or}
-use Rattle.std.proofs.lemmas.Bool.Decides.{eqb_tells}
 use Rattle.std.proofs.lemmas.Bool.Decides.{nat_tests}
 use Rattle.std.proofs.lemmas.List.{reverse-append, append-nil, length-reverse}
 use Rattle.stab_parse.specs.declared.tree.FormNode.{FormNode}
-use Rattle.stab_parse.specs.FormList.{count_of, depth_of, depth_of_parts, height_of, height_of_parts, deep_in, deep_in_parts, deep_in_program, deep_among, least_of, least_with, nodes_of, nodes_of_parts, nodes_of_program, functions_of, function_of}
+use Rattle.stab_parse.specs.FormList.{count_of, depth_of, depth_of_parts, deep_in, deep_in_parts, deep_in_program, least_of, nodes_of, nodes_of_parts, nodes_of_program, functions_of, function_of}
 use Rattle.stab_parse.specs.Forms.{Form, form, Parts, no_parts, next_part, body_of}
 use Rattle.stab_parse.specs.Grammar.{Program, no_functions, next_function}
-use Rattle.stab_parse.specs.Moves.{node_of}
-use Rattle.stab_parse.proofs.Kept.{onto, parts_onto, program_onto, kept_functions}
+use Rattle.stab_parse.specs.Moves.{deeper, least_with, node_of, noted}
+use Rattle.stab_parse.proofs.Kept.{height_of, height_of_parts, onto, parts_onto, program_onto, deep_onto, deep_parts_onto, deep_program_onto, kept_functions}
 
 mutual
   reverse_onto : (f : Form) (rest : List FormNode) → reverse (onto f rest) ≡ reverse rest ++ nodes_of f
   reverse_onto (form at h parts) rest =
-      let n : FormNode = node_of h (count_of parts) at (height_of_parts parts) in
+      let n : FormNode = node_of h (count_of parts) in
       reverse-append (n ∷ []) (parts_onto parts rest) ∙ ap (λ l. l ++ n ∷ []) (reverse_parts parts rest) ∙ append_assoc (reverse rest) (nodes_of_parts parts) (n ∷ [])
 
   reverse_parts : (ps : Parts) (rest : List FormNode) → reverse (parts_onto ps rest) ≡ reverse rest ++ nodes_of_parts ps
@@ -51,36 +50,6 @@ mutual
   height_parts_capped (next_part ps f) =
       ap (λ d. max d (height_of f)) (height_parts_capped ps) ∙ ap (λ d. max (min (depth_of_parts ps) 255) d) (height_capped f) ∙ capped_max (depth_of_parts ps) (depth_of f)
 
--- ---- the forms that are just too deep
-
-deep_among_case : (b : Bool) (x : FormNode) (xs ys : List FormNode) → deep_among (xs ++ ys) ≡ deep_among xs ++ deep_among ys → cond b (x.at ∷ deep_among (xs ++ ys)) (deep_among (xs ++ ys)) ≡ cond b (x.at ∷ deep_among xs) (deep_among xs) ++ deep_among ys
-deep_among_case true x xs ys e = ap (λ l. x.at ∷ l) e
-deep_among_case false x xs ys e = e
-
-deep_among-append : (xs ys : List FormNode) → deep_among (xs ++ ys) ≡ deep_among xs ++ deep_among ys
-deep_among-append [] ys = refl
-deep_among-append (x ∷ xs) ys = deep_among_case (eqb x.depth 201) x xs ys (deep_among-append xs ys)
-
-just_beyond : (d : ℕ) → eqb (min (suc (min d 255)) 255) 201 ≡ eqb d 200
-just_beyond d = grind (arith, nat_tests)
-
-mutual
-  deep_nodes : (f : Form) → deep_among (nodes_of f) ≡ deep_in f
-  deep_nodes (form at h parts) =
-      deep_among-append (nodes_of_parts parts) (node_of h (count_of parts) at (height_of_parts parts) ∷ [])
-      ∙ ap (λ l. l ++ cond (eqb (min (suc (height_of_parts parts)) 255) 201) (at ∷ []) []) (deep_nodes_of_parts parts)
-      ∙ ap (λ b. deep_in_parts parts ++ cond b (at ∷ []) []) (ap (λ d. eqb (min (suc d) 255) 201) (height_parts_capped parts) ∙ just_beyond (depth_of_parts parts))
-
-  deep_nodes_of_parts : (ps : Parts) → deep_among (nodes_of_parts ps) ≡ deep_in_parts ps
-  deep_nodes_of_parts no_parts = refl
-  deep_nodes_of_parts (next_part ps f) =
-      deep_among-append (nodes_of_parts ps) (nodes_of f) ∙ ap (λ l. l ++ deep_among (nodes_of f)) (deep_nodes_of_parts ps) ∙ ap (λ l. deep_in_parts ps ++ l) (deep_nodes f)
-
-pub deep_program : (p : Program) → deep_among (nodes_of_program p) ≡ deep_in_program p
-deep_program no_functions = refl
-deep_program (next_function p f) =
-    deep_among-append (nodes_of_program p) (nodes_of (body_of f)) ∙ ap (λ l. l ++ deep_among (nodes_of (body_of f))) (deep_program p) ∙ ap (λ l. deep_in_program p ++ l) (deep_nodes (body_of f))
-
 -- ---- the least of a list that grows at its end
 
 min_swap : (x n : ℕ) → min x n ≡ min n x
@@ -93,21 +62,34 @@ least_later : (o : Option ℕ) (x n : ℕ) → Some (option_map_or (min x) (leas
 least_later None x n = ap Some (min_swap x n)
 least_later (Some m) x n = ap Some (min_three x n m)
 
-pub least_of-last : (ns : List ℕ) (n : ℕ) → least_of (ns ++ n ∷ []) ≡ least_with (least_of ns) n
+least_of-last : (ns : List ℕ) (n : ℕ) → least_of (ns ++ n ∷ []) ≡ least_with (least_of ns) n
 least_of-last [] n = refl
 least_of-last (x ∷ ns) n = ap (λ o. Some (option_map_or (min x) o x)) (least_of-last ns n) ∙ least_later (least_of ns) x n
 
-ne_eqb : (a b : ℕ) → (a ≡ b → ⊥) → eqb a b ≡ false
-ne_eqb a b h = elim (eqb_tells a b) [ inl w ↦ absurd (h w.1) | inr w ↦ w.0 ]
+-- ---- the forms that are just too deep
 
--- one form more
-pub deep_among-last : (xs : List FormNode) (x : FormNode) → deep_among (xs ++ x ∷ []) ≡ deep_among xs ++ cond (eqb x.depth 201) (x.at ∷ []) []
-deep_among-last xs x = deep_among-append xs (x ∷ [])
+just_beyond : (d : ℕ) → eqb (min (suc (min d 255)) 255) 201 ≡ eqb d 200
+just_beyond d = grind (arith, nat_tests)
 
-pub least_deep_more : (xs : List FormNode) (x : FormNode) → x.depth ≡ 201 → least_of (deep_among (xs ++ x ∷ [])) ≡ least_with (least_of (deep_among xs)) x.at
-least_deep_more xs x e =
-    ap least_of (deep_among-last xs x ∙ ap (λ b. deep_among xs ++ cond b (x.at ∷ []) []) (eq-eqb x.depth 201 e)) ∙ least_of-last (deep_among xs) x.at
+beyond_parts : (ps : Parts) → eqb (deeper (height_of_parts ps)) 201 ≡ eqb (depth_of_parts ps) 200
+beyond_parts ps = ap (λ d. eqb (deeper d) 201) (height_parts_capped ps) ∙ just_beyond (depth_of_parts ps)
 
-pub least_deep_same : (xs : List FormNode) (x : FormNode) → (x.depth ≡ 201 → ⊥) → least_of (deep_among (xs ++ x ∷ [])) ≡ least_of (deep_among xs)
-least_deep_same xs x h =
-    ap least_of (deep_among-last xs x ∙ ap (λ b. deep_among xs ++ cond b (x.at ∷ []) []) (ne_eqb x.depth 201 h) ∙ append-nil (deep_among xs))
+noted_last : (b : Bool) (ns ds : List ℕ) (at : ℕ) → cond b (least_with (least_of (ns ++ ds)) at) (least_of (ns ++ ds)) ≡ least_of (ns ++ (ds ++ cond b (at ∷ []) []))
+noted_last true ns ds at = sym (least_of-last (ns ++ ds) at) ∙ ap least_of (append_assoc ns ds (at ∷ []))
+noted_last false ns ds at = ap (λ l. least_of (ns ++ l)) (sym (append-nil ds))
+
+mutual
+  deep_form : (f : Form) (ns : List ℕ) → deep_onto f (least_of ns) ≡ least_of (ns ++ deep_in f)
+  deep_form (form at h parts) ns =
+      ap (λ o. noted o at (deeper (height_of_parts parts))) (deep_parts parts ns)
+      ∙ ap (λ b. cond b (least_with (least_of (ns ++ deep_in_parts parts)) at) (least_of (ns ++ deep_in_parts parts))) (beyond_parts parts)
+      ∙ noted_last (eqb (depth_of_parts parts) 200) ns (deep_in_parts parts) at
+
+  deep_parts : (ps : Parts) (ns : List ℕ) → deep_parts_onto ps (least_of ns) ≡ least_of (ns ++ deep_in_parts ps)
+  deep_parts no_parts ns = ap least_of (sym (append-nil ns))
+  deep_parts (next_part ps f) ns =
+      ap (deep_onto f) (deep_parts ps ns) ∙ deep_form f (ns ++ deep_in_parts ps) ∙ ap least_of (append_assoc ns (deep_in_parts ps) (deep_in f))
+
+pub deep_program : (p : Program) → deep_program_onto p ≡ least_of (deep_in_program p)
+deep_program no_functions = refl
+deep_program (next_function p f) = ap (deep_onto (body_of f)) (deep_program p) ∙ deep_form (body_of f) (deep_in_program p)

@@ -1,5 +1,5 @@
 -- What a parser keeps of a state of the machine.
-use Rattle.std.proofs.Common.{ℕ, List, [], ◌∷◌, ◌++◌, length}
+use Rattle.std.proofs.Common.{ℕ, List, [], ◌∷◌, ◌++◌, length, max, Option, None}
 use Rattle.stab_code.specs.declared.head.Op.TheVariants as op
 use Rattle.stab_parse.specs.declared.frame.BlockPlace.{BlockPlace}
 use Rattle.stab_parse.specs.declared.frame.BlockPlace.TheVariants as place
@@ -15,21 +15,43 @@ use Rattle.stab_parse.specs.declared.symbol.Span.{Span}
 use Rattle.stab_parse.specs.declared.tree.FormNode.{FormNode}
 use Rattle.stab_parse.specs.declared.tree.Function as kept_function
 use Rattle.stab_parse.specs.declared.tree.Param as kept_param
-use Rattle.stab_parse.specs.FormList.{count_of, height_of, height_of_parts, param_list_of, params_of, function_of}
+use Rattle.stab_parse.specs.FormList.{count_of, param_list_of, params_of, function_of}
 use Rattle.stab_parse.specs.Forms.{Form, form, Parts, no_parts, next_part, type_of, names_of, body_of, form_of_block, parts_of_items, form_of_expr, form_of_and, form_of_sum, form_of_term, parts_of_args, first_of_term, first_of_sum, first_of_and, first_of_expr}
 use Rattle.stab_parse.specs.Grammar.{Callee, called, started, Block, Expr, Program, no_functions, next_function}
 use Rattle.stab_parse.proofs.Machine.{Opening, opening, RoundParam, first_param, later_param, RoundType, of_param, of_result, in_chan, in_ref, pair_left, pair_right, of_chan, RoundItems, items_in, RoundBlock, body, block_primary, then_block, else_block, RoundIf, if_primary, after_else, RoundExpr, group_in, second_in, first_arg, later_arg, one_in, two_left, two_right, let_value, item_in, condition, RoundAnd, first_and, after_or, RoundCmp, first_cmp, after_and, RoundSum, first_sum, after_compare, RoundTerm, first_term, after_plus, after_minus, RoundUnary, first_unary, after_times, after_not, RoundOther, no_sign, after_negate, open_items, open_block, open_if, open_expr, open_and, open_cmp, open_sum, open_term, open_unary, open_other, open_type, State, fn_read, fn_named, params_open, param_owed, param_named, params_closed, owes_type, chan_type_read, ref_type_read, has_type, owes, signed, opened, named, call_open, word_read, word_named, alone_read, alone_open, one_read, two_read, chan_read, chan_typed, chan_open, in_items, let_read, let_named, has, then_read, else_read, open_of, unary_at, put, put_other, put_primary, put_if, put_block, sum_with, round_term, cmp_with, round_sum, and_with, round_cmp, expr_with, round_and, params_with, opening_of, Move, fails, goes, opens, close_paren, comma, semicolon, close_brace, open_brace, ends_expr, ends_and, ends_cmp, relate, ends_sum, ends_term, step_done, begin_other, step_owes, step_signed, step_opened, step_call_open, end_block, step_items, step_named, step_then, step_else, step_owes_type, step_has_type, step}
 use Rattle.stab_parse.proofs.Machine as machine
-use Rattle.stab_parse.specs.Moves.{node_of, pushed, both, seen_at}
+use Rattle.stab_parse.specs.Moves.{node_of, noted, deeper, pushed, both, seen_at}
+
+-- the depth as far as a byte counts
+abbrev mutual
+  pub height_of : Form → ℕ
+  height_of (form at h parts) = deeper (height_of_parts parts)
+
+  pub height_of_parts : Parts → ℕ
+  height_of_parts no_parts = 0
+  height_of_parts (next_part ps f) = max (height_of_parts ps) (height_of f)
 
 -- the forms on top of a list of forms, the last first
 abbrev mutual
   pub onto : Form → List FormNode → List FormNode
-  onto (form at h parts) rest = node_of h (count_of parts) at (height_of_parts parts) ∷ parts_onto parts rest
+  onto (form at h parts) rest = node_of h (count_of parts) ∷ parts_onto parts rest
 
   pub parts_onto : Parts → List FormNode → List FormNode
   parts_onto no_parts rest = rest
   parts_onto (next_part ps f) rest = onto f (parts_onto ps rest)
+
+-- the least first byte of those that are just too deep, with those in a form
+abbrev mutual
+  pub deep_onto : Form → Option ℕ → Option ℕ
+  deep_onto (form at h parts) least = noted (deep_parts_onto parts least) at (deeper (height_of_parts parts))
+
+  pub deep_parts_onto : Parts → Option ℕ → Option ℕ
+  deep_parts_onto no_parts least = least
+  deep_parts_onto (next_part ps f) least = deep_onto f (deep_parts_onto ps least)
+
+abbrev pub deep_program_onto : Program → Option ℕ
+deep_program_onto no_functions = None
+deep_program_onto (next_function p f) = deep_onto (body_of f) (deep_program_onto p)
 
 abbrev pub program_onto : Program → List FormNode
 program_onto no_functions = []
@@ -40,10 +62,10 @@ kept_functions no_functions = []
 kept_functions (next_function p f) = kept_functions p ++ function_of (length (program_onto (next_function p f))) f ∷ []
 
 abbrev pub with_form : Form → Reader → Reader
-with_form f r = record r { forms = onto f r.forms }
+with_form f r = record r { forms = onto f r.forms; too_deep = deep_onto f r.too_deep }
 
 abbrev pub with_parts : Parts → Reader → Reader
-with_parts ps r = record r { forms = parts_onto ps r.forms }
+with_parts ps r = record r { forms = parts_onto ps r.forms; too_deep = deep_parts_onto ps r.too_deep }
 
 abbrev pub seen_of : ℕ → Form → Seen
 seen_of first f = seen_at first (height_of f)
@@ -63,7 +85,7 @@ abbrev pub program_of : Opening → Program
 program_of (opening ps f x o) = ps
 
 abbrev pub in_program : Program → Reader
-in_program ps = record { frames = []; forms = program_onto ps; functions = kept_functions ps }
+in_program ps = record { frames = []; forms = program_onto ps; functions = kept_functions ps; too_deep = deep_program_onto ps }
 
 abbrev pub expr_height : Expr → ℕ
 expr_height e = height_of (form_of_expr e)

@@ -14,7 +14,7 @@ use Rattle.stab_parse.specs.declared.symbol.Span.{Span}
 use Rattle.stab_parse.specs.declared.symbol.Symbol.{Symbol}
 use Rattle.stab_parse.specs.declared.symbol.Symbol.TheVariants.{Name, Number, Greatest, Text, Truth, WordFn, WordLet, WordIf, WordElse, ActOne, OrOr, AndAnd, Relation, Plus, Minus, Product, OpenParen, CloseParen, OpenBrace, CloseBrace, OpenBracket, CloseBracket, Comma, Semicolon, Colon, Equal}
 use Rattle.stab_parse.specs.declared.tree.Head.TheVariants as head
-use Rattle.stab_parse.specs.FormList.{count_of, height_of_parts, param_list_of, params_of}
+use Rattle.stab_parse.specs.FormList.{count_of, param_list_of, params_of}
 use Rattle.stab_parse.specs.Forms.{form, Parts, no_parts, next_part, type_of, name_of, names_of, form_of_block, parts_of_items, form_of_expr, form_of_and, form_of_cmp, form_of_sum, form_of_term, form_of_unary, form_of_other, form_of_primary, form_of_if, first_of_block, first_of_if, first_of_primary, first_of_other, first_of_unary, first_of_term, first_of_sum, first_of_cmp, first_of_and, first_of_expr}
 use Rattle.stab_parse.specs.Grammar.{WrittenType, ParamList, Params, Callee, called, started, Block, block, block_with_last, no_items, next_item, Expr, And, Cmp, Sum, Term, one_unary, times, Unary, number, other, Other, literal, least, negate, not, primary, Primary, text, truth, variable, call, call_with, unit, group, pair, in_block, in_if, act, one_arg, next_arg, If, if_then, if_else, if_else_if, new_chan, act_one, act_two, act_alone, Program}
 use Rattle.stab_parse.proofs.Machine.{Opening, opening, RoundParam, first_param, later_param, RoundType, of_param, of_result, in_chan, in_ref, pair_left, pair_right, of_chan, RoundItems, items_in, RoundBlock, body, block_primary, then_block, else_block, RoundIf, if_primary, after_else, RoundExpr, group_in, second_in, first_arg, later_arg, one_in, two_left, two_right, let_value, item_in, condition, RoundAnd, first_and, after_or, RoundCmp, first_cmp, after_and, RoundSum, first_sum, after_compare, RoundTerm, first_term, after_plus, after_minus, RoundUnary, first_unary, after_times, after_not, RoundOther, no_sign, after_negate, open_items, open_block, open_if, open_expr, open_and, open_cmp, open_sum, open_term, open_unary, open_other, open_type, State, fn_read, fn_named, params_open, param_owed, param_named, params_closed, owes_type, chan_type_read, ref_type_read, has_type, owes, signed, opened, named, call_open, word_read, word_named, alone_read, alone_open, one_read, two_read, chan_read, chan_typed, chan_open, in_items, let_read, let_named, has, then_read, else_read, open_of, unary_at, put, put_other, put_primary, put_if, put_block, sum_with, round_term, cmp_with, round_sum, and_with, round_cmp, expr_with, round_and, params_with, opening_of, Move, fails, goes, opens, close_paren, comma, semicolon, close_brace, open_brace, ends_expr, ends_and, ends_cmp, relate, ends_sum, ends_term, step_done, begin_other, step_owes, step_signed, step_opened, step_call_open, end_block, step_items, step_named, step_then, step_else, step_owes_type, step_has_type, step}
@@ -22,7 +22,7 @@ use Rattle.stab_parse.proofs.Machine as machine
 use Rattle.stab_parse.specs.Frames.{top_of, below_top}
 use Rattle.stab_parse.specs.Moves as moves
 use Rattle.stab_parse.specs.Moves.{Refused, Goes, Opens, pushed, popped, both, alone, more, seen_at, settled, Settled, settle, settle_on, settle_if, settle_if_on, join_top, join, whole_sum, whole_and, whole_expr, Outcome, outcome, settled_outcome, complete, block_in, block_done, unit_place, ends, closes, ends_settled, move}
-use Rattle.stab_parse.proofs.Kept.{with_form, with_parts, seen_of, kept_callee_of, before_of, name_of_opening, program_of, in_program, expr_height, block_height, place_of, at_items, at_block, at_if, at_expr, at_and, at_cmp, at_sum, at_term, at_unary, at_other, at_type, phase_of, reader_of}
+use Rattle.stab_parse.proofs.Kept.{height_of_parts, with_form, with_parts, seen_of, kept_callee_of, before_of, name_of_opening, program_of, in_program, expr_height, block_height, place_of, at_items, at_block, at_if, at_expr, at_and, at_cmp, at_sum, at_term, at_unary, at_other, at_type, phase_of, reader_of}
 
 -- ---- what stands on top of the frames of a place
 

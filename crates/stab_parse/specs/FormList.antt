@@ -43,20 +43,10 @@ abbrev pub count_of : Parts → ℕ
 count_of no_parts = 0
 count_of (next_part ps f) = min (count_of ps + 1) (2 ^ 64 - 1)
 
--- the depth as far as a byte counts
-abbrev mutual
-  pub height_of : Form → ℕ
-  height_of (form at h parts) = min (suc (height_of_parts parts)) 255
-
-  pub height_of_parts : Parts → ℕ
-  height_of_parts no_parts = 0
-  height_of_parts (next_part ps f) = max (height_of_parts ps) (height_of f)
-
 -- a form and those in it, each directly behind its parts
 abbrev mutual
   pub nodes_of : Form → List FormNode
-  nodes_of (form at h parts) =
-      nodes_of_parts parts ++ record { head = h; parts = count_of parts; at = at; depth = min (suc (height_of_parts parts)) 255 } ∷ []
+  nodes_of (form at h parts) = nodes_of_parts parts ++ record { head = h; parts = count_of parts } ∷ []
 
   pub nodes_of_parts : Parts → List FormNode
   nodes_of_parts no_parts = []
@@ -85,16 +75,6 @@ abbrev pub functions_of : Program → List declared.Function
 functions_of no_functions = []
 functions_of (next_function p f) = functions_of p ++ function_of (length (nodes_of_program (next_function p f))) f ∷ []
 
--- the first bytes of the forms in a list that are just too deep
-abbrev pub deep_among : List FormNode → List ℕ
-deep_among [] = []
-deep_among (n ∷ ns) = if n.depth == max_depth + 1 then n.at ∷ deep_among ns else deep_among ns
-
 -- the functions and forms of a program, the last form first
 abbrev pub IsTreeOf : Tree → Program → Type 0
 IsTreeOf tree p = (tree.functions ≡ functions_of p) × (reverse tree.forms ≡ nodes_of_program p)
-
--- the lesser of a number that may be missing and another
-abbrev pub least_with : Option ℕ → ℕ → Option ℕ
-least_with None n = Some n
-least_with (Some m) n = Some (min n m)

@@ -1,5 +1,5 @@
 -- What a token does to the frames, forms and functions that a parser keeps.
-use Rattle.std.specs.Prelude.{ℕ, ◌+◌, ◌-◌, ◌^◌, suc, ℤ, pos, neg_ℤ, max, min, Bool, true, false, List, [], ◌∷◌, ◌++◌, Option, Some, None, length, Result, Ok, Err, nat_lt, if◌then◌else◌}
+use Rattle.std.specs.Prelude.{ℕ, ◌+◌, ◌-◌, ◌^◌, suc, ◌==◌, ℤ, pos, neg_ℤ, max, min, Bool, true, false, List, [], ◌∷◌, ◌++◌, Option, Some, None, length, Result, Ok, Err, nat_lt, if◌then◌else◌}
 use Rattle.stab_code.specs.declared.head.Op.{Op}
 use Rattle.stab_code.specs.declared.head.Op.TheVariants as op
 use Rattle.stab_code.specs.Written.{Written, chan_type, ref_type, pair_type}
@@ -32,6 +32,7 @@ use Rattle.stab_lex.specs.declared.token.Token.{Token}
 use Rattle.stab_parse.specs.declared.fault.ParseFault.{ParseFault}
 use Rattle.stab_parse.specs.declared.fault.ParseFault.TheVariants.{Unexpected, TooNested}
 use Rattle.stab_parse.specs.Faults.{max_open}
+use Rattle.stab_parse.specs.FormList.{max_depth}
 use Rattle.stab_parse.specs.Frames.{top_of, below_top, open_in}
 use Rattle.stab_parse.specs.Symbols.{symbol_of, span_of}
 
@@ -54,12 +55,21 @@ pushed f r = record r { frames = f ∷ r.frames }
 abbrev pub popped : Reader → Reader
 popped r = record r { frames = below_top r.frames }
 
-abbrev pub node_of : Head → ℕ → ℕ → ℕ → FormNode
-node_of h n at d = record { head = h; parts = n; at = at; depth = deeper d }
+abbrev pub node_of : Head → ℕ → FormNode
+node_of h n = record { head = h; parts = n }
+
+-- the lesser of a number that may be missing and another
+abbrev pub least_with : Option ℕ → ℕ → Option ℕ
+least_with None n = Some n
+least_with (Some m) n = Some (min n m)
+
+-- the least first byte of those that are just too deep, with a form that begins here and has this depth
+abbrev pub noted : Option ℕ → ℕ → ℕ → Option ℕ
+noted least at d = if d == max_depth + 1 then least_with least at else least
 
 -- a form is complete: its number of parts, its first byte and the depth of its parts
 abbrev pub formed : Head → ℕ → ℕ → ℕ → Reader → Reader
-formed h n at d r = record r { forms = node_of h n at d ∷ r.forms }
+formed h n at d r = record r { forms = node_of h n ∷ r.forms; too_deep = noted r.too_deep at (deeper d) }
 
 abbrev pub seen_at : ℕ → ℕ → Seen
 seen_at at d = record { first = at; depth = d }
@@ -252,6 +262,11 @@ block_in (Body x ps t) s r = function_done x ps t r
 block_in Form s r = settled_outcome (settle s r)
 block_in (Then at d) s r = outcome (Goes (phase.ThenRead at (both d s.depth))) r
 block_in (Else at d) s r = settled_outcome (settle_if at (max d s.depth) r)
+
+-- the names of the items of a block that has items
+abbrev pub lets_of : List (Option Span) → Option (List (Option Span))
+lets_of [] = None
+lets_of (x ∷ xs) = Some (x ∷ xs)
 
 -- a block ends with a last form
 abbrev pub block_done : ℕ → List (Option Span) → ℕ → ℕ → BlockPlace → Seen → Reader → Outcome

@@ -6,7 +6,7 @@ ghost use Rattle.stab_parse.specs.Symbols.{IsSmall};
 use crate::frame::{BlockPlace, Callee, Frame, Phase, Seen};
 use crate::parser::{Admission, Parser};
 use crate::symbol::{Span, Symbol};
-use crate::tree::{Head, Lets};
+use crate::tree::{Head, ItemNames};
 use std::alloc::{AllocError, Global};
 
 fn closes_paren(symbol: Symbol) -> bool
@@ -76,7 +76,7 @@ impl Parser {
     {
         self.reader
             .frames
-            .push(Frame::Items(at, 0, Lets::new(), 0, place))?;
+            .push(Frame::Items(at, 0, ItemNames::new(), 0, place))?;
         Ok(self.opens(Phase::InItems))
     }
 

@@ -8,7 +8,7 @@ use crate::frame::{BlockPlace, Callee, Frame, Level, Phase, Seen};
 use crate::parser::{Admission, Parser};
 use crate::reader::{Reader, deepest, is_operator, one_more, only, takes_right};
 use crate::symbol::{Span, Symbol};
-use crate::tree::{Function, Head, Lets};
+use crate::tree::{Function, Head, ItemNames};
 use stab_code::Op;
 use std::alloc::{AllocError, Global};
 
@@ -205,7 +205,7 @@ impl Parser {
     fn block_done(
         &mut self,
         at: u32,
-        names: Lets,
+        names: ItemNames,
         items: usize,
         depth: u8,
         place: BlockPlace,
@@ -214,13 +214,13 @@ impl Parser {
         ensures ok { IfOk result (λ admission. did admission self.new
             ≡ block_done at names items depth place last self.old.reader) }
     {
-        if names.is_empty() {
+        let Some(names) = names.into_lets() else {
             let seen = Seen {
                 first: at,
                 depth: last.depth,
             };
             return self.block_in(place, seen);
-        }
+        };
         let depth = depth.max(last.depth);
         let seen = self
             .reader
@@ -262,7 +262,7 @@ impl Parser {
                 let place = BlockPlace::Then(first, seen.depth);
                 self.reader
                     .frames
-                    .push(Frame::Items(at, 0, Lets::new(), 0, place))?;
+                    .push(Frame::Items(at, 0, ItemNames::new(), 0, place))?;
                 Ok(self.opens(Phase::InItems))
             }
             _ => Ok(Admission::Refused),

@@ -4,7 +4,7 @@ ghost use Rattle.std.specs.Option.{option_copied};
 ghost use Rattle.stab_parse.specs.Frames.{open_by, open_in, top_of, below_top};
 
 use crate::symbol::{ActWord, CallWord, Span};
-use crate::tree::{Lets, Params, ParsedType};
+use crate::tree::{ItemNames, Params, ParsedType};
 use stab_code::Op;
 use std::alloc::{AllocError, Global};
 use std::marker::Model;
@@ -82,7 +82,7 @@ pub enum Frame {
     /// The form of a let, by its name, over the frame of its block.
     Let(Span),
     /// The items of a block: their names, and how many there were.
-    Items(u32, u8, Lets, usize, BlockPlace),
+    Items(u32, u8, ItemNames, usize, BlockPlace),
     Condition(u32),
     ElseIf(u32, u8),
     /// An operator with what stands left of it.

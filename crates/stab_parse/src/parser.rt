@@ -1,19 +1,16 @@
 //! Reading the tokens of a program.
-ghost use Rattle.std.specs.Prelude.{◌≡◌, ◌⊎◌, IfOk, IfErr, Some};
+ghost use Rattle.std.specs.Prelude.{◌≡◌, ◌⊎◌, IfOk, IfErr};
 ghost use Rattle.stab_parse.specs.Faults.{HasFault, IsParsed};
-ghost use Rattle.stab_parse.specs.FormList.{IsTreeOf, deep_among, least_of, least_with};
+ghost use Rattle.stab_parse.specs.FormList.{IsTreeOf};
 ghost use Rattle.stab_parse.specs.Grammar.{Program};
 ghost use Rattle.stab_parse.specs.Moves.{Goes, Opens, did, outcome};
 
 use crate::fault::ParseFault;
 use crate::frame::{Phase, Stack};
 use crate::reader::Reader;
-use crate::tree::{FormNode, Forms, Functions, Tree};
+use crate::tree::{Forms, Functions, Tree};
 use stab_lex::Token;
 use std::alloc::Global;
-
-/// The depth of a form that is just too deep.
-const TOO_DEEP: u8 = 201;
 
 /// Whether a token may stand where it stands.
 #[derive(Clone, Copy)]
@@ -63,6 +60,7 @@ pub fn parse(alloc: Global, tokens: &[Token], _bytes: &[u8]) -> Result<Tree, Par
             frames: Stack::new(alloc),
             forms,
             functions: Functions::new(alloc),
+            too_deep: None,
         },
         phase: Phase::Between,
     };
@@ -73,36 +71,14 @@ pub fn parse(alloc: Global, tokens: &[Token], _bytes: &[u8]) -> Result<Tree, Par
     let Phase::Between = phase else {
         return Err(ParseFault::EarlyEnd);
     };
-    if let Some(at) = first_too_deep(reader.forms.all()) {
+    if let Some(at) = reader.too_deep {
         return Err(ParseFault::TooNested(at));
     }
     let Reader {
         frames: _,
         forms,
         functions,
+        too_deep: _,
     } = reader;
     Ok(Tree { functions, forms })
-}
-
-/// The least first byte of a form that is just too deep.
-fn first_too_deep(forms: &[FormNode]) -> Option<u32>
-    ensures { result ≡ least_of (deep_among forms.now) }
-{
-    let mut least = None;
-    for form in forms {
-        if form.depth == TOO_DEEP {
-            least = Some(lesser(least, form.at));
-        }
-    }
-    least
-}
-
-/// The lesser of two places, of which the first may be missing.
-fn lesser(before: Option<u32>, at: u32) -> u32
-    ensures { Some result ≡ least_with before at }
-{
-    match before {
-        Some(place) => at.min(place),
-        None => at,
-    }
 }

@@ -1,14 +1,17 @@
 //! What stands round the place that was read last, and how forms that were read go into it.
-ghost use Rattle.std.specs.Prelude.{◌≡◌, IfOk};
+ghost use Rattle.std.specs.Prelude.{◌≡◌, IfOk, Some};
 ghost use Rattle.stab_parse.specs.Frames.{top_of};
 ghost use Rattle.std.specs.Option.{option_copied};
 ghost use Rattle.stab_parse.specs.Takes.{is_operator, left_of, taken, taker_of, takes_if, takes_right};
-ghost use Rattle.stab_parse.specs.Moves.{alone, both, complete, deeper, else_frame, else_top, formed, if_step, join_top, joined, more, popped, seen_at, settle, settle_if, settle_step, settle_top, settled};
+ghost use Rattle.stab_parse.specs.Moves.{alone, both, complete, deeper, else_frame, else_top, formed, if_step, join_top, joined, least_with, more, noted, popped, seen_at, settle, settle_if, settle_step, settle_top, settled};
 
 use crate::frame::{Frame, Left, Level, Phase, Seen, Stack, Taker};
 use crate::tree::{FormNode, Forms, Functions, Head};
 use stab_code::Op;
 use std::alloc::AllocError;
+
+/// The depth of a form that is just too deep.
+const TOO_DEEP: u8 = 201;
 
 /// What stands round the place, and the forms and functions that were read.
 #[derive(Drop)]
@@ -16,6 +19,8 @@ pub struct Reader {
     pub frames: Stack,
     pub forms: Forms,
     pub functions: Functions,
+    /// The least first byte of a form that is just too deep.
+    pub too_deep: Option<u32>,
 }
 
 /// One more than the depth of the parts.
@@ -37,6 +42,16 @@ pub(crate) fn only(a: u8) -> u8
     ensures { result ≡ alone a }
 {
     a
+}
+
+/// The lesser of two places, of which the first may be missing.
+fn lesser(before: Option<u32>, at: u32) -> u32
+    ensures { Some result ≡ least_with before at }
+{
+    match before {
+        Some(place) => at.min(place),
+        None => at,
+    }
 }
 
 /// One part more.
@@ -116,6 +131,23 @@ fn takes_if(top: Option<&Frame>) -> bool
 }
 
 impl Reader {
+    #[inline(never)]
+    fn note_too_deep(&mut self, at: u32)
+        ensures { self.new ≡ record self.old { too_deep = least_with self.old.too_deep at } }
+    {
+        self.too_deep = Some(lesser(self.too_deep, at));
+    }
+
+    /// The place of a form is noted if it is just too deep.
+    #[inline(always)]
+    fn note_depth(&mut self, at: u32, depth: u8)
+        ensures { self.new ≡ record self.old { too_deep = noted self.old.too_deep at depth } }
+    {
+        if depth == TOO_DEEP {
+            self.note_too_deep(at);
+        }
+    }
+
     /// A form is complete: how many parts it has, its first byte, and the depth of its parts.
     #[inline(always)]
     pub(crate) fn form(
@@ -129,12 +161,8 @@ impl Reader {
             ≡ settled (seen_at at (deeper depth)) (formed head parts at depth self.old)) }
     {
         let depth = above(depth);
-        self.forms.push(FormNode {
-            head,
-            parts,
-            at,
-            depth,
-        })?;
+        self.note_depth(at, depth);
+        self.forms.push(FormNode { head, parts })?;
         Ok(Seen { first: at, depth })
     }
 

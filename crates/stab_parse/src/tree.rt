@@ -2,66 +2,101 @@
 ghost use Rattle.stab_code.specs.Written.{chan_type, ref_type, pair_type};
 ghost use Rattle.stab_code.specs.WrittenType.{written_by};
 ghost use Rattle.std.specs.Prelude.{◌≡◌, IfOk, ◌++◌, ◌∷◌, [], length, reverse, OnOk, IsTrue, ◌↔◌};
+ghost use Rattle.stab_parse.specs.Moves.{lets_of};
 
 use crate::symbol::{ActWord, CallWord, Span};
 use stab_code::{Op, TyForm};
 use std::alloc::{AllocError, Global};
 use std::marker::Model;
 
-/// The names of a block's items in the order of writing, none for an item without `let`. A block without items takes no
-/// memory. Contracts see them as a list.
+/// The names of a block's items in the order of writing, none for an item without `let`. Contracts see them as a list.
 #[derive(Drop)]
 pub struct Lets {
-    names: Option<Box<Vec<Option<Span>>>>,
+    names: Box<Vec<Option<Span>>>,
 }
 
 impl Model for Lets {
     ghost use Rattle.std.specs.Prelude.{List, Option};
     ghost use Rattle.stab_parse.specs.declared.symbol.Span.{Span};
-    ghost use Rattle.std.specs.Prelude.{[]};
-    ghost use Rattle.std.specs.Option.{option_map_or};
 
     ghost Value = { List (Option Span) };
 
-    ghost view = { λ lets. option_map_or (λ names. names.value.items) lets.names [] };
+    ghost view = { λ lets. lets.names.value.items };
 }
 
 impl Lets {
-    pub(crate) fn new() -> Lets
-        ensures { result ≡ [] }
+    fn new(alloc: Global) -> Result<Lets, AllocError>
+        ensures ok { IfOk result (λ lets. lets ≡ []) }
     {
-        Lets { names: None }
+        let names = Box::new(alloc, Vec::new(alloc))?;
+        Ok(Lets { names })
     }
 
-    pub(crate) fn push(&mut self, alloc: Global, name: Option<Span>) -> Result<(), AllocError>
+    fn push(&mut self, name: Option<Span>) -> Result<(), AllocError>
         ensures ok { OnOk result (self.new ≡ self.old ++ name ∷ []) }
     {
-        let mut names = match self.names.take() {
-            Some(names) => names,
-            None => Box::new(alloc, Vec::new(alloc))?,
-        };
-        names.push(name)?;
-        self.names = Some(names);
+        self.names.push(name)?;
         Ok(())
-    }
-
-    pub(crate) fn is_empty(&self) -> bool
-        ensures { IsTrue result ↔ (self.now ≡ []) }
-    {
-        match &self.names {
-            Some(names) => names.is_empty(),
-            None => true,
-        }
     }
 
     /// The names in the order of writing.
     pub fn all(&self) -> &[Option<Span>]
         ensures { result.now ≡ self.now }
     {
-        match &self.names {
-            Some(names) => names.as_slice(),
-            None => &[],
-        }
+        self.names.as_slice()
+    }
+}
+
+/// The names of the items that a block has so far. A block without items takes no memory. Contracts see them as a list.
+#[derive(Drop)]
+pub struct ItemNames {
+    lets: Option<Lets>,
+}
+
+impl Model for ItemNames {
+    ghost use Rattle.std.specs.Prelude.{◌≡◌, List, Option, Some};
+    ghost use Rattle.stab_parse.specs.declared.symbol.Span.{Span};
+    ghost use Rattle.std.specs.Prelude.{[]};
+    ghost use Rattle.std.specs.Option.{option_map_or};
+
+    ghost Value = { List (Option Span) };
+
+    ghost view = { λ names. option_map_or (λ lets. lets) names.lets [] };
+
+    ghost invariant = { λ names. ¬ (names.lets ≡ Some []) };
+}
+
+impl ItemNames {
+    pub(crate) fn new() -> ItemNames
+        ensures { result ≡ [] }
+    {
+        ItemNames { lets: None }
+    }
+
+    pub(crate) fn push(&mut self, alloc: Global, name: Option<Span>) -> Result<(), AllocError>
+        ensures ok { OnOk result (self.new ≡ self.old ++ name ∷ []) }
+    {
+        let mut lets = match self.lets.take() {
+            Some(lets) => lets,
+            None => Lets::new(alloc)?,
+        };
+        lets.push(name)?;
+        self.lets = Some(lets);
+        Ok(())
+    }
+
+    pub(crate) fn is_empty(&self) -> bool
+        ensures { IsTrue result ↔ (self.now ≡ []) }
+    {
+        self.lets.is_none()
+    }
+
+    /// The names, where there are items.
+    pub(crate) fn into_lets(self) -> Option<Lets>
+        ensures { result ≡ lets_of self }
+    {
+        let ItemNames { lets } = self;
+        lets
     }
 }
 
@@ -153,10 +188,6 @@ pub struct FormNode {
     pub head: Head,
     /// How many parts it has.
     pub parts: usize,
-    /// Its first byte. Where nothing is written it is that of the `if`, or of the bracket that closes the block.
-    pub at: u32,
-    /// How deep forms stand in it, itself with them, and 255 where that is more.
-    pub depth: u8,
 }
 
 /// A parameter as it is written.
