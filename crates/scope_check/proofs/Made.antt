@@ -1,10 +1,12 @@
 -- One form more, from its head and its parts.
 use Rattle.std.proofs.Common.{◌≡◌, inl, inr, ℕ, ◌+◌, ◌<◌, ◌≤◌, ◌^◌, List, [], ◌∷◌, ◌++◌, length, slice_get, Some, refl, sym, ap, subst, ◌∙◌, arith, append_assoc, append-nil, length-append, length-take}
-use Rattle.std.specs.Prelude.{Result, Ok, Err, OnOk, Option, None, reverse, take}
+use Rattle.std.specs.Prelude.{Result, Ok, Err, OnOk, Option, None, reverse, take, false}
+use Rattle.std.proofs.lemmas.Bool.{true≢false}
 use Rattle.std.proofs.lemmas.Bool.Decides.{eqb_tells}
 use Rattle.std.proofs.lemmas.List.{reverse-append, take-take}
 use Rattle.std.proofs.lemmas.Option.{slice_get_within}
 use Rattle.stab_code.specs.declared.head.Head.{Head as Code}
+use Rattle.stab_code.specs.declared.head.Head.TheVariants as code
 use Rattle.stab_code.specs.declared.node_id.NodeId.{NodeId}
 use Rattle.stab_code.specs.Layout.{nodes_of as tree_nodes, nodes_of_all, own_node, own_nodes, size_of as tree_size, size_of_all}
 use Rattle.stab_code.proofs.LaidOut.{length-nodes_of_all}
@@ -14,14 +16,15 @@ use Rattle.stab_parse.specs.declared.symbol.Span.{Span}
 use Rattle.stab_parse.specs.declared.tree.FormNode.{FormNode}
 use Rattle.stab_parse.specs.declared.tree.Function.{Function}
 use Rattle.stab_parse.specs.declared.tree.Head.{Head}
+use Rattle.stab_parse.specs.declared.tree.Head.TheVariants as kind
 use Rattle.stab_parse.specs.Forms.{Form, form, Parts, no_parts, next_part}
 use Rattle.stab_parse.specs.FormList.{count_of}
 use Rattle.stab_parse.specs.Moves.{node_of as form_node}
 use Rattle.scope_check.specs.declared.fault.ScopeFault.{ScopeFault}
 use Rattle.scope_check.specs.declared.progress.Progress.{Progress}
 use Rattle.scope_check.specs.declared.seen.Variable.{Variable}
-use Rattle.scope_check.specs.Forms.{items_of, number_of}
-use Rattle.scope_check.specs.Made.{AddsParts, ArePartsMade, IsFormMade, IsPartMade, IsPartFault, IsPartsFault, parts_now, part_now, scoped_now}
+use Rattle.scope_check.specs.Forms.{is_block, items_of, number_of}
+use Rattle.scope_check.specs.Made.{AddsParts, ArePartsMade, IsFormFault, IsFormMade, IsPartMade, IsPartFault, IsPartsFault, parts_now, part_now, scoped_now}
 use Rattle.scope_check.specs.Placed.{size_of, size_of_parts}
 use Rattle.scope_check.specs.Places.{IsAt, own_number, own_numbers, part_lists}
 use Rattle.scope_check.specs.Progress.{Adds, IsFaultOf, met_of, seen_of}
@@ -49,6 +52,24 @@ fault-second m a step fault e h = elim h [ inl memory ↦ inl memory | inr s ↦
 
 pub fault-same : {A : Type 0} (a b : Result A ScopeFault) (fault : ScopeFault) → a ≡ b → IsFaultOf b fault → IsFaultOf a fault
 fault-same a b fault e h = subst (λ r. IsFaultOf r fault) (sym e) h
+
+-- a form that isn't a block has no items
+pub no-item : (h : Head) (i : ℕ) → is_block h ≡ false → None ≡ slice_get (items_of h) i
+no-item kind.Unit i e = refl
+no-item (kind.Truth b) i e = refl
+no-item (kind.Int n) i e = refl
+no-item (kind.Text span) i e = refl
+no-item (kind.Variable name) i e = refl
+no-item (kind.Block names) i e = absurd (true≢false e)
+no-item kind.If i e = refl
+no-item (kind.Two op) i e = refl
+no-item kind.Not i e = refl
+no-item kind.Neg i e = refl
+no-item kind.Pair i e = refl
+no-item (kind.Call name) i e = refl
+no-item (kind.Start word name) i e = refl
+no-item (kind.NewChan ty) i e = refl
+no-item (kind.Act word) i e = refl
 
 below-last : (i n : ℕ) → i < n + 1 → (i ≡ n → ⊥) → i < n
 below-last i n h other = omega (arith, other)
@@ -79,6 +100,9 @@ module _ (bytes : List ℕ) (fs : List Function) (arity : ℕ) (forms : List For
     pub met : head_met bytes fs (seen_of old) (met_of old) node.head node.parts ≡ Ok (own, met_of next)
     pub nodes : next.nodes ≡ old.nodes
     pub seen : next.seen.items ≡ old.seen.items
+
+  pub block-met : (old : Progress) (node : FormNode) (names : List (Option Span)) → node.head ≡ kind.Block names → HeadMet node old old (code.Block [])
+  block-met old node names e = record { met = ap (λ h. head_met bytes fs (seen_of old) (met_of old) h node.parts) e; nodes = refl; seen = refl }
 
   module _ (at : ℕ) (old next : Progress) (node : FormNode) (found : slice_get forms at ≡ Some node) where
     pub form-head-fault : (fault : ScopeFault) → IsFaultOf (head_met bytes fs (seen_of old) (met_of old) node.head node.parts) fault → (f : Form) → IsAt forms (length old.nodes) at f → IsFaultOf (scoped_now bytes fs arity forms at old f) fault
@@ -138,6 +162,9 @@ module _ (bytes : List ℕ) (fs : List Function) (arity : ℕ) (forms : List For
               ∙ ap (λ s. Ok (behind (own.0 ∷ trees) (reverse s) (reverse slots) (met_of new))) (sym seen),
           own.2,
         )
+
+    pub part-none-fault : (old : Progress) (fault : ScopeFault) → IsFormFault bytes fs arity forms at old fault → IsPartFault bytes fs arity forms at None old slots fault
+    part-none-fault old fault h f trees is = fault-first (scoped_now bytes fs arity forms at old f) _ fault (h f is)
 
     pub part-form : (item : Option (Option Span)) (old new : Progress) (slots_now : List (Option ℕ)) → item ≡ Some None → IsFormMade bytes fs arity forms at old new → new.seen.items ≡ old.seen.items → slots_now ≡ slots ++ None ∷ [] → IsPartMade bytes fs arity forms at item old slots new slots_now
     part-form item old new slots_now item_is made seen e f trees is =

@@ -1,5 +1,5 @@
 -- Words on the syntax: the forms of a program's bodies, and what a form's head says.
-use Rattle.std.specs.Prelude.{ℕ, ◌+◌, List, [], Option}
+use Rattle.std.specs.Prelude.{ℕ, ◌+◌, Bool, true, false, List, [], Option}
 use Rattle.stab_code.specs.declared.head.Head.{Head as Code}
 use Rattle.stab_code.specs.declared.head.Head.TheVariants as code
 use Rattle.stab_parse.specs.declared.symbol.ActWord.{ActWord}
@@ -18,6 +18,11 @@ number_of (next_part ps f) = number_of ps + 1
 abbrev pub items_of : Head → List (Option Span)
 items_of (head.Block names) = names
 items_of _ = []
+
+-- whether it is a block with items
+abbrev pub is_block : Head → Bool
+is_block (head.Block names) = true
+is_block _ = false
 
 -- the act of each word
 abbrev pub act_of : ActWord → Code

@@ -1,5 +1,5 @@
 -- What the steps through a program's bodies come to: each says of every form at the place what the definition gives for it.
-use Rattle.std.specs.Prelude.{◌≡◌, ℕ, ◌-◌, List, [], ◌∷◌, ◌++◌, length, reverse, Option, Result, Ok}
+use Rattle.std.specs.Prelude.{◌≡◌, ℕ, ◌-◌, List, [], ◌∷◌, ◌++◌, length, reverse, slice_get, Option, Some, Result, Ok}
 use Rattle.stab_code.specs.Layout.{nodes_of_all, own_nodes, size_of_all}
 use Rattle.stab_code.specs.Program.{FunctionParts}
 use Rattle.stab_code.specs.Trees.{Tree}
@@ -7,6 +7,7 @@ use Rattle.stab_parse.specs.declared.symbol.Span.{Span}
 use Rattle.stab_parse.specs.declared.tree.FormNode.{FormNode}
 use Rattle.stab_parse.specs.declared.tree.Function.{Function}
 use Rattle.stab_parse.specs.declared.tree.Head.{Head}
+use Rattle.stab_parse.specs.declared.tree.Head.TheVariants as head
 use Rattle.stab_parse.specs.Forms.{Form, form, Parts}
 use Rattle.stab_parse.specs.FormList.{nodes_of_program}
 use Rattle.stab_parse.specs.Grammar.{Program}
@@ -18,6 +19,10 @@ use Rattle.scope_check.specs.Places.{IsAt, own_numbers}
 use Rattle.scope_check.specs.Progress.{Adds, IsFaultOf, met_of, seen_of, texts_of}
 use Rattle.scope_check.specs.Scope.{Behind, Defined, Met, behind, form_scoped, function_defined, functions_scoped, in_order, part_met, parts_scoped}
 use Rattle.scope_check.specs.Seen.{params_seen}
+
+-- the form with that number is a block, and these are the names of its items
+abbrev pub IsBlock : List FormNode → ℕ → List (Option Span) → Type 0
+IsBlock forms at names = (node : FormNode) × (slice_get forms at ≡ Some node) × (node.head ≡ head.Block names)
 
 -- the trees of some parts were made, the last one first
 pub record AddsParts (old new : Progress) (ps : Parts) (trees : List Tree) : Type 0 where

@@ -1,14 +1,12 @@
 //! Forms in forms.
-ghost use Rattle.std.specs.Prelude.{◌≡◌, ◌<◌, ◌≤◌, IfOk, IfErr, OnOk, length, reverse, slice_get, take};
-ghost use Rattle.scope_check.specs.Forms.{items_of};
-ghost use Rattle.scope_check.specs.Made.{ArePartsMade, IsFormFault, IsFormMade, IsPartFault, IsPartMade, IsPartsFault};
+ghost use Rattle.std.specs.Prelude.{◌≡◌, ◌<◌, ◌≤◌, IfOk, IfErr, OnOk, length, slice_get, take};
+ghost use Rattle.scope_check.specs.Made.{ArePartsMade, IsBlock, IsFormFault, IsFormMade, IsPartFault, IsPartMade, IsPartsFault};
 ghost use Rattle.scope_check.specs.Progress.{HaveTexts};
-ghost use Rattle.scope_check.specs.Scope.{with_slots as with_reversed};
 
 use crate::fault::ScopeFault;
 use crate::plan::Plan;
 use crate::progress::Progress;
-use stab_code::Head as Code;
+use stab_code::{Head as Code, Slots};
 use stab_parse::{Head, Span};
 
 impl<'a> Plan<'a> {
@@ -27,40 +25,68 @@ impl<'a> Plan<'a> {
         ensures seen { OnOk result (progress.new.seen.items ≡ progress.old.seen.items) }
         ensures fault { IfErr result (IsFormFault self.now.bytes.now self.now.functions.now arity self.now.forms.now at progress.old) }
     {
-        let head = self.head(progress, &self.forms[at])?;
-        let seen = progress.seen.len();
-        let slots = self.form_parts(progress, arity, at)?;
-        progress.seen.truncate(seen);
-        progress
-            .nodes
-            .push(with_slots(slots, head), self.parts.of(at))?;
+        let form = &self.forms[at];
+        if let Head::Block(names) = &form.head {
+            return self.block(progress, arity, at, names.all());
+        }
+        let head = self.head(progress, form)?;
+        let parts = self.parts.of(at);
+        for part in parts {
+            self.form(progress, arity, part.0 as usize)?;
+        }
+        progress.nodes.push(head, parts)?;
         Ok(())
     }
 
-    /// Makes the nodes of a form's parts, and gives the slots of those that are a block's items.
+    /// Makes the nodes of a block and of the forms in it. The names of its items are seen up to its end.
     #[cycle(forms)]
-    fn form_parts(
+    #[inline(never)]
+    fn block(
         &self,
         progress: &mut Progress,
         arity: u32,
         at: usize,
+        names: &[Option<Span>],
+    ) -> Result<(), ScopeFault>
+        requires texts { HaveTexts self.now.bytes.now self.now.forms.now }
+        requires block { IsBlock self.now.forms.now at names.now }
+        requires few { arity ≤ 8 }
+        ensures ok { OnOk result (IsFormMade self.now.bytes.now self.now.functions.now arity self.now.forms.now at progress.old progress.new) }
+        ensures seen { OnOk result (progress.new.seen.items ≡ progress.old.seen.items) }
+        ensures fault { IfErr result (IsFormFault self.now.bytes.now self.now.functions.now arity self.now.forms.now at progress.old) }
+    {
+        let seen = progress.seen.len();
+        let slots = self.block_parts(progress, arity, at, names)?;
+        progress.seen.truncate(seen);
+        let head = Code::Block(Slots::new(self.alloc, slots)?);
+        progress.nodes.push(head, self.parts.of(at))?;
+        Ok(())
+    }
+
+    /// Makes the nodes of a block's parts, and gives the slots of those that are its items.
+    #[cycle(forms)]
+    fn block_parts(
+        &self,
+        progress: &mut Progress,
+        arity: u32,
+        at: usize,
+        names: &[Option<Span>],
     ) -> Result<Vec<Option<u32>>, ScopeFault>
         requires texts { HaveTexts self.now.bytes.now self.now.forms.now }
-        requires there { at < length self.now.forms.now }
+        requires block { IsBlock self.now.forms.now at names.now }
         requires few { arity ≤ 8 }
         ensures ok { IfOk result (λ slots. ArePartsMade self.now.bytes.now self.now.functions.now arity self.now.forms.now at
             progress.old progress.new slots.items) }
         ensures seen { OnOk result (take (length progress.old.seen.items) progress.new.seen.items ≡ progress.old.seen.items) }
         ensures fault { IfErr result (IsPartsFault self.now.bytes.now self.now.functions.now arity self.now.forms.now at progress.old) }
     {
-        let head = &self.forms[at].head;
         let mut slots = Vec::new(self.alloc);
         for (i, part) in self.parts.of(at).iter().enumerate() {
             self.part(
                 progress,
                 arity,
                 &mut slots,
-                item_at(head, i),
+                item_at(names, i),
                 part.0 as usize,
             )?;
         }
@@ -104,25 +130,9 @@ impl<'a> Plan<'a> {
     }
 }
 
-/// For an item of a block the name of its let, or none; other forms have no items.
-fn item_at(head: &Head, i: usize) -> Option<Option<Span>>
-    ensures { result ≡ slice_get (items_of head.now) i }
+/// For an item of a block the name of its let, or none; the form behind the items is none of them.
+fn item_at(names: &[Option<Span>], i: usize) -> Option<Option<Span>>
+    ensures { result ≡ slice_get names.now i }
 {
-    match head {
-        Head::Block(lets) => lets.all().get(i).copied(),
-        _ => None,
-    }
-}
-
-/// A block with the slots of its items.
-fn with_slots(slots: Vec<Option<u32>>, head: Code) -> Code
-    ensures { result ≡ with_reversed (reverse slots.items) head }
-{
-    match head {
-        Code::Block(mut own) => {
-            own.set(slots);
-            Code::Block(own)
-        }
-        other => other,
-    }
+    names.get(i).copied()
 }

@@ -1,10 +1,10 @@
 //! What a form is, apart from its parts.
-ghost use Rattle.std.specs.Prelude.{◌≡◌, Ok, IfOk, IfErr, OnOk};
+ghost use Rattle.std.specs.Prelude.{◌≡◌, [], false, Ok, IfOk, IfErr, OnOk};
 ghost use Rattle.stab_lex.specs.Pieces.{IsText};
-ghost use Rattle.scope_check.specs.Forms.{act_of};
+ghost use Rattle.scope_check.specs.Forms.{act_of, is_block};
 ghost use Rattle.scope_check.specs.Names.{named, text_at};
 ghost use Rattle.scope_check.specs.Progress.{HasText, IsFaultOf, KeepsNodesAndSeen, met_of, seen_of, texts_of};
-ghost use Rattle.scope_check.specs.Scope.{head_met, text_numbered};
+ghost use Rattle.scope_check.specs.Scope.{head_met, text_numbered, with_slots};
 
 use crate::fault::ScopeFault;
 use crate::names::written;
@@ -12,12 +12,13 @@ use crate::plan::Plan;
 use crate::progress::Progress;
 use crate::types::type_of;
 use stab_base::TextId;
-use stab_code::{Head as Code, Slots};
+use stab_code::Head as Code;
 use stab_lex::characters;
 use stab_parse::{ActWord, CallWord, FormNode, Head, Span};
 
 impl<'a> Plan<'a> {
     /// The number of a text that is written there.
+    #[inline(never)]
     fn text(&self, progress: &mut Progress, span: Span) -> Result<TextId, ScopeFault>
         requires { IsText (named self.now.bytes.now span) }
         ensures lets { OnOk result (progress.new.lets ≡ progress.old.lets) }
@@ -32,11 +33,14 @@ impl<'a> Plan<'a> {
         progress.number_text(span, text.into_bytes())
     }
 
-    /// What a form is, apart from its parts. The slots of a block are known behind its items.
+    /// What a form is that isn't a block, apart from its parts.
+    #[inline(always)]
     pub(crate) fn head(&self, progress: &mut Progress, form: &FormNode) -> Result<Code, ScopeFault>
-        requires { HasText self.now.bytes.now form.now.head }
+        requires text { HasText self.now.bytes.now form.now.head }
+        requires other { is_block form.now.head ≡ false }
         ensures head { IfOk result (λ head. head_met self.now.bytes.now self.now.functions.now (seen_of progress.old) (met_of progress.old)
             form.now.head form.now.parts ≡ Ok (head, met_of progress.new)) }
+        ensures slots { IfOk result (λ head. with_slots [] head ≡ head) }
         ensures others { OnOk result (KeepsNodesAndSeen progress.old progress.new) }
         ensures fault { IfErr result (IsFaultOf (head_met self.now.bytes.now self.now.functions.now (seen_of progress.old)
             (met_of progress.old) form.now.head form.now.parts)) }
@@ -47,7 +51,7 @@ impl<'a> Plan<'a> {
             Head::Int(number) => Ok(Code::Int(*number)),
             Head::Text(span) => Ok(Code::Text(self.text(progress, *span)?)),
             Head::Variable(name) => Ok(Code::Var(progress.slot(self.bytes, *name)?)),
-            Head::Block(_) => Ok(Code::Block(Slots::new(self.alloc, Vec::new(self.alloc))?)),
+            Head::Block(_) => unreachable!(),
             Head::If => Ok(Code::If),
             Head::Two(op) => Ok(Code::Two(*op)),
             Head::Not => Ok(Code::Not),

@@ -58,6 +58,7 @@ impl Progress {
     }
 
     /// The slot of a variable.
+    #[inline(never)]
     pub(crate) fn slot(&self, bytes: &[u8], name: Span) -> Result<u32, ScopeFault>
         ensures { result ≡ slot_found name (slot_of bytes.now (seen_of self.now) name) }
     {

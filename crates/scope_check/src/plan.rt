@@ -60,6 +60,7 @@ impl<'a> Plan<'a> {
     }
 
     /// The number of the function with this name, which takes so many arguments.
+    #[inline(never)]
     pub(crate) fn callee(&self, name: Span, arguments: usize) -> Result<FnId, ScopeFault>
         ensures callee { IfOk result (λ f. callee_of self.now.bytes.now self.now.functions.now name arguments ≡ Ok f.0) }
         ensures fault { IfErr result (λ fault. callee_of self.now.bytes.now self.now.functions.now name arguments ≡ Err fault) }

@@ -8,6 +8,7 @@ use stab_parse::{Param, ParsedType};
 use std::alloc::Global;
 
 /// A type of the syntax.
+#[inline(never)]
 pub(crate) fn type_of(alloc: Global, ty: &ParsedType) -> Result<Ty, ScopeFault>
     ensures ty { IfOk result (λ copy. copy ≡ ty.now) }
     ensures fault { IfErr result (λ fault. fault ≡ ScopeFault.NoMemory) }

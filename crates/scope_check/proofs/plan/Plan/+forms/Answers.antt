@@ -1,10 +1,15 @@
-use Rattle.std.proofs.Common.{◌≡◌, ◌<◌, ap, sym, ◌∙◌, arith, get_or, refl, slice_get, Some, ◌++◌, ◌∷◌, []}
+use Rattle.std.proofs.Common.{rules, ◌≡◌, ◌<◌, ap, sym, ◌∙◌, arith, get_or, refl, slice_get, Some, ◌++◌, ◌∷◌, []}
 use Rattle.std.proofs.Math.Seq.{take-length}
-use Rattle.std.proofs.lemmas.Option.{slice_get-get_or}
+use Rattle.std.specs.Prelude.{None}
+use Rattle.std.proofs.lemmas.List.{reverse-reverse}
+use Rattle.std.proofs.lemmas.Option.{slice_get-get_or, slice_get_within}
 use Rattle.std.proofs.lemmas.Result.{err_from_is_err_and}
+use Rattle.stab_code.specs.declared.head.Head.TheVariants as code
 use Rattle.stab_code.specs.Nodes.{id, node_of}
+use Rattle.stab_parse.specs.declared.tree.Head.TheVariants as kind
+use Rattle.scope_check.specs.Forms.{items_of}
 use Rattle.scope_check.specs.Places.{part_lists}
-use Rattle.scope_check.proofs.Made.{HeadMet, form-head-fault, form-made, form-parts-fault, on-ok, part-form, part-let, part-none, seen-on, so-far-all, so-far-fault, so-far-next, so-far-none}
+use Rattle.scope_check.proofs.Made.{HeadMet, block-met, form-head-fault, form-made, form-parts-fault, no-item, on-ok, part-form, part-let, part-none, part-none-fault, seen-on, so-far-all, so-far-fault, so-far-next, so-far-none}
 use Rattle.scope_check.proofs.Places.{parts-below, parts-there}
 use Rattle.scope_check.proofs.plan.Plan.+forms.Goals as goal
 
@@ -16,78 +21,154 @@ form-returns-in_err-head-clause-fault t c =
     let found = slice_get-get_or plan.forms.now c.args.at c.index-self-at.result c.requires.there in
     rw (p.1, p.2) (form-head-fault plan.bytes.now plan.functions.now c.args.arity plan.forms.now plan.fewer c.args.at c.args.progress.now c.head.new.progress node found c.in_err-head.field-0.0 c.in_err-head.ensures.fault)
 
-pub form-returns-in_err-slots-clause-fault : goal.form-returns-in_err-slots-clause-fault
-form-returns-in_err-slots-clause-fault t c =
-    let p = err_from_is_err_and c.from_residual-in_err-slots.result c.from_residual-in_err-slots.ensures.1 in
+pub form-block-requires : goal.form-block-requires
+form-block-requires t c =
+    let plan = c.args.self.now in
+    let found = slice_get-get_or plan.forms.now c.args.at c.index-self-at.result c.requires.there in
+    (omega (arith, c.decreases), (c.requires.texts, ((get_or plan.forms.now c.args.at c.index-self-at.result, found, c.in-Block.is ∙ ap kind.Block (sym c.all.ensures)), c.requires.few)))
+
+pub form-of-parts-requires : goal.form-of-parts-requires
+form-of-parts-requires t c = parts-there c.args.self.now.forms.now c.args.self.now.parts c.args.at c.args.self.now.laid c.requires.there
+
+pub form-form-requires : goal.form-form-requires
+form-form-requires t c =
+    let plan = c.args.self.now in
+    let listed : slice_get (part_lists 0 [] plan.forms.now) c.args.at ≡ Some c.of-parts.result.now = ap (λ l. slice_get l c.args.at) (sym plan.laid) ∙ c.of-parts.ensures in
+    let below : (get_or c.of-parts.result.now c.loop-part.part-index (id 0)).0 < c.args.at = parts-below plan.forms.now c.args.at c.of-parts.result.now listed c.loop-part.part-index (id 0) c.loop-part-test.true in
+    let there = c.requires.there in
+    (omega (arith, below, c.decreases), (c.requires.texts, (omega (arith, below, there), c.requires.few)))
+
+pub form-loop-part-init : goal.form-loop-part-init
+form-loop-part-init t c =
+    let plan = c.args.self.now in
+    record {
+      far = so-far-none plan.bytes.now plan.functions.now c.args.arity plan.forms.now plan.fewer c.args.at c.head.new.progress c.head.new.progress [] refl refl;
+      seen = refl;
+      own = refl;
+    }
+
+pub form-loop-part-preserved : goal.form-loop-part-preserved
+form-loop-part-preserved t c =
     let plan = c.args.self.now in
     let node = get_or plan.forms.now c.args.at c.index-self-at.result in
     let found = slice_get-get_or plan.forms.now c.args.at c.index-self-at.result c.requires.there in
+    let parts = c.of-parts.result.now in
+    let listed : slice_get (part_lists 0 [] plan.forms.now) c.args.at ≡ Some parts = ap (λ l. slice_get l c.args.at) (sym plan.laid) ∙ c.of-parts.ensures in
+    let i = c.loop-part.part-index in
+    let own = slice_get-get_or parts i (id 0) c.loop-part-test.true in
+    let next = c.form.new.progress in
+    record {
+      far = so-far-next plan.bytes.now plan.functions.now c.args.arity plan.forms.now plan.fewer c.args.at c.head.new.progress c.loop-part.progress [] node parts i
+          (get_or parts i (id 0)) None found listed own (no-item node.head i (search rules)) c.loop-part.invariant.far next []
+          (part-none plan.bytes.now plan.functions.now c.args.arity plan.forms.now plan.fewer (get_or parts i (id 0)).0 [] None c.loop-part.progress next refl c.in_ok-form.ensures.ok c.in_ok-form.ensures.seen);
+      seen = c.in_ok-form.ensures.seen ∙ c.loop-part.invariant.seen;
+      own = c.loop-part.invariant.own;
+    }
+
+pub form-returns-in_err-form-clause-fault : goal.form-returns-in_err-form-clause-fault
+form-returns-in_err-form-clause-fault t c =
+    let p = err_from_is_err_and c.from_residual-in_err-form.result c.from_residual-in_err-form.ensures.1 in
+    let plan = c.args.self.now in
+    let node = get_or plan.forms.now c.args.at c.index-self-at.result in
+    let found = slice_get-get_or plan.forms.now c.args.at c.index-self-at.result c.requires.there in
+    let parts = c.of-parts.result.now in
+    let listed : slice_get (part_lists 0 [] plan.forms.now) c.args.at ≡ Some parts = ap (λ l. slice_get l c.args.at) (sym plan.laid) ∙ c.of-parts.ensures in
+    let i = c.loop-part.part-index in
+    let own = slice_get-get_or parts i (id 0) c.loop-part-test.true in
     let head : HeadMet plan.bytes.now plan.functions.now c.args.arity plan.forms.now plan.fewer node c.args.progress.now c.head.new.progress c.in_ok-head.head =
     record { met = c.in_ok-head.ensures.head; nodes = c.in_ok-head.ensures.others.0; seen = c.in_ok-head.ensures.others.1 } in
-    rw (p.1, p.2) (form-parts-fault plan.bytes.now plan.functions.now c.args.arity plan.forms.now plan.fewer c.args.at c.args.progress.now c.head.new.progress node found c.in_ok-head.head head c.in_err-slots.field-0.0 c.in_err-slots.ensures.fault)
-
-pub form-of-requires : goal.form-of-requires
-form-of-requires t c = parts-there c.args.self.now.forms.now c.args.self.now.parts c.args.at c.args.self.now.laid c.requires.there
+    let last = so-far-fault plan.bytes.now plan.functions.now c.args.arity plan.forms.now plan.fewer c.args.at c.head.new.progress c.loop-part.progress [] node parts i
+    (get_or parts i (id 0)) None found listed own (no-item node.head i (search rules)) c.loop-part.invariant.far c.in_err-form.field-0.0
+    (part-none-fault plan.bytes.now plan.functions.now c.args.arity plan.forms.now plan.fewer (get_or parts i (id 0)).0 [] c.loop-part.progress c.in_err-form.field-0.0 c.in_err-form.ensures.fault) in
+    rw (p.1, p.2) (form-parts-fault plan.bytes.now plan.functions.now c.args.arity plan.forms.now plan.fewer c.args.at c.args.progress.now c.head.new.progress node found c.in_ok-head.head head c.in_err-form.field-0.0 last)
 
 pub form-returns-clause-ok : goal.form-returns-clause-ok
 form-returns-clause-ok t c =
     let plan = c.args.self.now in
     let node = get_or plan.forms.now c.args.at c.index-self-at.result in
     let found = slice_get-get_or plan.forms.now c.args.at c.index-self-at.result c.requires.there in
+    let parts = c.of-parts.result.now in
+    let listed : slice_get (part_lists 0 [] plan.forms.now) c.args.at ≡ Some parts = ap (λ l. slice_get l c.args.at) (sym plan.laid) ∙ c.of-parts.ensures in
     let head : HeadMet plan.bytes.now plan.functions.now c.args.arity plan.forms.now plan.fewer node c.args.progress.now c.head.new.progress c.in_ok-head.head =
     record { met = c.in_ok-head.ensures.head; nodes = c.in_ok-head.ensures.others.0; seen = c.in_ok-head.ensures.others.1 } in
-    let last = c.form_parts.new.progress in
-    let listed : slice_get (part_lists 0 [] plan.forms.now) c.args.at ≡ Some c.of.result.now = ap (λ l. slice_get l c.args.at) (sym plan.laid) ∙ c.of.ensures in
+    let last = c.loop-part.progress in
+    let made = so-far-all plan.bytes.now plan.functions.now c.args.arity plan.forms.now plan.fewer c.args.at c.head.new.progress last [] parts c.loop-part.part-index listed
+    (omega (arith, c.loop-part-test.false, c.loop-part.auto.part-index-end)) c.loop-part.invariant.far in
     form-made plan.bytes.now plan.functions.now c.args.arity plan.forms.now plan.fewer c.args.at c.args.progress.now c.head.new.progress node found c.in_ok-head.head head
-    last c.in_ok-slots.slots.items c.of.result.now c.push.new.self c.in_ok-slots.ensures.ok listed (c.in_ok-push.ensures ∙ ap (λ h. last.nodes ++ node_of h c.of.result.now ∷ []) c.with_slots.ensures)
+    last [] parts c.push.new.self made listed (c.in_ok-push.ensures ∙ ap (λ h. last.nodes ++ node_of h parts ∷ []) (c.loop-part.invariant.own ∙ sym c.in_ok-head.ensures.slots))
 
-pub form_parts-of-part-items-requires : goal.form_parts-of-part-items-requires
-form_parts-of-part-items-requires t c = parts-there c.args.self.now.forms.now c.args.self.now.parts c.args.at c.args.self.now.laid c.requires.there
+pub block-of-requires : goal.block-of-requires
+block-of-requires t c = parts-there c.args.self.now.forms.now c.args.self.now.parts c.args.at c.args.self.now.laid (slice_get_within c.args.self.now.forms.now c.args.at c.requires.block.0 c.requires.block.1)
 
-pub form_parts-part-requires : goal.form_parts-part-requires
-form_parts-part-requires t c =
+pub block-returns-in_err-slots-clause-fault : goal.block-returns-in_err-slots-clause-fault
+block-returns-in_err-slots-clause-fault t c =
+    let p = err_from_is_err_and c.from_residual.result c.from_residual.ensures.1 in
+    let plan = c.args.self.now in
+    let block = c.requires.block in
+    let old = c.args.progress.now in
+    let head = block-met plan.bytes.now plan.functions.now c.args.arity plan.forms.now plan.fewer old block.0 c.args.names.now block.2 in
+    rw (p.1, p.2) (form-parts-fault plan.bytes.now plan.functions.now c.args.arity plan.forms.now plan.fewer c.args.at old old block.0 block.1 (code.Block []) head c.in_err-slots.field-0.0 c.in_err-slots.ensures.fault)
+
+pub block-returns-clause-ok : goal.block-returns-clause-ok
+block-returns-clause-ok t c =
+    let plan = c.args.self.now in
+    let block = c.requires.block in
+    let old = c.args.progress.now in
+    let head = block-met plan.bytes.now plan.functions.now c.args.arity plan.forms.now plan.fewer old block.0 c.args.names.now block.2 in
+    let last = c.block_parts.new.progress in
+    let slots = c.in_ok-slots.slots.items in
+    let parts = c.of.result.now in
+    let listed : slice_get (part_lists 0 [] plan.forms.now) c.args.at ≡ Some parts = ap (λ l. slice_get l c.args.at) (sym plan.laid) ∙ c.of.ensures in
+    form-made plan.bytes.now plan.functions.now c.args.arity plan.forms.now plan.fewer c.args.at old old block.0 block.1 (code.Block []) head
+    last slots parts c.push.new.self c.in_ok-slots.ensures.ok listed (c.in_ok-push.ensures ∙ ap (λ s. last.nodes ++ node_of (code.Block s) parts ∷ []) (c.in_ok-new.ensures ∙ sym (reverse-reverse slots)))
+
+pub block_parts-of-part-items-requires : goal.block_parts-of-part-items-requires
+block_parts-of-part-items-requires t c = parts-there c.args.self.now.forms.now c.args.self.now.parts c.args.at c.args.self.now.laid (slice_get_within c.args.self.now.forms.now c.args.at c.requires.block.0 c.requires.block.1)
+
+pub block_parts-part-requires : goal.block_parts-part-requires
+block_parts-part-requires t c =
     let plan = c.args.self.now in
     let listed : slice_get (part_lists 0 [] plan.forms.now) c.args.at ≡ Some c.of-part-items.result.now = ap (λ l. slice_get l c.args.at) (sym plan.laid) ∙ c.of-part-items.ensures in
     let below : (get_or c.of-part-items.result.now c.loop-i.i (id 0)).0 < c.args.at = parts-below plan.forms.now c.args.at c.of-part-items.result.now listed c.loop-i.i (id 0) c.loop-i-test.true in
-    let there = c.requires.there in
+    let there = slice_get_within plan.forms.now c.args.at c.requires.block.0 c.requires.block.1 in
     (omega (arith, below, c.decreases), (c.requires.texts, (omega (arith, below, there), c.requires.few)))
 
-pub form_parts-loop-i-init : goal.form_parts-loop-i-init
-form_parts-loop-i-init t c =
+pub block_parts-loop-i-init : goal.block_parts-loop-i-init
+block_parts-loop-i-init t c =
     let plan = c.args.self.now in
     record {
       far = so-far-none plan.bytes.now plan.functions.now c.args.arity plan.forms.now plan.fewer c.args.at c.args.progress.now c.args.progress.now c.new-slots.result.items refl c.new-slots.ensures.items;
       seen = take-length c.args.progress.now.seen.items;
     }
 
-pub form_parts-loop-i-preserved : goal.form_parts-loop-i-preserved
-form_parts-loop-i-preserved t c =
+pub block_parts-loop-i-preserved : goal.block_parts-loop-i-preserved
+block_parts-loop-i-preserved t c =
     let plan = c.args.self.now in
-    let node = get_or plan.forms.now c.args.at c.index-self-at.result in
-    let found = slice_get-get_or plan.forms.now c.args.at c.index-self-at.result c.requires.there in
+    let block = c.requires.block in
     let parts = c.of-part-items.result.now in
     let listed : slice_get (part_lists 0 [] plan.forms.now) c.args.at ≡ Some parts = ap (λ l. slice_get l c.args.at) (sym plan.laid) ∙ c.of-part-items.ensures in
     let own = slice_get-get_or parts c.loop-i.i (id 0) c.loop-i-test.true in
+    let item_is = c.item_at.ensures ∙ ap (λ h. slice_get (items_of h) c.loop-i.i) (sym block.2) in
     record {
-      far = so-far-next plan.bytes.now plan.functions.now c.args.arity plan.forms.now plan.fewer c.args.at c.args.progress.now c.loop-i.progress c.loop-i.slots.items node parts c.loop-i.i
-          (get_or parts c.loop-i.i (id 0)) c.item_at.result found listed own c.item_at.ensures c.loop-i.invariant.far c.part.new.progress c.part.new.slots.items c.in_ok-part.ensures.ok;
+      far = so-far-next plan.bytes.now plan.functions.now c.args.arity plan.forms.now plan.fewer c.args.at c.args.progress.now c.loop-i.progress c.loop-i.slots.items block.0 parts c.loop-i.i
+          (get_or parts c.loop-i.i (id 0)) c.item_at.result block.1 listed own item_is c.loop-i.invariant.far c.part.new.progress c.part.new.slots.items c.in_ok-part.ensures.ok;
       seen = seen-on c.args.progress.now.seen.items c.loop-i.progress.seen.items c.part.new.progress.seen.items c.loop-i.invariant.seen c.in_ok-part.ensures.seen;
     }
 
-pub form_parts-returns-in_err-part-clause-fault : goal.form_parts-returns-in_err-part-clause-fault
-form_parts-returns-in_err-part-clause-fault t c =
+pub block_parts-returns-in_err-part-clause-fault : goal.block_parts-returns-in_err-part-clause-fault
+block_parts-returns-in_err-part-clause-fault t c =
     let p = err_from_is_err_and c.from_residual.result c.from_residual.ensures.1 in
     let plan = c.args.self.now in
-    let node = get_or plan.forms.now c.args.at c.index-self-at.result in
-    let found = slice_get-get_or plan.forms.now c.args.at c.index-self-at.result c.requires.there in
+    let block = c.requires.block in
     let parts = c.of-part-items.result.now in
     let listed : slice_get (part_lists 0 [] plan.forms.now) c.args.at ≡ Some parts = ap (λ l. slice_get l c.args.at) (sym plan.laid) ∙ c.of-part-items.ensures in
     let own = slice_get-get_or parts c.loop-i.i (id 0) c.loop-i-test.true in
-    rw (p.1, p.2) (so-far-fault plan.bytes.now plan.functions.now c.args.arity plan.forms.now plan.fewer c.args.at c.args.progress.now c.loop-i.progress c.loop-i.slots.items node parts c.loop-i.i
-    (get_or parts c.loop-i.i (id 0)) c.item_at.result found listed own c.item_at.ensures c.loop-i.invariant.far c.in_err-part.field-0.0 c.in_err-part.ensures.fault)
+    let item_is = c.item_at.ensures ∙ ap (λ h. slice_get (items_of h) c.loop-i.i) (sym block.2) in
+    rw (p.1, p.2) (so-far-fault plan.bytes.now plan.functions.now c.args.arity plan.forms.now plan.fewer c.args.at c.args.progress.now c.loop-i.progress c.loop-i.slots.items block.0 parts c.loop-i.i
+    (get_or parts c.loop-i.i (id 0)) c.item_at.result block.1 listed own item_is c.loop-i.invariant.far c.in_err-part.field-0.0 c.in_err-part.ensures.fault)
 
-pub form_parts-returns-clause-ok : goal.form_parts-returns-clause-ok
-form_parts-returns-clause-ok t c =
+pub block_parts-returns-clause-ok : goal.block_parts-returns-clause-ok
+block_parts-returns-clause-ok t c =
     let plan = c.args.self.now in
     let parts = c.of-part-items.result.now in
     let listed : slice_get (part_lists 0 [] plan.forms.now) c.args.at ≡ Some parts = ap (λ l. slice_get l c.args.at) (sym plan.laid) ∙ c.of-part-items.ensures in
