@@ -4,6 +4,7 @@ ghost use Rattle.stab_journal.specs.Event.{IsWorker};
 use super::turns::book_with;
 use commit_book::{Book, Lease, Turn};
 use stab_base::{Generation, ThreadId};
+use std::process::Abort;
 use std::test::Fail;
 
 // How many threads ended, failed, are parked, ready and leased.
@@ -49,32 +50,40 @@ fn next_turn(book: &mut Book) -> &'static str {
 #[test]
 fn a_thread_is_lent_and_given_back(rt: HostRuntime) -> Result<(), Fail> {
     let mut book = book_with(rt.alloc(), "fn main(): unit { print(5) }", &[], 100)?;
-    let before = threads(&book);
-    let lease = lease_of(&mut book, 3)?;
+    lends(&rt, &mut book)
+}
+
+fn lends<R: Abort>(rt: &R, book: &mut Book) -> Result<(), Fail> {
+    let before = threads(book);
+    let lease = lease_of(book, 3)?;
     let seen = (lease.worker(), lease.thread(), lease.generation());
-    let meanwhile = threads(&book);
-    let other = next_turn(&mut book);
+    let meanwhile = threads(book);
+    let other = next_turn(book);
     book.give_back(lease);
     assert_eq!(rt; before, [0, 0, 0, 1, 0]);
     assert_eq!(rt; seen, (3, ThreadId(1), Generation(0)));
     assert_eq!(rt; meanwhile, [0, 0, 0, 0, 1]);
     assert_eq!(rt; other, "idle");
-    assert_eq!(rt; threads(&book), [0, 0, 0, 1, 0]);
-    assert_eq!(rt; next_turn(&mut book), "work");
+    assert_eq!(rt; threads(book), [0, 0, 0, 1, 0]);
+    assert_eq!(rt; next_turn(book), "work");
     Ok(())
 }
 
 #[test]
 fn a_thread_that_was_recalled_is_not_given_back(rt: HostRuntime) -> Result<(), Fail> {
     let mut book = book_with(rt.alloc(), "fn main(): unit { print(5) }", &[], 100)?;
-    let lease = lease_of(&mut book, 64)?.for_worker(2);
+    recalls(&rt, &mut book)
+}
+
+fn recalls<R: Abort>(rt: &R, book: &mut Book) -> Result<(), Fail> {
+    let lease = lease_of(book, 64)?.for_worker(2);
     let worker = lease.worker();
     book.recall();
-    let recalled = threads(&book);
+    let recalled = threads(book);
     book.give_back(lease);
     assert_eq!(rt; worker, 2);
     assert_eq!(rt; recalled, [0, 0, 0, 1, 0]);
-    assert_eq!(rt; threads(&book), [0, 0, 0, 1, 0]);
+    assert_eq!(rt; threads(book), [0, 0, 0, 1, 0]);
     Ok(())
 }
 
@@ -86,13 +95,17 @@ fn has_printed_nothing(book: &Book) -> bool {
 #[test]
 fn a_main_that_is_a_value_is_at_rest(rt: HostRuntime) -> Result<(), Fail> {
     let mut book = book_with(rt.alloc(), "fn main(): int { 7 }", &[], 100)?;
-    assert_eq!(rt; threads(&book), [1, 0, 0, 0, 0]);
-    assert_eq!(rt; next_turn(&mut book), "quiet");
+    rests(&rt, &mut book)
+}
+
+fn rests<R: Abort>(rt: &R, book: &mut Book) -> Result<(), Fail> {
+    assert_eq!(rt; threads(book), [1, 0, 0, 0, 0]);
+    assert_eq!(rt; next_turn(book), "quiet");
     assert_eq!(rt; book.fault_of(ThreadId(1)), None);
     assert_eq!(rt; book.last_thread(), ThreadId(1));
     assert_eq!(rt; book.due(), 0);
     assert_eq!(rt; book.history().len(), 0);
     assert_eq!(rt; book.job().fuel(), 100);
-    assert!(rt; has_printed_nothing(&book));
+    assert!(rt; has_printed_nothing(book));
     Ok(())
 }

@@ -3,11 +3,12 @@ ghost use Rattle.std.specs.Prelude.{◌≤◌, length};
 ghost use Rattle.stab_journal.specs.Event.{IsWorker};
 
 use super::texts::CASCADE;
-use super::turns::{Work, answer, book_with, next_work};
+use super::turns::{Stuck, Work, answer, book_with, next_work};
 use book_text::shown_text;
 use commit_book::{Book, Done, Lease};
 use stab_base::{NoMemory, Seq};
-use std::alloc::Global;
+use std::alloc::{AllocGlobal, Global};
+use std::process::Abort;
 use std::test::Fail;
 
 const QUANTUM: u32 = 1_000;
@@ -137,6 +138,10 @@ impl Drill {
 #[test]
 fn stale_lease_of_another_control(rt: HostRuntime) -> Result<(), Fail> {
     let mut drill = Drill::new(rt.alloc(), "fn main(): unit { print(5); print(6) }", &[])?;
+    another_control(&rt, &mut drill)
+}
+
+fn another_control<R: AllocGlobal + Abort>(rt: &R, drill: &mut Drill) -> Result<(), Fail> {
     let held = drill.lease(2);
     drill.book.recall();
     drill.turns(1);
@@ -164,6 +169,10 @@ fn kid(): unit { stabilize() }
 fn part(): unit { spawn kid(); if probe() < 0 { stabilize() } else { () } }
 fn main(): unit { stable part() }";
     let mut drill = Drill::new(rt.alloc(), text, &[-1])?;
+    gone_thread(&rt, &mut drill)
+}
+
+fn gone_thread<R: AllocGlobal + Abort>(rt: &R, drill: &mut Drill) -> Result<(), Fail> {
     drill.turns(2);
     let of_the_child = drill.lease(2);
     drill.turns(2);
@@ -195,6 +204,10 @@ fn part(c: chan[int]): unit { send(c, 1); if probe() < 0 { stabilize() } else { 
 fn a(c: chan[int]): unit { stable part(c) }
 fn main(): unit { let c = chan[int](); spawn b(c); spawn a(c); stable part(c) }";
     let mut drill = Drill::new(rt.alloc(), text, &[-1, -1])?;
+    same_control(&rt, &mut drill)
+}
+
+fn same_control<R: AllocGlobal + Abort>(rt: &R, drill: &mut Drill) -> Result<(), Fail> {
     drill.turns(9);
     let third = drill.lease(3);
     drill.turns(1);
@@ -207,9 +220,8 @@ fn main(): unit { let c = chan[int](); spawn b(c); spawn a(c); stable part(c) }"
     drill.commit(3, third);
     drill.commit(5, fifth);
     drill.commit(2, second);
-    let shown = drill.show();
     drill.give_back(fourth);
-    shown?;
+    drill.show()?;
     let told = "\
 lease 1 thread 1 gen 0
 commit 1 taken 1 1
@@ -252,37 +264,54 @@ ended 0 faulted 0 waiting 3
 #[test]
 fn an_undo_tells_which_nodes_it_took_away(rt: HostRuntime) -> Result<(), Fail> {
     let mut book = book_with(rt.alloc(), CASCADE, &[-1], 10_000)?;
+    let mut nodes = Vec::new(rt.alloc());
+    let told = last_undo(&mut book, 32, &mut nodes)?;
+    assert_eq!(rt; told, Some((31, 2, 17, 10)));
+    assert_eq!(rt; nodes.as_slice(), &[17, 20, 23, 26, 28][..]);
+    Ok(())
+}
+
+// Where the events of the last undo in so many turns begin, how many there are, the section's mark and how many steps were
+// removed. Its nodes are added.
+fn last_undo(
+    book: &mut Book,
+    turns: u32,
+    nodes: &mut Vec<u64>,
+) -> Result<Option<(u64, u32, u64, u64)>, Fail> {
     let mut told = None;
-    for _ in 0..32 {
-        if let Some((lease, progress)) = next_work(&mut book, 1, QUANTUM)? {
+    for _ in 0..turns {
+        if let Some(done) = next_answer(book)? {
             if let Done::Undone {
                 first,
                 count,
                 mark,
                 removed,
                 marks,
-            } = answer(&mut book, lease, progress)?
+            } = &done
             {
-                told = Some((first.0, count, mark.0, removed, sorted(rt.alloc(), &marks)?));
+                sorted(marks, nodes)?;
+                told = Some((first.0, *count, mark.0, *removed));
             }
         }
     }
-    let Some((first, count, mark, removed, nodes)) = told else {
-        return Err(Fail::from("no undo"));
-    };
-    assert_eq!(rt; (first, count, mark, removed), (31, 2, 17, 10));
-    assert_eq!(rt; nodes.as_slice(), &[17, 20, 23, 26, 28][..]);
-    Ok(())
+    Ok(told)
 }
 
-// The numbers in order.
-fn sorted(alloc: Global, nodes: &[Seq]) -> Result<Vec<u64>, Fail> {
-    let mut numbers = Vec::new(alloc);
+// What is answered to the next thread's work, if one is lent.
+fn next_answer(book: &mut Book) -> Result<Option<Done>, Stuck> {
+    match next_work(book, 1, QUANTUM)? {
+        Some((lease, progress)) => Ok(Some(answer(book, lease, progress)?)),
+        None => Ok(None),
+    }
+}
+
+// Adds the numbers, in order.
+fn sorted(nodes: &[Seq], numbers: &mut Vec<u64>) -> Result<(), Fail> {
     for q in nodes {
         numbers.push(q.0)?;
     }
     numbers.sort_unstable();
-    Ok(numbers)
+    Ok(())
 }
 
 #[test]
@@ -292,6 +321,10 @@ fn b(c: chan[int]): unit { recv(c); b(c) }
 fn part(c: chan[int]): unit { send(c, 1); if probe() < 0 { stabilize() } else { () } }
 fn main(): unit { let c = chan[int](); spawn b(c); stable part(c) }";
     let mut drill = Drill::new(rt.alloc(), text, &[-1, -1, -1])?;
+    three_leases(&rt, &mut drill)
+}
+
+fn three_leases<R: AllocGlobal + Abort>(rt: &R, drill: &mut Drill) -> Result<(), Fail> {
     drill.turns(5);
     let over_three = drill.lease(2);
     drill.turns(5);

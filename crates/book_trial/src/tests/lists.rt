@@ -280,16 +280,22 @@ impl Trial {
     }
 }
 
+// The call after which something was first wrong, and what calls were told.
+fn tried(alloc: Global, text: &str, seed: u64) -> Result<(Option<u64>, Told), Fail> {
+    let mut trial = Trial::new(alloc, text, seed)?;
+    trial.run();
+    Ok((trial.wrong, trial.told))
+}
+
 #[test]
 fn random_lists_of_calls(rt: HostRuntime) -> Result<(), Fail> {
     let mut total = Told::new();
     for (k, text) in TEXTS.iter().enumerate() {
         for seed in 0..200 {
-            let mut trial = Trial::new(rt.alloc(), text, seed)?;
-            trial.run();
-            assert_eq!(rt; trial.wrong, None, "at {seed} of text {k}");
-            assert!(rt; !trial.told.strange, "at {seed} of text {k}");
-            total.add(trial.told);
+            let (wrong, told) = tried(rt.alloc(), text, seed)?;
+            assert_eq!(rt; wrong, None, "at {seed} of text {k}");
+            assert!(rt; !told.strange, "at {seed} of text {k}");
+            total.add(told);
         }
     }
     assert!(rt; total.commits > 5_000);

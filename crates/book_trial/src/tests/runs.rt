@@ -34,8 +34,13 @@ fn expect_run<R: AllocGlobal + Abort>(
     requires { length script.now ≤ 10 }
 {
     let (book, found) = run_of(rt.alloc(), text, script, 20_000)?;
-    let text = shown_text(rt.alloc(), &book)?;
     assert_eq!(rt; found, end);
+    shows(rt, &book, shown)
+}
+
+// The book shows this.
+fn shows<R: AllocGlobal + Abort>(rt: &R, book: &Book, shown: &str) -> Result<(), Fail> {
+    let text = shown_text(rt.alloc(), book)?;
     assert_eq!(rt; text.as_slice(), shown.as_bytes());
     Ok(())
 }
@@ -107,6 +112,10 @@ const REPLIES: ChanId = ChanId(2);
 fn the_journal_of_a_request(rt: HostRuntime) -> Result<(), Fail> {
     let (book, end) = run_of(rt.alloc(), REQUEST, &[], 20_000)?;
     assert_eq!(rt; end, RunEnd::Quiet);
+    has_steps_of_a_request(&rt, &book)
+}
+
+fn has_steps_of_a_request<R: AllocGlobal + Abort>(rt: &R, book: &Book) -> Result<(), Fail> {
     let labels = [
         Label::NewChan(MAIN, REQUESTS),
         Label::Local(MAIN, 1),

@@ -87,31 +87,3 @@ pub(super) fn answer(book: &mut Book, lease: Lease, progress: Progress) -> Resul
         }
     }
 }
-
-// One turn of worker 1, and whether there was one.
-fn turn(book: &mut Book, out: &mut Vec<u8>) -> Result<bool, Stuck> {
-    if book.due() > 0 && book.release(1, out).is_err() {
-        return Err(Stuck::NoMemory);
-    }
-    match next_work(book, 1, 1_000)? {
-        Some((lease, progress)) => {
-            answer(book, lease, progress)?;
-            Ok(true)
-        }
-        None => Ok(false),
-    }
-}
-
-// A book of the text after its run, and what it released.
-pub(super) fn played(alloc: Global, text: &str, script: &[i64]) -> Result<(Book, Vec<u8>), Fail>
-    requires { length script.now ≤ 10 }
-{
-    let mut book = book_with(alloc, text, script, 10_000)?;
-    let mut out = Vec::new(alloc);
-    for _ in 0..1_000 {
-        if !turn(&mut book, &mut out)? {
-            return Ok((book, out));
-        }
-    }
-    Err(Fail::from("too many turns"))
-}

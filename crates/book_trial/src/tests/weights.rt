@@ -2,6 +2,7 @@
 
 use super::turns::{answer, book_with, next_work};
 use commit_book::{Book, Done};
+use std::alloc::Global;
 use std::test::Fail;
 
 // The steps of each commit: a book takes what a thread did, whatever the job's quantum is.
@@ -35,18 +36,28 @@ impl Answers {
     }
 }
 
-#[test]
-fn over_the_weight(rt: HostRuntime) -> Result<(), Fail> {
-    let text = "fn f(): unit { f() } fn main(): unit { f() }";
-    let mut book = book_with(rt.alloc(), text, &[], 10_001)?;
+// What a book with fuel 10,001 answers while the weight rises.
+fn answers_of(book: &mut Book) -> Answers {
     let mut answers = Answers {
         taken: 0,
         over: None,
         others: 0,
     };
-    answers.hold(&mut book, 1);
+    answers.hold(book, 1);
     // Each commit weighs 10,000, and one is made while the weight is below 10,001 and 1,000,000 more.
-    answers.hold(&mut book, 102);
+    answers.hold(book, 102);
+    answers
+}
+
+fn held(alloc: Global) -> Result<Answers, Fail> {
+    let text = "fn f(): unit { f() } fn main(): unit { f() }";
+    let mut book = book_with(alloc, text, &[], 10_001)?;
+    Ok(answers_of(&mut book))
+}
+
+#[test]
+fn over_the_weight(rt: HostRuntime) -> Result<(), Fail> {
+    let answers = held(rt.alloc())?;
     assert_eq!(rt; answers.taken, 102);
     assert_eq!(rt; answers.over, Some(1_020_000));
     assert_eq!(rt; answers.others, 0);
