@@ -6,7 +6,7 @@ use std::alloc::{AllocError, Global};
 use std::process::Abort;
 use std::test::Fail;
 
-// Each line of the table is what stands in `fn main(): unit { }`, whose brace is byte 16, an arrow, and its forms.
+// Each line of the table is what stands in `fn main(): unit { }`, an arrow, and its forms.
 fn assert_forms(rt: &impl Abort, alloc: Global, table: &str) -> Result<(), Fail> {
     for row in table.lines() {
         let (body, forms) = row.split_once(" -> ").ok_or("no arrow")?;
@@ -21,88 +21,88 @@ fn assert_forms(rt: &impl Abort, alloc: Global, table: &str) -> Result<(), Fail>
 }
 
 const PRIMARIES: &str = "\
-7 -> 7@18
-\"a\\\"\" -> \"a\\\"\"@18
-true -> true@18
-false -> false@18
-a -> a@18
-f() -> f/0@18
-f(1) -> 1@20 f/1@18
-f(1, a) -> 1@20 a@23 f/2@18
-() -> unit@18
-(1) -> 1@19
-(1, a) -> 1@19 a@22 pair@18
-{} -> unit@18
-{1} -> 1@19
-if a {} -> a@21 unit@23 unit@18 if@18
-if a {1} else {2} -> a@21 1@24 2@33 if@18
-if a {1} else if b {} -> a@21 1@24 b@35 unit@37 unit@32 if@32 if@18
-chan[int]() -> chan@18
+7 -> 7
+\"a\\\"\" -> \"a\\\"\"
+true -> true
+false -> false
+a -> a
+f() -> f/0
+f(1) -> 1 f/1
+f(1, a) -> 1 a f/2
+() -> unit
+(1) -> 1
+(1, a) -> 1 a pair
+{} -> unit
+{1} -> 1
+if a {} -> a unit unit if
+if a {1} else {2} -> a 1 2 if
+if a {1} else if b {} -> a 1 b unit unit if if
+chan[int]() -> chan
 ";
 
 const ACTS: &str = "\
-spawn f(1) -> 1@26 Spawn:f/1@18
-stable f() -> Stable:f/0@18
-ref(1) -> 1@22 Ref/1@18
-get(a) -> a@22 Get/1@18
-recv(a) -> a@23 Recv/1@18
-print(1) -> 1@24 Print/1@18
-fst(a) -> a@22 Fst/1@18
-snd(a) -> a@22 Snd/1@18
-set(a, 1) -> a@22 1@25 Set/2@18
-send(a, 1) -> a@23 1@26 Send/2@18
-pick(a, b) -> a@23 b@26 Pick/2@18
-stabilize() -> Stabilize/0@18
-cut() -> Cut/0@18
-probe() -> Probe/0@18
-pin() -> Pin/0@18
-attempt() -> Attempt/0@18
+spawn f(1) -> 1 Spawn:f/1
+stable f() -> Stable:f/0
+ref(1) -> 1 Ref/1
+get(a) -> a Get/1
+recv(a) -> a Recv/1
+print(1) -> 1 Print/1
+fst(a) -> a Fst/1
+snd(a) -> a Snd/1
+set(a, 1) -> a 1 Set/2
+send(a, 1) -> a 1 Send/2
+pick(a, b) -> a b Pick/2
+stabilize() -> Stabilize/0
+cut() -> Cut/0
+probe() -> Probe/0
+pin() -> Pin/0
+attempt() -> Attempt/0
 ";
 
 const OPERATORS: &str = "\
-1 || 2 -> 1@18 2@23 Or@18
-1 && 2 -> 1@18 2@23 And@18
-1 == 2 -> 1@18 2@23 Eq@18
-1 != 2 -> 1@18 2@23 Ne@18
-1 < 2 -> 1@18 2@22 Lt@18
-1 <= 2 -> 1@18 2@23 Le@18
-1 > 2 -> 1@18 2@22 Gt@18
-1 >= 2 -> 1@18 2@23 Ge@18
-1 + 2 -> 1@18 2@22 Add@18
-1 - 2 -> 1@18 2@22 Sub@18
-1 * 2 -> 1@18 2@22 Mul@18
-1 / 2 -> 1@18 2@22 Div@18
-1 % 2 -> 1@18 2@22 Rem@18
--7 -> -7@18
-- 7 -> -7@18
--a -> a@19 Neg@18
---7 -> -7@19 Neg@18
-!a -> a@19 Not@18
-!-7 -> -7@19 Not@18
--9223372036854775808 -> -9223372036854775808@18
---9223372036854775808 -> -9223372036854775808@19 Neg@18
-9223372036854775807 -> 9223372036854775807@18
+1 || 2 -> 1 2 Or
+1 && 2 -> 1 2 And
+1 == 2 -> 1 2 Eq
+1 != 2 -> 1 2 Ne
+1 < 2 -> 1 2 Lt
+1 <= 2 -> 1 2 Le
+1 > 2 -> 1 2 Gt
+1 >= 2 -> 1 2 Ge
+1 + 2 -> 1 2 Add
+1 - 2 -> 1 2 Sub
+1 * 2 -> 1 2 Mul
+1 / 2 -> 1 2 Div
+1 % 2 -> 1 2 Rem
+-7 -> -7
+- 7 -> -7
+-a -> a Neg
+--7 -> -7 Neg
+!a -> a Not
+!-7 -> -7 Not
+-9223372036854775808 -> -9223372036854775808
+--9223372036854775808 -> -9223372036854775808 Neg
+9223372036854775807 -> 9223372036854775807
 ";
 
 const CHAINS: &str = "\
-1 - 2 - 3 -> 1@18 2@22 Sub@18 3@26 Sub@18
-1 / 2 * 3 -> 1@18 2@22 Div@18 3@26 Mul@18
-1 || 2 || 3 -> 1@18 2@23 Or@18 3@28 Or@18
-1 && 2 && 3 -> 1@18 2@23 And@18 3@28 And@18
-1 - -2 -> 1@18 -2@22 Sub@18
-1 -2 -> 1@18 2@21 Sub@18
-1 + 2 * -3 -> 1@18 2@22 -3@26 Mul@22 Add@18
-1 || 2 && 3 == 4 + 5 * 6 -> 1@18 2@23 3@28 4@33 5@37 6@41 Mul@37 Add@33 Eq@28 And@23 Or@18
-1 * 2 + 3 < 4 && 5 || 6 -> 1@18 2@22 Mul@18 3@26 Add@18 4@30 Lt@18 5@35 And@18 6@40 Or@18
-(1 - (2 - 3)) * 4 -> 1@19 2@24 3@28 Sub@24 Sub@19 4@34 Mul@18
+1 - 2 - 3 -> 1 2 Sub 3 Sub
+1 / 2 * 3 -> 1 2 Div 3 Mul
+1 || 2 || 3 -> 1 2 Or 3 Or
+1 && 2 && 3 -> 1 2 And 3 And
+1 - -2 -> 1 -2 Sub
+1 -2 -> 1 2 Sub
+1 + 2 * -3 -> 1 2 -3 Mul Add
+1 || 2 && 3 == 4 + 5 * 6 -> 1 2 3 4 5 6 Mul Add Eq And Or
+1 * 2 + 3 < 4 && 5 || 6 -> 1 2 Mul 3 Add 4 Lt 5 And 6 Or
+(1 - (2 - 3)) * 4 -> 1 2 3 Sub Sub 4 Mul
 ";
 
 const BLOCKS: &str = "\
-1; -> 1@18 unit@21 block:_@16
-1; 2 -> 1@18 2@21 block:_@16
-let x = 1; x -> 1@26 x@29 block:x@16
-{let x = 1; print(x); {}} -> 1@27 x@36 Print/1@30 unit@40 block:x:_@18
-{{1}; {2;}} -> 1@20 2@25 unit@27 block:_@24 block:_@18
+1; -> 1 unit block:_
+1; 2 -> 1 2 block:_
+let x = 1; x -> 1 x block:x
+{let x = 1; print(x); {}} -> 1 x Print/1 unit block:x:_
+{{1}; {2;}} -> 1 2 unit block:_ block:_
 ";
 
 #[test]

@@ -43,16 +43,15 @@ pub(super) fn answer(rt: &impl Abort, alloc: Global, text: &str) -> Result<Strin
     Ok(line)
 }
 
-/// The forms of a tree in order, each as what it is, how many parts it has where its kind doesn't tell, and its first byte
-/// behind an `@`. Names and texts are as the text has them; a block has the names of its lets, and `_` for each other item.
+/// The forms of a tree in order, each as what it is, and how many parts it has where its kind doesn't tell. Names and texts are as
+/// the text has them; a block has the names of its lets, and `_` for each other item.
 pub(super) fn forms_text(alloc: Global, text: &str, tree: &Tree) -> Result<String, Fail> {
     let mut line = String::new(alloc);
     for form in tree.forms.all() {
         if !line.is_empty() {
             line.push(' ')?;
         }
-        let (head, at) = (head_text(alloc, text, form)?, form.at);
-        line.push_str(format!(in alloc; "{head}@{at}")?.as_str())?;
+        line.push_str(head_text(alloc, text, form)?.as_str())?;
     }
     Ok(line)
 }
