@@ -308,3 +308,16 @@ module _ (bytes : List ℕ) (fs : List Function) (arity : ℕ) (forms : List For
       let first = length old.nodes in
       let numbers : parts ≡ own_numbers first ps = cc (listed, parts-at forms first at place h ps small is) in
       far place h ps [] is (sym (all ∙ ap length numbers ∙ length-own_numbers first ps))
+
+  -- ---- a form without parts
+
+  module _ (at : ℕ) (old next : Progress) (node : FormNode) (found : slice_get forms at ≡ Some node) (own : Code) (head : HeadMet node old next own) where
+    pub leaf-made : (new_nodes : List NodeParts) → node.parts ≡ 0 → new_nodes ≡ next.nodes ++ node_of own [] ∷ [] → with_slots [] own ≡ own
+        → (f : Form) → IsAt forms (length old.nodes) at f → (t : Tree) × (scoped_now bytes fs arity forms at old f ≡ Ok (t, met_of next)) × ((new_nodes ≡ old.nodes ++ tree_nodes (length old.nodes) t) × (tree_size t ≡ size_of f))
+    leaf-made new_nodes empty nodes same (form place g no_parts) is =
+        let listed : slice_get (part_lists 0 [] forms) at ≡ Some [] = parts-at forms (length old.nodes) at place g no_parts small is in
+        let made = so-far-all at next next [] [] 0 listed refl (so-far-none at next next [] refl refl) in
+        form-made at old next node found own head next [] [] new_nodes made listed (nodes ∙ ap (λ h. next.nodes ++ node_of h [] ∷ []) (sym same)) (form place g no_parts) is
+    leaf-made new_nodes empty nodes same (form place g (next_part ps f)) is =
+        let count : number_of (next_part ps f) ≡ node.parts = ap (λ n. n.parts) (node-is (length old.nodes) at place g (next_part ps f) node found is) in
+        absurd (omega (arith, count, empty))

@@ -1,5 +1,5 @@
 -- What the steps through a program's bodies come to: each says of every form at the place what the definition gives for it.
-use Rattle.std.specs.Prelude.{◌≡◌, ℕ, ◌-◌, List, [], ◌∷◌, ◌++◌, length, reverse, slice_get, Option, Some, Result, Ok}
+use Rattle.std.specs.Prelude.{◌≡◌, ℕ, ◌-◌, false, List, [], ◌∷◌, ◌++◌, length, reverse, slice_get, Option, Some, Result, Ok}
 use Rattle.stab_code.specs.Layout.{nodes_of_all, own_nodes, size_of_all}
 use Rattle.stab_code.specs.Program.{FunctionParts}
 use Rattle.stab_code.specs.Trees.{Tree}
@@ -13,7 +13,7 @@ use Rattle.stab_parse.specs.FormList.{nodes_of_program}
 use Rattle.stab_parse.specs.Grammar.{Program}
 use Rattle.scope_check.specs.declared.fault.ScopeFault.{ScopeFault}
 use Rattle.scope_check.specs.declared.progress.Progress.{Progress}
-use Rattle.scope_check.specs.Forms.{items_of}
+use Rattle.scope_check.specs.Forms.{is_block, items_of}
 use Rattle.scope_check.specs.Placed.{size_of_parts}
 use Rattle.scope_check.specs.Places.{IsAt, own_numbers}
 use Rattle.scope_check.specs.Progress.{Adds, IsFaultOf, met_of, seen_of, texts_of}
@@ -23,6 +23,10 @@ use Rattle.scope_check.specs.Seen.{params_seen}
 -- the form with that number is a block, and these are the names of its items
 abbrev pub IsBlock : List FormNode → ℕ → List (Option Span) → Type 0
 IsBlock forms at names = (node : FormNode) × (slice_get forms at ≡ Some node) × (node.head ≡ head.Block names)
+
+-- the form with that number isn't a block
+abbrev pub IsOther : List FormNode → ℕ → Type 0
+IsOther forms at = (node : FormNode) × (slice_get forms at ≡ Some node) × (is_block node.head ≡ false)
 
 -- the trees of some parts were made, the last one first
 pub record AddsParts (old new : Progress) (ps : Parts) (trees : List Tree) : Type 0 where

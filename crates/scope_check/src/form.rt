@@ -1,6 +1,6 @@
 //! Forms in forms.
-ghost use Rattle.std.specs.Prelude.{◌≡◌, ◌<◌, ◌≤◌, IfOk, IfErr, OnOk, length, slice_get, take};
-ghost use Rattle.scope_check.specs.Made.{ArePartsMade, IsBlock, IsFormFault, IsFormMade, IsPartFault, IsPartMade, IsPartsFault};
+ghost use Rattle.std.specs.Prelude.{◌≡◌, ◌<◌, ◌≤◌, [], IfOk, IfErr, OnOk, length, slice_get, take};
+ghost use Rattle.scope_check.specs.Made.{ArePartsMade, IsBlock, IsFormFault, IsFormMade, IsOther, IsPartFault, IsPartMade, IsPartsFault};
 ghost use Rattle.scope_check.specs.Progress.{HaveTexts};
 
 use crate::fault::ScopeFault;
@@ -12,6 +12,7 @@ use stab_parse::{Head, Span};
 impl<'a> Plan<'a> {
     /// Makes the nodes of a form and of those in it, in a function that takes so many arguments.
     #[cycle(forms)]
+    #[inline(always)]
     pub(crate) fn form(
         &self,
         progress: &mut Progress,
@@ -30,11 +31,29 @@ impl<'a> Plan<'a> {
             return self.block(progress, arity, at, names.all());
         }
         let head = self.head(progress, form)?;
-        let parts = self.parts.of(at);
-        for part in parts {
+        if form.parts == 0 {
+            progress.nodes.push(head, &[])?;
+            return Ok(());
+        }
+        self.operands(progress, arity, at)?;
+        progress.nodes.push(head, self.parts.of(at))?;
+        Ok(())
+    }
+
+    /// Makes the nodes of the parts of a form that isn't a block.
+    #[cycle(forms)]
+    #[inline(never)]
+    fn operands(&self, progress: &mut Progress, arity: u32, at: usize) -> Result<(), ScopeFault>
+        requires texts { HaveTexts self.now.bytes.now self.now.forms.now }
+        requires other { IsOther self.now.forms.now at }
+        requires few { arity ≤ 8 }
+        ensures ok { OnOk result (ArePartsMade self.now.bytes.now self.now.functions.now arity self.now.forms.now at progress.old progress.new []) }
+        ensures seen { OnOk result (progress.new.seen.items ≡ progress.old.seen.items) }
+        ensures fault { IfErr result (IsPartsFault self.now.bytes.now self.now.functions.now arity self.now.forms.now at progress.old) }
+    {
+        for part in self.parts.of(at) {
             self.form(progress, arity, part.0 as usize)?;
         }
-        progress.nodes.push(head, parts)?;
         Ok(())
     }
 

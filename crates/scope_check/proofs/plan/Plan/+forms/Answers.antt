@@ -9,7 +9,7 @@ use Rattle.stab_code.specs.Nodes.{id, node_of}
 use Rattle.stab_parse.specs.declared.tree.Head.TheVariants as kind
 use Rattle.scope_check.specs.Forms.{items_of}
 use Rattle.scope_check.specs.Places.{part_lists}
-use Rattle.scope_check.proofs.Made.{HeadMet, block-met, form-head-fault, form-made, form-parts-fault, no-item, on-ok, part-form, part-let, part-none, part-none-fault, seen-on, so-far-all, so-far-fault, so-far-next, so-far-none}
+use Rattle.scope_check.proofs.Made.{HeadMet, block-met, form-head-fault, form-made, form-parts-fault, leaf-made, no-item, on-ok, part-form, part-let, part-none, part-none-fault, seen-on, so-far-all, so-far-fault, so-far-next, so-far-none}
 use Rattle.scope_check.proofs.Places.{parts-below, parts-there}
 use Rattle.scope_check.proofs.plan.Plan.+forms.Goals as goal
 
@@ -27,75 +27,104 @@ form-block-requires t c =
     let found = slice_get-get_or plan.forms.now c.args.at c.index-self-at.result c.requires.there in
     (omega (arith, c.decreases), (c.requires.texts, ((get_or plan.forms.now c.args.at c.index-self-at.result, found, c.in-Block.is ∙ ap kind.Block (sym c.all.ensures)), c.requires.few)))
 
-pub form-of-parts-requires : goal.form-of-parts-requires
-form-of-parts-requires t c = parts-there c.args.self.now.forms.now c.args.self.now.parts c.args.at c.args.self.now.laid c.requires.there
-
-pub form-form-requires : goal.form-form-requires
-form-form-requires t c =
-    let plan = c.args.self.now in
-    let listed : slice_get (part_lists 0 [] plan.forms.now) c.args.at ≡ Some c.of-parts.result.now = ap (λ l. slice_get l c.args.at) (sym plan.laid) ∙ c.of-parts.ensures in
-    let below : (get_or c.of-parts.result.now c.loop-part.part-index (id 0)).0 < c.args.at = parts-below plan.forms.now c.args.at c.of-parts.result.now listed c.loop-part.part-index (id 0) c.loop-part-test.true in
-    let there = c.requires.there in
-    (omega (arith, below, c.decreases), (c.requires.texts, (omega (arith, below, there), c.requires.few)))
-
-pub form-loop-part-init : goal.form-loop-part-init
-form-loop-part-init t c =
-    let plan = c.args.self.now in
-    record {
-      far = so-far-none plan.bytes.now plan.functions.now c.args.arity plan.forms.now plan.fewer c.args.at c.head.new.progress c.head.new.progress [] refl refl;
-      seen = refl;
-      own = refl;
-    }
-
-pub form-loop-part-preserved : goal.form-loop-part-preserved
-form-loop-part-preserved t c =
+pub form-returns-then-form-eq0-clause-ok : goal.form-returns-then-form-eq0-clause-ok
+form-returns-then-form-eq0-clause-ok t c =
     let plan = c.args.self.now in
     let node = get_or plan.forms.now c.args.at c.index-self-at.result in
     let found = slice_get-get_or plan.forms.now c.args.at c.index-self-at.result c.requires.there in
-    let parts = c.of-parts.result.now in
-    let listed : slice_get (part_lists 0 [] plan.forms.now) c.args.at ≡ Some parts = ap (λ l. slice_get l c.args.at) (sym plan.laid) ∙ c.of-parts.ensures in
-    let i = c.loop-part.part-index in
-    let own = slice_get-get_or parts i (id 0) c.loop-part-test.true in
-    let next = c.form.new.progress in
-    record {
-      far = so-far-next plan.bytes.now plan.functions.now c.args.arity plan.forms.now plan.fewer c.args.at c.head.new.progress c.loop-part.progress [] node parts i
-          (get_or parts i (id 0)) None found listed own (no-item node.head i (search rules)) c.loop-part.invariant.far next []
-          (part-none plan.bytes.now plan.functions.now c.args.arity plan.forms.now plan.fewer (get_or parts i (id 0)).0 [] None c.loop-part.progress next refl c.in_ok-form.ensures.ok c.in_ok-form.ensures.seen);
-      seen = c.in_ok-form.ensures.seen ∙ c.loop-part.invariant.seen;
-      own = c.loop-part.invariant.own;
-    }
-
-pub form-returns-in_err-form-clause-fault : goal.form-returns-in_err-form-clause-fault
-form-returns-in_err-form-clause-fault t c =
-    let p = err_from_is_err_and c.from_residual-in_err-form.result c.from_residual-in_err-form.ensures.1 in
-    let plan = c.args.self.now in
-    let node = get_or plan.forms.now c.args.at c.index-self-at.result in
-    let found = slice_get-get_or plan.forms.now c.args.at c.index-self-at.result c.requires.there in
-    let parts = c.of-parts.result.now in
-    let listed : slice_get (part_lists 0 [] plan.forms.now) c.args.at ≡ Some parts = ap (λ l. slice_get l c.args.at) (sym plan.laid) ∙ c.of-parts.ensures in
-    let i = c.loop-part.part-index in
-    let own = slice_get-get_or parts i (id 0) c.loop-part-test.true in
     let head : HeadMet plan.bytes.now plan.functions.now c.args.arity plan.forms.now plan.fewer node c.args.progress.now c.head.new.progress c.in_ok-head.head =
     record { met = c.in_ok-head.ensures.head; nodes = c.in_ok-head.ensures.others.0; seen = c.in_ok-head.ensures.others.1 } in
-    let last = so-far-fault plan.bytes.now plan.functions.now c.args.arity plan.forms.now plan.fewer c.args.at c.head.new.progress c.loop-part.progress [] node parts i
-    (get_or parts i (id 0)) None found listed own (no-item node.head i (search rules)) c.loop-part.invariant.far c.in_err-form.field-0.0
-    (part-none-fault plan.bytes.now plan.functions.now c.args.arity plan.forms.now plan.fewer (get_or parts i (id 0)).0 [] c.loop-part.progress c.in_err-form.field-0.0 c.in_err-form.ensures.fault) in
-    rw (p.1, p.2) (form-parts-fault plan.bytes.now plan.functions.now c.args.arity plan.forms.now plan.fewer c.args.at c.args.progress.now c.head.new.progress node found c.in_ok-head.head head c.in_err-form.field-0.0 last)
+    leaf-made plan.bytes.now plan.functions.now c.args.arity plan.forms.now plan.fewer c.args.at c.args.progress.now c.head.new.progress node found c.in_ok-head.head head
+    c.push.new.self c.if-form-eq0.true c.in_ok-push.ensures c.in_ok-head.ensures.slots
+
+pub form-operands-requires : goal.form-operands-requires
+form-operands-requires t c =
+    let plan = c.args.self.now in
+    let found = slice_get-get_or plan.forms.now c.args.at c.index-self-at.result c.requires.there in
+    (omega (arith, c.decreases), (c.requires.texts, ((get_or plan.forms.now c.args.at c.index-self-at.result, found, search rules), c.requires.few)))
+
+pub form-returns-in_err-operands-clause-fault : goal.form-returns-in_err-operands-clause-fault
+form-returns-in_err-operands-clause-fault t c =
+    let p = err_from_is_err_and c.from_residual-in_err-operands.result c.from_residual-in_err-operands.ensures.1 in
+    let plan = c.args.self.now in
+    let node = get_or plan.forms.now c.args.at c.index-self-at.result in
+    let found = slice_get-get_or plan.forms.now c.args.at c.index-self-at.result c.requires.there in
+    let head : HeadMet plan.bytes.now plan.functions.now c.args.arity plan.forms.now plan.fewer node c.args.progress.now c.head.new.progress c.in_ok-head.head =
+    record { met = c.in_ok-head.ensures.head; nodes = c.in_ok-head.ensures.others.0; seen = c.in_ok-head.ensures.others.1 } in
+    rw (p.1, p.2) (form-parts-fault plan.bytes.now plan.functions.now c.args.arity plan.forms.now plan.fewer c.args.at c.args.progress.now c.head.new.progress node found c.in_ok-head.head head c.in_err-operands.field-0.0 c.in_err-operands.ensures.fault)
+
+pub form-of-requires : goal.form-of-requires
+form-of-requires t c = parts-there c.args.self.now.forms.now c.args.self.now.parts c.args.at c.args.self.now.laid c.requires.there
 
 pub form-returns-clause-ok : goal.form-returns-clause-ok
 form-returns-clause-ok t c =
     let plan = c.args.self.now in
     let node = get_or plan.forms.now c.args.at c.index-self-at.result in
     let found = slice_get-get_or plan.forms.now c.args.at c.index-self-at.result c.requires.there in
-    let parts = c.of-parts.result.now in
-    let listed : slice_get (part_lists 0 [] plan.forms.now) c.args.at ≡ Some parts = ap (λ l. slice_get l c.args.at) (sym plan.laid) ∙ c.of-parts.ensures in
     let head : HeadMet plan.bytes.now plan.functions.now c.args.arity plan.forms.now plan.fewer node c.args.progress.now c.head.new.progress c.in_ok-head.head =
     record { met = c.in_ok-head.ensures.head; nodes = c.in_ok-head.ensures.others.0; seen = c.in_ok-head.ensures.others.1 } in
-    let last = c.loop-part.progress in
-    let made = so-far-all plan.bytes.now plan.functions.now c.args.arity plan.forms.now plan.fewer c.args.at c.head.new.progress last [] parts c.loop-part.part-index listed
-    (omega (arith, c.loop-part-test.false, c.loop-part.auto.part-index-end)) c.loop-part.invariant.far in
+    let last = c.operands.new.progress in
+    let parts = c.of.result.now in
+    let listed : slice_get (part_lists 0 [] plan.forms.now) c.args.at ≡ Some parts = ap (λ l. slice_get l c.args.at) (sym plan.laid) ∙ c.of.ensures in
     form-made plan.bytes.now plan.functions.now c.args.arity plan.forms.now plan.fewer c.args.at c.args.progress.now c.head.new.progress node found c.in_ok-head.head head
-    last [] parts c.push.new.self made listed (c.in_ok-push.ensures ∙ ap (λ h. last.nodes ++ node_of h parts ∷ []) (c.loop-part.invariant.own ∙ sym c.in_ok-head.ensures.slots))
+    last [] parts c.push-2.new.self c.in_ok-operands.ensures.ok listed (c.in_ok-push-2.ensures ∙ ap (λ h. last.nodes ++ node_of h parts ∷ []) (sym c.in_ok-head.ensures.slots))
+
+pub operands-of-part-items-requires : goal.operands-of-part-items-requires
+operands-of-part-items-requires t c = parts-there c.args.self.now.forms.now c.args.self.now.parts c.args.at c.args.self.now.laid (slice_get_within c.args.self.now.forms.now c.args.at c.requires.other.0 c.requires.other.1)
+
+pub operands-form-requires : goal.operands-form-requires
+operands-form-requires t c =
+    let plan = c.args.self.now in
+    let parts = c.of-part-items.result.now in
+    let listed : slice_get (part_lists 0 [] plan.forms.now) c.args.at ≡ Some parts = ap (λ l. slice_get l c.args.at) (sym plan.laid) ∙ c.of-part-items.ensures in
+    let below : (get_or parts c.loop-part.part-index (id 0)).0 < c.args.at = parts-below plan.forms.now c.args.at parts listed c.loop-part.part-index (id 0) c.loop-part-test.true in
+    let there = slice_get_within plan.forms.now c.args.at c.requires.other.0 c.requires.other.1 in
+    (omega (arith, below, c.decreases), (c.requires.texts, (omega (arith, below, there), c.requires.few)))
+
+pub operands-loop-part-init : goal.operands-loop-part-init
+operands-loop-part-init t c =
+    let plan = c.args.self.now in
+    record {
+      far = so-far-none plan.bytes.now plan.functions.now c.args.arity plan.forms.now plan.fewer c.args.at c.args.progress.now c.args.progress.now [] refl refl;
+      seen = refl;
+    }
+
+pub operands-loop-part-preserved : goal.operands-loop-part-preserved
+operands-loop-part-preserved t c =
+    let plan = c.args.self.now in
+    let other = c.requires.other in
+    let parts = c.of-part-items.result.now in
+    let listed : slice_get (part_lists 0 [] plan.forms.now) c.args.at ≡ Some parts = ap (λ l. slice_get l c.args.at) (sym plan.laid) ∙ c.of-part-items.ensures in
+    let i = c.loop-part.part-index in
+    let own = slice_get-get_or parts i (id 0) c.loop-part-test.true in
+    let next = c.form.new.progress in
+    record {
+      far = so-far-next plan.bytes.now plan.functions.now c.args.arity plan.forms.now plan.fewer c.args.at c.args.progress.now c.loop-part.progress [] other.0 parts i
+          (get_or parts i (id 0)) None other.1 listed own (no-item other.0.head i other.2) c.loop-part.invariant.far next []
+          (part-none plan.bytes.now plan.functions.now c.args.arity plan.forms.now plan.fewer (get_or parts i (id 0)).0 [] None c.loop-part.progress next refl c.in_ok-form.ensures.ok c.in_ok-form.ensures.seen);
+      seen = c.in_ok-form.ensures.seen ∙ c.loop-part.invariant.seen;
+    }
+
+pub operands-returns-in_err-form-clause-fault : goal.operands-returns-in_err-form-clause-fault
+operands-returns-in_err-form-clause-fault t c =
+    let p = err_from_is_err_and c.from_residual.result c.from_residual.ensures.1 in
+    let plan = c.args.self.now in
+    let other = c.requires.other in
+    let parts = c.of-part-items.result.now in
+    let listed : slice_get (part_lists 0 [] plan.forms.now) c.args.at ≡ Some parts = ap (λ l. slice_get l c.args.at) (sym plan.laid) ∙ c.of-part-items.ensures in
+    let i = c.loop-part.part-index in
+    let own = slice_get-get_or parts i (id 0) c.loop-part-test.true in
+    rw (p.1, p.2) (so-far-fault plan.bytes.now plan.functions.now c.args.arity plan.forms.now plan.fewer c.args.at c.args.progress.now c.loop-part.progress [] other.0 parts i
+    (get_or parts i (id 0)) None other.1 listed own (no-item other.0.head i other.2) c.loop-part.invariant.far c.in_err-form.field-0.0
+    (part-none-fault plan.bytes.now plan.functions.now c.args.arity plan.forms.now plan.fewer (get_or parts i (id 0)).0 [] c.loop-part.progress c.in_err-form.field-0.0 c.in_err-form.ensures.fault))
+
+pub operands-returns-clause-ok : goal.operands-returns-clause-ok
+operands-returns-clause-ok t c =
+    let plan = c.args.self.now in
+    let parts = c.of-part-items.result.now in
+    let listed : slice_get (part_lists 0 [] plan.forms.now) c.args.at ≡ Some parts = ap (λ l. slice_get l c.args.at) (sym plan.laid) ∙ c.of-part-items.ensures in
+    so-far-all plan.bytes.now plan.functions.now c.args.arity plan.forms.now plan.fewer c.args.at c.args.progress.now c.loop-part.progress [] parts c.loop-part.part-index listed
+    (omega (arith, c.loop-part-test.false, c.loop-part.auto.part-index-end)) c.loop-part.invariant.far
 
 pub block-of-requires : goal.block-of-requires
 block-of-requires t c = parts-there c.args.self.now.forms.now c.args.self.now.parts c.args.at c.args.self.now.laid (slice_get_within c.args.self.now.forms.now c.args.at c.requires.block.0 c.requires.block.1)
