@@ -1,4 +1,4 @@
-//! Trials of what is read: words, tokens, probes and scripts of drills.
+//! Trials of what is read: words, tokens, probes, scripts of drills, and how deep forms may stand in each other.
 //!
 //! They stand in a crate of their own, since to prove the tests of a crate is to prove it once more.
 #![tactic(auto)]

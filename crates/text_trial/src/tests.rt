@@ -1,5 +1,6 @@
 //! Tables of texts, each with what is read from it.
 
+mod depths;
 mod orders;
 mod probes;
 mod tokens;

@@ -220,8 +220,9 @@ fn same_control<R: AllocGlobal + Abort>(rt: &R, drill: &mut Drill) -> Result<(),
     drill.commit(3, third);
     drill.commit(5, fifth);
     drill.commit(2, second);
+    let shown = drill.show();
     drill.give_back(fourth);
-    drill.show()?;
+    shown?;
     let told = "\
 lease 1 thread 1 gen 0
 commit 1 taken 1 1
@@ -272,7 +273,7 @@ fn an_undo_tells_which_nodes_it_took_away(rt: HostRuntime) -> Result<(), Fail> {
 }
 
 // Where the events of the last undo in so many turns begin, how many there are, the section's mark and how many steps were
-// removed. Its nodes are added.
+// removed. The nodes of each undo are added.
 fn last_undo(
     book: &mut Book,
     turns: u32,
