@@ -60,13 +60,6 @@ impl Slots {
         Slots::new(alloc, Vec::from_slice(alloc, slots)?)
     }
 
-    /// Puts other slots in the place of these.
-    pub fn set(&mut self, slots: Vec<Option<u32>>)
-        ensures { self.new ≡ slots.items }
-    {
-        *self.slots = slots;
-    }
-
     /// The slots in the order of writing.
     pub fn all(&self) -> &[Option<u32>]
         ensures { result.now ≡ self.now }

@@ -1,6 +1,7 @@
 //! The nodes of a program while it is made, and how they are kept.
 ghost use Rattle.std.specs.Prelude.{◌≡◌, ◌↔◌, ◌++◌, ◌∷◌, ◌+◌, ◌<◌, ◌≤◌, ◌^◌, [], Some, IfOk, IsTrue, MatchResult, length, slice_get};
 ghost use Rattle.stab_code.specs.Nodes.{node_of};
+ghost use Rattle.stab_code.specs.Stored.{nodes_in};
 
 use crate::head::Head;
 use crate::node::Node;
@@ -53,6 +54,14 @@ impl Nodes {
         let heads = Vec::with_capacity(alloc, nodes)?;
         let parts = PartLists::with_capacity(alloc, nodes, parts)?;
         Ok(Nodes { heads, parts })
+    }
+
+    /// The nodes that have these heads, in their order, each with the parts in the list of its number.
+    pub fn of(heads: Vec<Head>, parts: PartLists) -> Nodes
+        requires { length heads.items ≡ length parts }
+        ensures { result ≡ nodes_in heads.items parts }
+    {
+        Nodes { heads, parts }
     }
 
     /// How many nodes there are, which is the number of the next.
