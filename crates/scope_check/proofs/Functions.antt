@@ -5,6 +5,7 @@ use Rattle.std.proofs.lemmas.Bool.Decides.{eqb_tells}
 use Rattle.stab_code.specs.Layout.{nodes_of as tree_nodes, nodes_of_all, own_node, size_of as tree_size, size_of_all}
 use Rattle.stab_code.specs.Nodes.{id}
 use Rattle.stab_code.specs.Program.{FunctionParts, function_of}
+use Rattle.stab_code.specs.Stored.{nodes_in}
 use Rattle.stab_code.specs.Trees.{Tree, Trees, none, more}
 use Rattle.stab_code.specs.Written.{Written}
 use Rattle.stab_code.proofs.LaidOut.{length-nodes_of_all, own_node-last}
@@ -16,9 +17,9 @@ use Rattle.stab_parse.specs.FormList.{function_of as written_function, functions
 use Rattle.stab_parse.specs.Grammar.{Program, no_functions, next_function, Function as Rule, function}
 use Rattle.scope_check.specs.declared.fault.ScopeFault.{ScopeFault}
 use Rattle.scope_check.specs.declared.progress.Progress.{Progress}
-use Rattle.scope_check.specs.Made.{AreFunctionsMade, IsBody, IsFormMade, IsFunctionFault, IsFunctionMade, body_now}
+use Rattle.scope_check.specs.Made.{AreFunctionsMade, nodes_now, IsBody, IsFormMade, IsFunctionFault, IsFunctionMade, body_now}
 use Rattle.scope_check.specs.Placed.{size_of}
-use Rattle.scope_check.specs.Places.{IsAt}
+use Rattle.scope_check.specs.Places.{IsAt, part_lists}
 use Rattle.scope_check.specs.Progress.{IsFaultOf, met_of, seen_of, texts_of}
 use Rattle.scope_check.specs.Scope.{Defined, Met, after, form_scoped, function_defined, function_scoped, functions_scoped, in_order}
 use Rattle.scope_check.specs.Seen.{params_seen}
@@ -32,15 +33,18 @@ same-number : (m n end : ℕ) → m + 1 ≡ end → n + 1 ≡ end → m ≡ n
 same-number m n end e f = omega arith
 
 module _ (bytes : List ℕ) (fs : List Function) (forms : List FormNode) (f : Function) (old begun : Progress)
-    (seen : seen_of begun ≡ params_seen 0 f.params []) (lets : begun.lets ≡ 0) (nodes : begun.nodes ≡ old.nodes) (texts : texts_of begun ≡ texts_of old) where
+    (seen : seen_of begun ≡ params_seen 0 f.params []) (lets : begun.lets ≡ 0) (heads : begun.heads.items ≡ old.heads.items) (texts : texts_of begun ≡ texts_of old) where
   begun-now : (b : Form) → body_now bytes fs forms f old b ≡ form_scoped bytes fs (length f.params) (seen_of begun) (met_of begun) b
   begun-now b =
       ap (λ s. form_scoped bytes fs (length f.params) s (record { lets = 0; texts = texts_of old }) b) (sym seen)
       ∙ ap (λ n. form_scoped bytes fs (length f.params) (seen_of begun) (record { lets = n; texts = texts_of old }) b) (sym lets)
       ∙ ap (λ t. form_scoped bytes fs (length f.params) (seen_of begun) (record { lets = begun.lets; texts = t }) b) (sym texts)
 
-  begun-place : (b : Form) → IsBody bytes fs forms f old b → IsAt forms (length begun.nodes) (f.forms_end - 1) b
-  begun-place b is = subst (λ l. IsAt forms (length l) (f.forms_end - 1) b) (sym nodes) is
+  begun-nodes : nodes_now forms begun ≡ nodes_now forms old
+  begun-nodes = ap (λ l. nodes_in l (part_lists 0 [] forms)) heads
+
+  begun-place : (b : Form) → IsBody bytes fs forms f old b → IsAt forms (length (nodes_now forms begun)) (f.forms_end - 1) b
+  begun-place b is = subst (λ l. IsAt forms (length l) (f.forms_end - 1) b) (sym begun-nodes) is
 
   pub function-made : (new : Progress) (takes : List Written) (gives : Written) (slots : ℕ) (body : ℕ) → IsFormMade bytes fs (length f.params) forms (f.forms_end - 1) begun new
       → takes ≡ map (λ x. x.ty) f.params → gives ≡ f.gives → slots ≡ length f.params + new.lets → body ≡ f.forms_end - 1
@@ -48,14 +52,15 @@ module _ (bytes : List ℕ) (fs : List Function) (forms : List FormNode) (f : Fu
   function-made new takes gives slots body made takes_is gives_is slots_is body_is b is =
       let own = made b (begun-place b is) in
       let own_is = is.own_is in
-      let number : (d : Defined) → size_of_all (in_order d.trees) ≡ length old.nodes → own_node (size_of_all (in_order d.trees)) own.0 ≡ id body =
-      λ d e. ap id (same-number (own_node (size_of_all (in_order d.trees)) own.0).0 body (length old.nodes + size_of b)
-      (own_node-last (size_of_all (in_order d.trees)) own.0 ∙ ap (λ n. n + tree_size own.0) e ∙ ap (λ s. length old.nodes + s) own.2.1)
+      let number : (d : Defined) → size_of_all (in_order d.trees) ≡ length (nodes_now forms old) → own_node (size_of_all (in_order d.trees)) own.0 ≡ id body =
+      λ d e. ap id (same-number (own_node (size_of_all (in_order d.trees)) own.0).0 body (length (nodes_now forms old) + size_of b)
+      (own_node-last (size_of_all (in_order d.trees)) own.0 ∙ ap (λ n. n + tree_size own.0) e ∙ ap (λ s. length (nodes_now forms old) + s) own.2.1)
       (ap (λ n. n + 1) body_is ∙ own_is)) in (
         (own.0, met_of new),
         begun-now b ∙ own.1,
-        (own.2.0 ∙ ap (λ l. l ++ tree_nodes (length l) own.0) nodes, own.2.1),
+        (own.2.0 ∙ ap (λ l. l ++ tree_nodes (length l) own.0) begun-nodes, own.2.1),
         refl,
+        own.3,
         λ d e. ap (λ l. d.functions ++ function_of l f.gives (length f.params + new.lets) (own_node (size_of_all (in_order d.trees)) own.0) ∷ []) (sym takes_is)
             ∙ ap (λ g. d.functions ++ function_of takes g (length f.params + new.lets) (own_node (size_of_all (in_order d.trees)) own.0) ∷ []) (sym gives_is)
             ∙ ap (λ s. d.functions ++ function_of takes gives s (own_node (size_of_all (in_order d.trees)) own.0) ∷ []) (sym slots_is)
@@ -114,12 +119,12 @@ module _ (bytes : List ℕ) (fs : List Function) (forms : List FormNode) where
   abbrev pub FunctionsSoFar : Progress → List FunctionParts → ℕ → Type 0
   FunctionsSoFar now made i =
       (done : Program) (rest : List Rule) → functions_of (followed_by done rest) ≡ fs → nodes_of_program (followed_by done rest) ≡ forms → length (functions_of done) ≡ i
-      → AreFunctionsMade bytes fs done now made
+      → AreFunctionsMade bytes fs forms done now made
 
-  pub functions-none : (now : Progress) (made : List FunctionParts) → now.nodes ≡ [] → texts_of now ≡ [] → made ≡ [] → FunctionsSoFar now made 0
-  functions-none now made nodes texts e no_functions rest is_fs is_forms n =
-      record { defined = record { functions = []; trees = []; texts = [] }; scoped = refl; functions = e; nodes = nodes; texts = texts; size = refl }
-  functions-none now made nodes texts e (next_function p r) rest is_fs is_forms n = absurd (omega (arith, one-more-function p r))
+  pub functions-none : (now : Progress) (made : List FunctionParts) → now.heads.items ≡ [] → texts_of now ≡ [] → made ≡ [] → FunctionsSoFar now made 0
+  functions-none now made heads texts e no_functions rest is_fs is_forms n =
+      record { defined = record { functions = []; trees = []; texts = [] }; scoped = refl; functions = e; whole = ap (λ l. length (nodes_in l (part_lists 0 [] forms))) heads ∙ ap length (sym heads); nodes = ap (λ l. nodes_in l (part_lists 0 [] forms)) heads; texts = texts; size = refl }
+  functions-none now made heads texts e (next_function p r) rest is_fs is_forms n = absurd (omega (arith, one-more-function p r))
 
   abbrev more_one : Tree → Trees
   more_one t = more t none
@@ -142,18 +147,18 @@ module _ (bytes : List ℕ) (fs : List Function) (forms : List FormNode) where
     end-is end (function g x o ps e q t b) = refl
 
     body-at : (done : Program) (r : Rule) (rest : List Rule) → functions_of (followed_by (next_function done r) rest) ≡ fs → nodes_of_program (followed_by (next_function done r) rest) ≡ forms → length (functions_of done) ≡ i
-        → AreFunctionsMade bytes fs done now made → IsBody bytes fs forms f now (body_of r)
+        → AreFunctionsMade bytes fs forms done now made → IsBody bytes fs forms f now (body_of r)
     body-at done r rest is_fs is_forms n are =
         let others = nodes-followed_by (next_function done r) rest in
         let end : f.forms_end ≡ length (nodes_of_program (next_function done r)) = ap (λ g. g.forms_end) (sym (written-is done r rest is_fs n)) ∙ end-is (length (nodes_of_program (next_function done r))) r in
-        let first : length (nodes_of_program done) ≡ length now.nodes = sym (ap length are.nodes ∙ length-nodes_of_all 0 (in_order are.defined.trees) ∙ are.size) in
-        let total : f.forms_end ≡ length now.nodes + size_of (body_of r) = end ∙ length-append (nodes_of_program done) (nodes_of (body_of r)) ∙ ap (λ n. n + length (nodes_of (body_of r))) first ∙ ap (λ s. length now.nodes + s) (length-nodes_of (body_of r)) in
+        let first : length (nodes_of_program done) ≡ length (nodes_now forms now) = sym (ap length are.nodes ∙ length-nodes_of_all 0 (in_order are.defined.trees) ∙ are.size) in
+        let total : f.forms_end ≡ length (nodes_now forms now) + size_of (body_of r) = end ∙ length-append (nodes_of_program done) (nodes_of (body_of r)) ∙ ap (λ n. n + length (nodes_of (body_of r))) first ∙ ap (λ s. length (nodes_now forms now) + s) (length-nodes_of (body_of r)) in
         record {
           before = nodes_of_program done;
           after = others.0;
           forms_are = sym is_forms ∙ others.1 ∙ append_assoc (nodes_of_program done) (nodes_of (body_of r)) others.0;
           first_is = first;
-          own_is = last-end (length now.nodes) f.forms_end (size_of (body_of r)) total (some-size (body_of r));
+          own_is = last-end (length (nodes_now forms now)) f.forms_end (size_of (body_of r)) total (some-size (body_of r));
         }
 
     -- the definition sees the parameters and the types of a function alone
@@ -179,15 +184,16 @@ module _ (bytes : List ℕ) (fs : List Function) (forms : List FormNode) where
         let body = is (body_of r) (body-at done r rest is_fs is_forms number are) in
         let t = body.0 in
         let whole = in_order d.trees in
-        let count : size_of_all whole ≡ length now.nodes = sym (ap length are.nodes ∙ length-nodes_of_all 0 whole) in
+        let count : size_of_all whole ≡ length (nodes_now forms now) = sym (ap length are.nodes ∙ length-nodes_of_all 0 whole) in
         let made_is : function_defined d (written_function 0 r) t ≡ function_defined d f t = defined-same 0 end r d t ∙ ap (λ g. function_defined d g t) same in
         let behind_is = in_order-join d.trees (more_one t.0) in
         record {
           defined = function_defined d (written_function 0 r) t;
           scoped = ap (λ m. after m (λ e. function_scoped bytes fs e (written_function 0 r) (body_of r))) are.scoped
               ∙ ap (λ m. after m (λ u. Ok (function_defined d (written_function 0 r) u))) (scoped-body d r end same (sym are.texts) ∙ body.1);
-          functions = ap (λ l. l ++ own ∷ []) are.functions ∙ sym (body.4 d count) ∙ ap (λ e. e.functions) (sym made_is);
-          nodes = body.2.0 ∙ ap (λ m. now.nodes ++ tree_nodes m t.0) (sym count) ∙ ap (λ l. l ++ tree_nodes (size_of_all whole) t.0) are.nodes
+          whole = body.4;
+          functions = ap (λ l. l ++ own ∷ []) are.functions ∙ sym (body.5 d count) ∙ ap (λ e. e.functions) (sym made_is);
+          nodes = body.2.0 ∙ ap (λ m. nodes_now forms now ++ tree_nodes m t.0) (sym count) ∙ ap (λ l. l ++ tree_nodes (size_of_all whole) t.0) are.nodes
               ∙ ap (λ l. nodes_of_all 0 whole ++ l) (sym (append-nil (tree_nodes (size_of_all whole) t.0)))
               ∙ ap (λ m. nodes_of_all 0 whole ++ nodes_of_all m (more_one t.0)) (zero-first (size_of_all whole))
               ∙ sym (ap (nodes_of_all 0) behind_is ∙ nodes-join 0 whole (more_one t.0));
@@ -213,5 +219,5 @@ module _ (bytes : List ℕ) (fs : List Function) (forms : List FormNode) where
               ∙ ap (λ m. after m (λ u. Ok (function_defined are.defined (written_function 0 s.own) u))) (scoped-body are.defined s.own end same (sym are.texts) ∙ e)))
         ]
 
-  pub functions-all : (now : Progress) (made : List FunctionParts) (i : ℕ) → i ≡ length fs → FunctionsSoFar now made i → (p : Program) → functions_of p ≡ fs → nodes_of_program p ≡ forms → AreFunctionsMade bytes fs p now made
+  pub functions-all : (now : Progress) (made : List FunctionParts) (i : ℕ) → i ≡ length fs → FunctionsSoFar now made i → (p : Program) → functions_of p ≡ fs → nodes_of_program p ≡ forms → AreFunctionsMade bytes fs forms p now made
   functions-all now made i all far p is_fs is_forms = far p [] is_fs is_forms (ap length is_fs ∙ sym all)

@@ -1,3 +1,4 @@
+pub mod Added
 pub mod After
 pub mod Characters
 pub mod Declared
@@ -9,9 +10,11 @@ pub mod Made
 pub mod Numbered
 pub mod OwnSlots
 pub mod Places
+pub mod PlainForms
 pub mod Programs
 pub mod Sizes
 pub mod SoundSyntax
 pub mod SoundTokens
+pub mod Stretched
 pub mod Tables
 pub mod Whole

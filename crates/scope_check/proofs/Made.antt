@@ -1,6 +1,6 @@
 -- One form more, from its head and its parts.
-use Rattle.std.proofs.Common.{◌≡◌, inl, inr, ℕ, ◌+◌, ◌<◌, ◌≤◌, ◌^◌, List, [], ◌∷◌, ◌++◌, length, slice_get, Some, refl, sym, ap, subst, ◌∙◌, arith, append_assoc, append-nil, length-append, length-take}
-use Rattle.std.specs.Prelude.{Result, Ok, Err, OnOk, Option, None, reverse, take, false}
+use Rattle.std.proofs.Common.{◌≡◌, inl, inr, ℕ, ◌+◌, ◌<◌, ◌≤◌, ◌^◌, List, [], ◌∷◌, ◌++◌, length, slice_get, Some, refl, sym, ap, subst, ◌∙◌, arith, append-nil, length-append, length-take}
+use Rattle.std.specs.Prelude.{Result, Ok, Err, IfErr, OnOk, Option, None, reverse, take, false}
 use Rattle.std.proofs.lemmas.Bool.{true≢false}
 use Rattle.std.proofs.lemmas.Bool.Decides.{eqb_tells}
 use Rattle.std.proofs.lemmas.List.{reverse-append, take-take}
@@ -8,10 +8,11 @@ use Rattle.std.proofs.lemmas.Option.{slice_get_within}
 use Rattle.stab_code.specs.declared.head.Head.{Head as Code}
 use Rattle.stab_code.specs.declared.head.Head.TheVariants as code
 use Rattle.stab_code.specs.declared.node_id.NodeId.{NodeId}
-use Rattle.stab_code.specs.Layout.{nodes_of as tree_nodes, nodes_of_all, own_node, own_nodes, size_of as tree_size, size_of_all}
+use Rattle.stab_code.specs.Layout.{nodes_of as tree_nodes, nodes_of_all}
 use Rattle.stab_code.proofs.LaidOut.{length-nodes_of_all}
-use Rattle.stab_code.specs.Nodes.{NodeParts, id, node_of}
-use Rattle.stab_code.specs.Trees.{Tree, Trees, tree, none, more}
+use Rattle.stab_code.specs.Nodes.{node_of}
+use Rattle.stab_code.specs.Stored.{nodes_in}
+use Rattle.stab_code.specs.Trees.{Tree, tree}
 use Rattle.stab_parse.specs.declared.symbol.Span.{Span}
 use Rattle.stab_parse.specs.declared.tree.FormNode.{FormNode}
 use Rattle.stab_parse.specs.declared.tree.Function.{Function}
@@ -24,18 +25,22 @@ use Rattle.scope_check.specs.declared.fault.ScopeFault.{ScopeFault}
 use Rattle.scope_check.specs.declared.progress.Progress.{Progress}
 use Rattle.scope_check.specs.declared.seen.Variable.{Variable}
 use Rattle.scope_check.specs.Forms.{is_block, items_of, number_of}
-use Rattle.scope_check.specs.Made.{AddsParts, ArePartsMade, IsFormFault, IsFormMade, IsPartMade, IsPartFault, IsPartsFault, parts_now, part_now, scoped_now}
-use Rattle.scope_check.specs.Placed.{size_of, size_of_parts}
+use Rattle.scope_check.specs.Made.{Adds, AddsParts, ArePartsMade, IsFormFault, IsFormMade, IsPartMade, IsPartFault, IsPartsFault, nodes_now, parts_now, part_now, scoped_now}
+use Rattle.scope_check.specs.Placed.{size_of_parts}
 use Rattle.scope_check.specs.Places.{IsAt, own_number, own_numbers, part_lists}
-use Rattle.scope_check.specs.Progress.{Adds, IsFaultOf, met_of, seen_of}
+use Rattle.scope_check.specs.Progress.{IsFaultOf, met_of, seen_of}
 use Rattle.scope_check.specs.Scope.{Behind, Met, after, behind, form_scoped, head_met, in_order, let_numbered, part_met, parts_scoped, with_slots}
-use Rattle.scope_check.proofs.Joined.{in_order-join, nodes-join, own-join, size-join}
+use Rattle.scope_check.proofs.Added.{added-count, adds-next, adds-whole, node_added, whole_added}
 use Rattle.scope_check.proofs.Places.{at-within, count-is, followed, length-own_numbers, node-at, own-at, part-at, parts-at}
 
 -- two facts of a success
 pub on-ok : {A E : Type 0} {P Q R : Type 0} (r : Result A E) → OnOk r P → OnOk r Q → (P → Q → R) → OnOk r R
 on-ok (Ok a) p q then = then p q
 on-ok (Err e) p q then = tt
+
+pub on-err : {A E : Type 0} {P Q : E → Type 0} (r : Result A E) → IfErr r P → ((e : E) → P e → Q e) → IfErr r Q
+on-err (Ok a) p then = tt
+on-err (Err e) p then = then e p
 
 -- what is seen stays behind two steps
 pub seen-on : {A : Type 0} (a b c : List A) → take (length a) b ≡ a → take (length b) c ≡ b → take (length a) c ≡ a
@@ -81,8 +86,8 @@ module _ (bytes : List ℕ) (fs : List Function) (arity : ℕ) (forms : List For
   -- the first parts of each form at the place were made
   abbrev pub SoFar : Progress → Progress → List (Option ℕ) → ℕ → Type 0
   SoFar old now slots i =
-      (place : ℕ) (h : Head) (done : Parts) (rest : List Form) → IsAt forms (length old.nodes) at (form place h (followed done rest)) → number_of done ≡ i
-      → (trees : List Tree) × (parts_now bytes fs arity forms at old h done ≡ Ok (behind trees (seen_of now) (reverse slots) (met_of now))) × AddsParts old now done trees
+      (place : ℕ) (h : Head) (done : Parts) (rest : List Form) → IsAt forms (length (nodes_now forms old)) at (form place h (followed done rest)) → number_of done ≡ i
+      → (trees : List Tree) × (parts_now bytes fs arity forms at old h done ≡ Ok (behind trees (seen_of now) (reverse slots) (met_of now))) × AddsParts (nodes_now forms old) (nodes_now forms now) done trees
 
 module _ (bytes : List ℕ) (fs : List Function) (arity : ℕ) (forms : List FormNode) (small : length forms < 2 ^ 32) where
   -- the head that stands in the list is the form's
@@ -98,56 +103,56 @@ module _ (bytes : List ℕ) (fs : List Function) (arity : ℕ) (forms : List For
   -- what stays while a head is met
   pub record HeadMet (node : FormNode) (old next : Progress) (own : Code) : Type 0 where
     pub met : head_met bytes fs (seen_of old) (met_of old) node.head node.parts ≡ Ok (own, met_of next)
-    pub nodes : next.nodes ≡ old.nodes
+    pub heads : next.heads.items ≡ old.heads.items
     pub seen : next.seen.items ≡ old.seen.items
 
   pub block-met : (old : Progress) (node : FormNode) (names : List (Option Span)) → node.head ≡ kind.Block names → HeadMet node old old (code.Block [])
-  block-met old node names e = record { met = ap (λ h. head_met bytes fs (seen_of old) (met_of old) h node.parts) e; nodes = refl; seen = refl }
+  block-met old node names e = record { met = ap (λ h. head_met bytes fs (seen_of old) (met_of old) h node.parts) e; heads = refl; seen = refl }
 
   module _ (at : ℕ) (old next : Progress) (node : FormNode) (found : slice_get forms at ≡ Some node) where
-    pub form-head-fault : (fault : ScopeFault) → IsFaultOf (head_met bytes fs (seen_of old) (met_of old) node.head node.parts) fault → (f : Form) → IsAt forms (length old.nodes) at f → IsFaultOf (scoped_now bytes fs arity forms at old f) fault
+    pub form-head-fault : (fault : ScopeFault) → IsFaultOf (head_met bytes fs (seen_of old) (met_of old) node.head node.parts) fault → (f : Form) → IsAt forms (length (nodes_now forms old)) at f → IsFaultOf (scoped_now bytes fs arity forms at old f) fault
     form-head-fault fault h (form place g ps) is =
         fault-first (head_met bytes fs (seen_of old) (met_of old) g (number_of ps)) _ fault
-        (fault-same _ _ fault (head-at (seen_of old) (met_of old) (length old.nodes) at place g ps node found is) h)
+        (fault-same _ _ fault (head-at (seen_of old) (met_of old) (length (nodes_now forms old)) at place g ps node found is) h)
 
     module _ (own : Code) (head : HeadMet node old next own) where
-      head-now : (place : ℕ) (g : Head) (ps : Parts) → IsAt forms (length old.nodes) at (form place g ps) → head_met bytes fs (seen_of old) (met_of old) g (number_of ps) ≡ Ok (own, met_of next)
-      head-now place g ps is = head-at (seen_of old) (met_of old) (length old.nodes) at place g ps node found is ∙ head.met
+      head-now : (place : ℕ) (g : Head) (ps : Parts) → IsAt forms (length (nodes_now forms old)) at (form place g ps) → head_met bytes fs (seen_of old) (met_of old) g (number_of ps) ≡ Ok (own, met_of next)
+      head-now place g ps is = head-at (seen_of old) (met_of old) (length (nodes_now forms old)) at place g ps node found is ∙ head.met
 
-      place-now : (f : Form) → IsAt forms (length old.nodes) at f → IsAt forms (length next.nodes) at f
-      place-now f is = subst (λ nodes. IsAt forms (length nodes) at f) (sym head.nodes) is
+      nodes-same : nodes_now forms next ≡ nodes_now forms old
+      nodes-same = ap (λ l. nodes_in l (part_lists 0 [] forms)) head.heads
+
+      place-now : (f : Form) → IsAt forms (length (nodes_now forms old)) at f → IsAt forms (length (nodes_now forms next)) at f
+      place-now f is = subst (λ nodes. IsAt forms (length nodes) at f) (sym nodes-same) is
 
       parts-same : (g : Head) (ps : Parts) → parts_scoped bytes fs arity (items_of g) (behind [] (seen_of old) [] (met_of next)) ps ≡ parts_now bytes fs arity forms at next g ps
       parts-same g ps = ap (λ s. parts_scoped bytes fs arity (items_of g) (behind [] (reverse s) [] (met_of next)) ps) (sym head.seen)
 
-      pub form-parts-fault : (fault : ScopeFault) → IsPartsFault bytes fs arity forms at next fault → (f : Form) → IsAt forms (length old.nodes) at f → IsFaultOf (scoped_now bytes fs arity forms at old f) fault
+      pub form-parts-fault : (fault : ScopeFault) → IsPartsFault bytes fs arity forms at next fault → (f : Form) → IsAt forms (length (nodes_now forms old)) at f → IsFaultOf (scoped_now bytes fs arity forms at old f) fault
       form-parts-fault fault h (form place g ps) is =
           fault-second (head_met bytes fs (seen_of old) (met_of old) g (number_of ps)) (own, met_of next) _ fault (head-now place g ps is)
           (fault-first (parts_scoped bytes fs arity (items_of g) (behind [] (seen_of old) [] (met_of next)) ps) _ fault
           (fault-same _ _ fault (parts-same g ps) (h place g ps (place-now (form place g ps) is))))
 
-      pub form-made : (last : Progress) (slots : List (Option ℕ)) (parts : List NodeId) (new_nodes : List NodeParts) → ArePartsMade bytes fs arity forms at next last slots → slice_get (part_lists 0 [] forms) at ≡ Some parts
-          → new_nodes ≡ last.nodes ++ node_of (with_slots (reverse slots) own) parts ∷ []
-          → (f : Form) → IsAt forms (length old.nodes) at f → (t : Tree) × (scoped_now bytes fs arity forms at old f ≡ Ok (t, met_of last)) × ((new_nodes ≡ old.nodes ++ tree_nodes (length old.nodes) t) × (tree_size t ≡ size_of f))
-      form-made last slots parts new_nodes made listed nodes (form place g ps) is =
+      pub form-made : (last : Progress) (slots : List (Option ℕ)) (heads : List Code) → ArePartsMade bytes fs arity forms at next last slots
+          → heads ≡ last.heads.items ++ with_slots (reverse slots) own ∷ []
+          → (f : Form) → IsAt forms (length (nodes_now forms old)) at f
+          → (t : Tree) × (scoped_now bytes fs arity forms at old f ≡ Ok (t, met_of last)) × Adds (nodes_now forms old) (nodes_in heads (part_lists 0 [] forms)) f t × (length (nodes_in heads (part_lists 0 [] forms)) ≡ length heads)
+      form-made last slots heads made pushed (form place g ps) is =
           let inner = made place g ps (place-now (form place g ps) is) in
           let trees = inner.0 in
           let code = with_slots (reverse slots) own in
-          let n = length old.nodes in
-          let same : length next.nodes ≡ n = ap length head.nodes in
-          let adds = inner.2 in
-          let numbers : own_nodes n (in_order trees) ≡ parts =
-          let own_is : own_nodes n (in_order trees) ≡ own_numbers n ps = subst (λ m. own_nodes m (in_order trees) ≡ own_numbers m ps) same adds.own in
-          let at_is = parts-at forms n at place g ps small is in
-          cc (own_is, at_is, listed) in (
+          let n = length (nodes_now forms old) in
+          let adds : AddsParts (nodes_now forms old) (nodes_now forms last) ps trees = subst (λ l. AddsParts l (nodes_now forms last) ps trees) nodes-same inner.2 in
+          let listed = parts-at forms n at place g ps small is in
+          let count : length (nodes_now forms last) ≡ at = added-count (nodes_now forms old) (nodes_now forms last) ps trees at adds is.own_is in
+          let added : nodes_in heads (part_lists 0 [] forms) ≡ nodes_now forms last ++ node_of code (own_numbers n ps) ∷ [] =
+          ap (λ l. nodes_in l (part_lists 0 [] forms)) pushed ∙ node_added last.heads.items (part_lists 0 [] forms) code (own_numbers n ps) at count listed in (
             tree code (in_order trees),
             ap (λ r. after r (λ o. after (parts_scoped bytes fs arity (items_of g) (behind [] (seen_of old) [] o.1) ps) (λ b. Ok (tree (with_slots b.slots o.0) (in_order b.trees), b.met)))) (head-now place g ps is)
                 ∙ ap (λ r. after r (λ b. Ok (tree (with_slots b.slots own) (in_order b.trees), b.met))) (parts-same g ps ∙ inner.1),
-            (
-              nodes ∙ ap (λ l. l ++ node_of code parts ∷ []) (adds.nodes ∙ ap (λ m. next.nodes ++ nodes_of_all m (in_order trees)) same ∙ ap (λ l. l ++ nodes_of_all n (in_order trees)) head.nodes)
-                  ∙ append_assoc old.nodes (nodes_of_all n (in_order trees)) (node_of code parts ∷ []) ∙ ap (λ l. old.nodes ++ (nodes_of_all n (in_order trees) ++ node_of code l ∷ [])) (sym numbers),
-              ap (λ s. s + 1) adds.size,
-            ),
+            adds-whole (nodes_now forms old) (nodes_now forms last) (nodes_in heads (part_lists 0 [] forms)) place g ps code trees adds added,
+            ap (λ l. length (nodes_in l (part_lists 0 [] forms))) pushed ∙ whole_added last.heads.items (part_lists 0 [] forms) code (own_numbers n ps) at count listed ∙ ap length (sym pushed),
           )
 
   -- ---- one part more
@@ -177,14 +182,17 @@ module _ (bytes : List ℕ) (fs : List Function) (arity : ℕ) (forms : List For
           own.2,
         )
 
-    module _ (name : Span) (x : Variable) (old next : Progress) (numbered : let_numbered arity name (met_of old) ≡ Ok (x, met_of next)) (nodes : next.nodes ≡ old.nodes) (seen : next.seen.items ≡ old.seen.items) where
-      let-place : (f : Form) → IsAt forms (length old.nodes) at f → IsAt forms (length next.nodes) at f
-      let-place f is = subst (λ l. IsAt forms (length l) at f) (sym nodes) is
+    module _ (name : Span) (x : Variable) (old next : Progress) (numbered : let_numbered arity name (met_of old) ≡ Ok (x, met_of next)) (heads : next.heads.items ≡ old.heads.items) (seen : next.seen.items ≡ old.seen.items) where
+      let-nodes : nodes_now forms next ≡ nodes_now forms old
+      let-nodes = ap (λ l. nodes_in l (part_lists 0 [] forms)) heads
+
+      let-place : (f : Form) → IsAt forms (length (nodes_now forms old)) at f → IsAt forms (length (nodes_now forms next)) at f
+      let-place f is = subst (λ l. IsAt forms (length l) at f) (sym let-nodes) is
 
       pub part-let : (item : Option (Option Span)) (last : Progress) (seen_now : List Variable) (slots_now : List (Option ℕ)) → item ≡ Some (Some name) → IsFormMade bytes fs arity forms at next last → last.seen.items ≡ next.seen.items
           → seen_now ≡ last.seen.items ++ x ∷ [] → slots_now ≡ slots ++ Some x.slot ∷ []
-          → (f : Form) (trees : List Tree) → IsAt forms (length old.nodes) at f
-          → (t : Tree) × (part_now bytes fs arity forms at item old slots trees f ≡ Ok (behind (t ∷ trees) (reverse seen_now) (reverse slots_now) (met_of last))) × Adds old last f t
+          → (f : Form) (trees : List Tree) → IsAt forms (length (nodes_now forms old)) at f
+          → (t : Tree) × (part_now bytes fs arity forms at item old slots trees f ≡ Ok (behind (t ∷ trees) (reverse seen_now) (reverse slots_now) (met_of last))) × Adds (nodes_now forms old) (nodes_now forms last) f t
       part-let item last seen_now slots_now item_is made kept pushed e f trees is =
           let own = made f (let-place f is) in
           let scoped : form_scoped bytes fs arity (seen_of old) (met_of next) f ≡ Ok (own.0, met_of last) = ap (λ s. form_scoped bytes fs arity (reverse s) (met_of next) f) (sym seen) ∙ own.1 in
@@ -196,7 +204,7 @@ module _ (bytes : List ℕ) (fs : List Function) (arity : ℕ) (forms : List For
                 ∙ ap (λ r. after r (λ t. Ok (behind (t.0 ∷ trees) (x ∷ seen_of old) (Some x.slot ∷ reverse slots) t.1))) scoped
                 ∙ ap (λ s. Ok (behind (own.0 ∷ trees) s (Some x.slot ∷ reverse slots) (met_of last))) (sym behind_is)
                 ∙ ap (λ s. Ok (behind (own.0 ∷ trees) (reverse seen_now) s (met_of last))) (sym (ap reverse e ∙ reverse-append slots (Some x.slot ∷ []))),
-            (own.2.0 ∙ ap (λ l. l ++ tree_nodes (length l) own.0) nodes, own.2.1),
+            (own.2.0 ∙ ap (λ l. l ++ tree_nodes (length l) own.0) let-nodes, own.2.1),
           )
 
   -- ---- part after part
@@ -205,32 +213,9 @@ module _ (bytes : List ℕ) (fs : List Function) (arity : ℕ) (forms : List For
   so-far-none at old now slots e empty place h no_parts rest is n = (
     [],
     ap (λ p. Ok (behind [] (seen_of p) [] (met_of p))) (sym e) ∙ ap (λ s. Ok (behind [] (seen_of now) (reverse s) (met_of now))) (sym empty),
-    record { nodes = ap (λ p. p.nodes) e ∙ sym (append-nil old.nodes); own = refl; size = refl },
+    record { nodes = ap (nodes_now forms) e ∙ sym (append-nil (nodes_now forms old)); own = refl; size = refl },
   )
   so-far-none at old now slots e empty place h (next_part done f) rest is n = absurd (omega arith)
-
-  abbrev more_one : Tree → Trees
-  more_one t = more t none
-
-  own-same : (n : ℕ) (t : Tree) (f : Form) → tree_size t ≡ size_of f → own_node n t ≡ own_number n f
-  own-same n (tree code parts) (form place h ps) e = let s : size_of_all parts ≡ size_of_parts ps = omega arith in ap (λ m. id (n + m)) s
-
-  adds-next : (old now new : Progress) (done : Parts) (f : Form) (trees : List Tree) (t : Tree) → AddsParts old now done trees → Adds now new f t → AddsParts old new (next_part done f) (t ∷ trees)
-  adds-next old now new done f trees t adds last =
-      let n = length old.nodes in
-      let whole = in_order trees in
-      let behind_is = in_order-join trees (more_one t) in
-      let count : length now.nodes ≡ n + size_of_parts done = omega (arith, ap length adds.nodes, length-append old.nodes (nodes_of_all n whole), length-nodes_of_all n whole, adds.size) in
-      let counted : n + size_of_all whole ≡ n + size_of_parts done = ap (λ s. n + s) adds.size in
-      record {
-        nodes = last.0 ∙ ap (λ m. now.nodes ++ tree_nodes m t) (count ∙ sym counted) ∙ ap (λ l. l ++ tree_nodes (n + size_of_all whole) t) adds.nodes
-            ∙ append_assoc old.nodes (nodes_of_all n whole) (tree_nodes (n + size_of_all whole) t)
-            ∙ ap (λ l. old.nodes ++ (nodes_of_all n whole ++ l)) (sym (append-nil (tree_nodes (n + size_of_all whole) t)))
-            ∙ ap (λ l. old.nodes ++ l) (sym (ap (nodes_of_all n) behind_is ∙ nodes-join n whole (more_one t)));
-        own = ap (own_nodes n) behind_is ∙ own-join n whole (more_one t) ∙ ap (λ l. l ++ own_node (n + size_of_all whole) t ∷ []) adds.own
-            ∙ ap (λ m. own_numbers n done ++ own_node m t ∷ []) counted ∙ ap (λ o. own_numbers n done ++ o ∷ []) (own-same (n + size_of_parts done) t f last.1);
-        size = ap size_of_all behind_is ∙ size-join whole (more_one t) ∙ omega (arith, adds.size, last.1);
-      }
 
   -- parts behind those in which the fault is
   parts-follow : (names : List (Option Span)) (b : Behind) (ps : Parts) (rest : List Form) (fault : ScopeFault) → parts_scoped bytes fs arity names b ps ≡ Err fault → parts_scoped bytes fs arity names b (followed ps rest) ≡ Err fault
@@ -259,20 +244,20 @@ module _ (bytes : List ℕ) (fs : List Function) (arity : ℕ) (forms : List For
   module _ (at : ℕ) (old now : Progress) (slots : List (Option ℕ)) (node : FormNode) (parts : List NodeId) (i : ℕ) (part : NodeId) (item : Option (Option Span))
       (found : slice_get forms at ≡ Some node) (listed : slice_get (part_lists 0 [] forms) at ≡ Some parts) (own : slice_get parts i ≡ Some part)
       (item_is : item ≡ slice_get (items_of node.head) i) (far : SoFar bytes fs arity forms at old now slots i) where
-    part-place : (place : ℕ) (h : Head) (done : Parts) (f : Form) (rest : List Form) (trees : List Tree) → IsAt forms (length old.nodes) at (form place h (followed (next_part done f) rest)) → number_of done ≡ i
-        → AddsParts old now done trees → IsAt forms (length now.nodes) part.0 f
+    part-place : (place : ℕ) (h : Head) (done : Parts) (f : Form) (rest : List Form) (trees : List Tree) → IsAt forms (length (nodes_now forms old)) at (form place h (followed (next_part done f) rest)) → number_of done ≡ i
+        → AddsParts (nodes_now forms old) (nodes_now forms now) done trees → IsAt forms (length (nodes_now forms now)) part.0 f
     part-place place h done f rest trees is n adds =
-        let first = length old.nodes in
-        let count : length now.nodes ≡ first + size_of_parts done = omega (arith, ap length adds.nodes, length-append old.nodes (nodes_of_all first (in_order trees)), length-nodes_of_all first (in_order trees), adds.size) in
+        let first = length (nodes_now forms old) in
+        let count : length (nodes_now forms now) ≡ first + size_of_parts done = omega (arith, ap length adds.nodes, length-append (nodes_now forms old) (nodes_of_all first (in_order trees)), length-nodes_of_all first (in_order trees), adds.size) in
         let numbers : parts ≡ own_numbers first (followed (next_part done f) rest) = cc (listed, parts-at forms first at place h (followed (next_part done f) rest) small is) in
         let part_is : slice_get parts i ≡ Some (own_number (first + size_of_parts done) f) = ap (λ l. slice_get l i) numbers ∙ ap (slice_get (own_numbers first (followed (next_part done f) rest))) (sym n) ∙ own-at first done f rest in
         let same : own_number (first + size_of_parts done) f ≡ part = cc (part_is, own) in
         subst (λ m. IsAt forms m part.0 f) (sym count) (subst (λ o. IsAt forms (first + size_of_parts done) o.0 f) same (part-at forms first at place h done f rest is))
 
-    item-at : (place : ℕ) (h : Head) (done : Parts) (ps : Parts) → IsAt forms (length old.nodes) at (form place h ps) → number_of done ≡ i → slice_get (items_of h) (number_of done) ≡ item
-    item-at place h done ps is n = ap (slice_get (items_of h)) n ∙ ap (λ g. slice_get (items_of g.head) i) (node-is (length old.nodes) at place h ps node found is) ∙ sym item_is
+    item-at : (place : ℕ) (h : Head) (done : Parts) (ps : Parts) → IsAt forms (length (nodes_now forms old)) at (form place h ps) → number_of done ≡ i → slice_get (items_of h) (number_of done) ≡ item
+    item-at place h done ps is n = ap (slice_get (items_of h)) n ∙ ap (λ g. slice_get (items_of g.head) i) (node-is (length (nodes_now forms old)) at place h ps node found is) ∙ sym item_is
 
-    part-next : (place : ℕ) (h : Head) (done : Parts) (f : Form) (rest : List Form) (trees : List Tree) → IsAt forms (length old.nodes) at (form place h (followed (next_part done f) rest)) → number_of done ≡ i
+    part-next : (place : ℕ) (h : Head) (done : Parts) (f : Form) (rest : List Form) (trees : List Tree) → IsAt forms (length (nodes_now forms old)) at (form place h (followed (next_part done f) rest)) → number_of done ≡ i
         → parts_now bytes fs arity forms at old h done ≡ Ok (behind trees (seen_of now) (reverse slots) (met_of now))
         → parts_now bytes fs arity forms at old h (next_part done f) ≡ part_now bytes fs arity forms part.0 item now slots trees f
     part-next place h done f rest trees is n e =
@@ -286,11 +271,11 @@ module _ (bytes : List ℕ) (fs : List Function) (arity : ℕ) (forms : List For
         let before = far place h done (f ∷ rest) is number in
         let trees = before.0 in
         let last = made f trees (part-place place h done f rest trees is number before.2) in
-        (last.0 ∷ trees, part-next place h done f rest trees is number before.1 ∙ last.1, adds-next old now new done f trees last.0 before.2 last.2)
+        (last.0 ∷ trees, part-next place h done f rest trees is number before.1 ∙ last.1, adds-next (nodes_now forms old) (nodes_now forms now) (nodes_now forms new) done f trees last.0 before.2 last.2)
 
     pub so-far-fault : (fault : ScopeFault) → IsPartFault bytes fs arity forms part.0 item now slots fault → IsPartsFault bytes fs arity forms at old fault
     so-far-fault fault h place g ps is =
-        let first = length old.nodes in
+        let first = length (nodes_now forms old) in
         let numbers : parts ≡ own_numbers first ps = cc (listed, parts-at forms first at place g ps small is) in
         let room : i < number_of ps = omega (arith, slice_get_within parts i part own, ap length numbers, length-own_numbers first ps) in
         let s = split-parts ps [] i room in
@@ -305,19 +290,6 @@ module _ (bytes : List ℕ) (fs : List Function) (arity : ℕ) (forms : List For
 
   pub so-far-all : (at : ℕ) (old now : Progress) (slots : List (Option ℕ)) (parts : List NodeId) (i : ℕ) → slice_get (part_lists 0 [] forms) at ≡ Some parts → i ≡ length parts → SoFar bytes fs arity forms at old now slots i → ArePartsMade bytes fs arity forms at old now slots
   so-far-all at old now slots parts i listed all far place h ps is =
-      let first = length old.nodes in
+      let first = length (nodes_now forms old) in
       let numbers : parts ≡ own_numbers first ps = cc (listed, parts-at forms first at place h ps small is) in
       far place h ps [] is (sym (all ∙ ap length numbers ∙ length-own_numbers first ps))
-
-  -- ---- a form without parts
-
-  module _ (at : ℕ) (old next : Progress) (node : FormNode) (found : slice_get forms at ≡ Some node) (own : Code) (head : HeadMet node old next own) where
-    pub leaf-made : (new_nodes : List NodeParts) → node.parts ≡ 0 → new_nodes ≡ next.nodes ++ node_of own [] ∷ [] → with_slots [] own ≡ own
-        → (f : Form) → IsAt forms (length old.nodes) at f → (t : Tree) × (scoped_now bytes fs arity forms at old f ≡ Ok (t, met_of next)) × ((new_nodes ≡ old.nodes ++ tree_nodes (length old.nodes) t) × (tree_size t ≡ size_of f))
-    leaf-made new_nodes empty nodes same (form place g no_parts) is =
-        let listed : slice_get (part_lists 0 [] forms) at ≡ Some [] = parts-at forms (length old.nodes) at place g no_parts small is in
-        let made = so-far-all at next next [] [] 0 listed refl (so-far-none at next next [] refl refl) in
-        form-made at old next node found own head next [] [] new_nodes made listed (nodes ∙ ap (λ h. next.nodes ++ node_of h [] ∷ []) (sym same)) (form place g no_parts) is
-    leaf-made new_nodes empty nodes same (form place g (next_part ps f)) is =
-        let count : number_of (next_part ps f) ≡ node.parts = ap (λ n. n.parts) (node-is (length old.nodes) at place g (next_part ps f) node found is) in
-        absurd (omega (arith, count, empty))

@@ -9,3 +9,4 @@ pub mod Reading
 pub mod Scope
 pub mod Seen
 pub mod Sound
+pub mod Stretches

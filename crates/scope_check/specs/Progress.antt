@@ -1,21 +1,17 @@
 -- What was made and met so far, in the words of the definition.
-use Rattle.std.specs.Prelude.{◌≡◌, ◌⊎◌, ℕ, ◌≤◌, ◌<◌, List, ◌++◌, length, map, reverse, Option, Some, Result, Err, ⊤}
+use Rattle.std.specs.Prelude.{◌≡◌, ◌⊎◌, ℕ, ◌≤◌, ◌<◌, List, length, map, reverse, Option, Some, Result, Err, ⊤}
 use Rattle.std.specs.List.{All}
-use Rattle.stab_code.specs.Layout.{nodes_of, size_of as tree_size}
-use Rattle.stab_code.specs.Trees.{Tree}
 use Rattle.stab_lex.specs.Pieces.{IsText}
 use Rattle.stab_parse.specs.declared.tree.FormNode.{FormNode}
 use Rattle.stab_parse.specs.declared.tree.Function.{Function}
 use Rattle.stab_parse.specs.declared.tree.Head.{Head}
 use Rattle.stab_parse.specs.declared.tree.Head.TheVariants as head
-use Rattle.stab_parse.specs.Forms.{Form}
 use Rattle.scope_check.specs.declared.fault.ScopeFault.{ScopeFault}
 use Rattle.scope_check.specs.declared.fault.ScopeFault.TheVariants.{NoMemory}
 use Rattle.scope_check.specs.declared.progress.Progress.{Progress}
 use Rattle.scope_check.specs.declared.seen.Variable.{Variable}
 use Rattle.scope_check.specs.Limits.{max_params}
 use Rattle.scope_check.specs.Names.{named}
-use Rattle.scope_check.specs.Placed.{size_of}
 use Rattle.scope_check.specs.Scope.{Met}
 
 -- there was no memory, or it is the fault that the definition has
@@ -36,13 +32,9 @@ met_of p = record { lets = p.lets; texts = texts_of p }
 abbrev pub seen_of : Progress → List Variable
 seen_of p = reverse p.seen.items
 
--- the nodes and what is seen stay
-abbrev pub KeepsNodesAndSeen : Progress → Progress → Type 0
-KeepsNodesAndSeen old new = (new.nodes ≡ old.nodes) × (new.seen.items ≡ old.seen.items)
-
--- the nodes are those of the form's tree more
-abbrev pub Adds : Progress → Progress → Form → Tree → Type 0
-Adds old new f t = (new.nodes ≡ old.nodes ++ nodes_of (length old.nodes) t) × (tree_size t ≡ size_of f)
+-- the heads and what is seen stay
+abbrev pub KeepsHeadsAndSeen : Progress → Progress → Type 0
+KeepsHeadsAndSeen old new = (new.heads.items ≡ old.heads.items) × (new.seen.items ≡ old.seen.items)
 
 -- a text is one
 abbrev pub HasText : List ℕ → Head → Type 0

@@ -40,10 +40,10 @@ impl<'a> Plan<'a> {
     /// Makes the nodes of all bodies, and gives the functions.
     pub(crate) fn functions(&self, progress: &mut Progress) -> Result<Vec<CodeFunction>, ScopeFault>
         requires texts { HaveTexts self.now.bytes.now self.now.forms.now }
-        requires nodes { progress.old.nodes ≡ [] }
+        requires none_made { progress.old.heads.items ≡ [] }
         requires none { texts_of progress.old ≡ [] }
         ensures ok { IfOk result (λ made. (p : Program) → functions_of p ≡ self.now.functions.now → nodes_of_program p ≡ self.now.forms.now
-            → AreFunctionsMade self.now.bytes.now self.now.functions.now p progress.new made.items) }
+            → AreFunctionsMade self.now.bytes.now self.now.functions.now self.now.forms.now p progress.new made.items) }
         ensures fault { IfErr result (λ fault. (p : Program) → functions_of p ≡ self.now.functions.now
             → nodes_of_program p ≡ self.now.forms.now
             → IsFaultOf (functions_scoped self.now.bytes.now self.now.functions.now p) fault) }

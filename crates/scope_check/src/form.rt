@@ -26,17 +26,16 @@ impl<'a> Plan<'a> {
         ensures seen { OnOk result (progress.new.seen.items ≡ progress.old.seen.items) }
         ensures fault { IfErr result (IsFormFault self.now.bytes.now self.now.functions.now arity self.now.forms.now at progress.old) }
     {
+        if self.plain_from[at] as usize <= progress.heads.len() {
+            return self.stretch(progress, at);
+        }
         let form = &self.forms[at];
         if let Head::Block(names) = &form.head {
             return self.block(progress, arity, at, names.all());
         }
         let head = self.head(progress, form)?;
-        if form.parts == 0 {
-            progress.nodes.push(head, &[])?;
-            return Ok(());
-        }
         self.operands(progress, arity, at)?;
-        progress.nodes.push(head, self.parts.of(at))?;
+        progress.heads.push(head)?;
         Ok(())
     }
 
@@ -78,7 +77,7 @@ impl<'a> Plan<'a> {
         let slots = self.block_parts(progress, arity, at, names)?;
         progress.seen.truncate(seen);
         let head = Code::Block(Slots::new(self.alloc, slots)?);
-        progress.nodes.push(head, self.parts.of(at))?;
+        progress.heads.push(head)?;
         Ok(())
     }
 

@@ -3,7 +3,7 @@ ghost use Rattle.std.specs.Prelude.{◌≡◌, [], false, Ok, IfOk, IfErr, OnOk}
 ghost use Rattle.stab_lex.specs.Pieces.{IsText};
 ghost use Rattle.scope_check.specs.Forms.{act_of, is_block};
 ghost use Rattle.scope_check.specs.Names.{named, text_at};
-ghost use Rattle.scope_check.specs.Progress.{HasText, IsFaultOf, KeepsNodesAndSeen, met_of, seen_of, texts_of};
+ghost use Rattle.scope_check.specs.Progress.{HasText, IsFaultOf, KeepsHeadsAndSeen, met_of, seen_of, texts_of};
 ghost use Rattle.scope_check.specs.Scope.{head_met, text_numbered, with_slots};
 
 use crate::fault::ScopeFault;
@@ -24,13 +24,14 @@ impl<'a> Plan<'a> {
         ensures lets { OnOk result (progress.new.lets ≡ progress.old.lets) }
         ensures number { IfOk result (λ number. text_numbered span (text_at self.now.bytes.now span) (texts_of progress.old)
             ≡ Ok (number.0, texts_of progress.new)) }
-        ensures others { OnOk result (KeepsNodesAndSeen progress.old progress.new) }
+        ensures others { OnOk result (KeepsHeadsAndSeen progress.old progress.new) }
         ensures fault { IfErr result (IsFaultOf (text_numbered span (text_at self.now.bytes.now span) (texts_of progress.old))) }
     {
         let Ok(text) = characters(self.alloc, written(self.bytes, span)) else {
             return Err(ScopeFault::NoMemory);
         };
-        progress.number_text(span, text.into_bytes())
+        let kept = text.into_bytes();
+        progress.number_text(span, kept)
     }
 
     /// What a form is that isn't a block, apart from its parts.
@@ -41,7 +42,7 @@ impl<'a> Plan<'a> {
         ensures head { IfOk result (λ head. head_met self.now.bytes.now self.now.functions.now (seen_of progress.old) (met_of progress.old)
             form.now.head form.now.parts ≡ Ok (head, met_of progress.new)) }
         ensures slots { IfOk result (λ head. with_slots [] head ≡ head) }
-        ensures others { OnOk result (KeepsNodesAndSeen progress.old progress.new) }
+        ensures others { OnOk result (KeepsHeadsAndSeen progress.old progress.new) }
         ensures fault { IfErr result (IsFaultOf (head_met self.now.bytes.now self.now.functions.now (seen_of progress.old)
             (met_of progress.old) form.now.head form.now.parts)) }
     {

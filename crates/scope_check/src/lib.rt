@@ -14,6 +14,7 @@ mod plan;
 mod progress;
 mod scoping;
 mod seen;
+mod stretches;
 mod types;
 
 pub use fault::ScopeFault;

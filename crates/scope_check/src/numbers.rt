@@ -1,6 +1,6 @@
 //! The numbers of texts and variables.
-ghost use Rattle.std.specs.Prelude.{◌≡◌, ◌≤◌, [], Ok, Err, IfOk, IfErr, OnOk, reverse, map, length, ◌+◌, ◌<◌, ◌^◌};
-ghost use Rattle.scope_check.specs.Progress.{IsFaultOf, KeepsNodesAndSeen, met_of, seen_of, texts_of};
+ghost use Rattle.std.specs.Prelude.{◌≡◌, ◌≤◌, [], Ok, Err, IfOk, IfErr, OnOk, length, ◌+◌, ◌<◌, ◌^◌};
+ghost use Rattle.scope_check.specs.Progress.{IsFaultOf, KeepsHeadsAndSeen, met_of, seen_of, texts_of};
 ghost use Rattle.scope_check.specs.Scope.{let_numbered, slot_found, text_numbered};
 ghost use Rattle.scope_check.specs.Names.{slot_of};
 ghost use Rattle.scope_check.specs.Seen.{params_seen};
@@ -11,7 +11,6 @@ use crate::progress::Progress;
 use crate::seen::Variable;
 use indexmap::IndexSet;
 use stab_base::TextId;
-use stab_code::Nodes;
 use stab_parse::{Param, Span};
 use std::alloc::Global;
 
@@ -24,13 +23,13 @@ const MAX_TEXTS: usize = 1000;
 impl Progress {
     /// Nothing yet, with room for so many nodes.
     pub(crate) fn with_room(alloc: Global, nodes: usize) -> Result<Progress, ScopeFault>
-        ensures nodes { IfOk result (λ progress. progress.nodes ≡ []) }
+        ensures heads { IfOk result (λ progress. progress.heads.items ≡ []) }
         ensures texts { IfOk result (λ progress. texts_of progress ≡ []) }
         ensures fault { IfErr result (λ fault. fault ≡ ScopeFault.NoMemory) }
     {
-        let nodes = Nodes::with_capacity(alloc, nodes, nodes)?;
+        let heads = Vec::with_capacity(alloc, nodes)?;
         Ok(Progress {
-            nodes,
+            heads,
             texts: IndexSet::new(alloc),
             seen: Vec::new(alloc),
             lets: 0,
@@ -42,7 +41,7 @@ impl Progress {
         requires { length params.now < 2 ^ 32 }
         ensures seen { OnOk result (seen_of self.new ≡ params_seen 0 params.now []) }
         ensures lets { OnOk result (self.new.lets ≡ 0) }
-        ensures nodes { OnOk result (self.new.nodes ≡ self.old.nodes) }
+        ensures heads { OnOk result (self.new.heads.items ≡ self.old.heads.items) }
         ensures texts { OnOk result (texts_of self.new ≡ texts_of self.old) }
         ensures fault { IfErr result (λ fault. fault ≡ ScopeFault.NoMemory) }
     {
@@ -75,7 +74,7 @@ impl Progress {
     pub(crate) fn number_text(&mut self, span: Span, text: Vec<u8>) -> Result<TextId, ScopeFault>
         ensures lets { OnOk result (self.new.lets ≡ self.old.lets) }
         ensures number { IfOk result (λ number. text_numbered span text.items (texts_of self.old) ≡ Ok (number.0, texts_of self.new)) }
-        ensures others { OnOk result (KeepsNodesAndSeen self.old self.new) }
+        ensures others { OnOk result (KeepsHeadsAndSeen self.old self.new) }
         ensures fault { IfErr result (IsFaultOf (text_numbered span text.items (texts_of self.old))) }
     {
         if let Some(number) = self.texts.get_index_of(text.as_slice()) {
@@ -93,7 +92,7 @@ impl Progress {
     pub(crate) fn number_let(&mut self, arity: u32, name: Span) -> Result<Variable, ScopeFault>
         requires { arity ≤ 8 }
         ensures variable { IfOk result (λ variable. let_numbered arity name (met_of self.old) ≡ Ok (variable, met_of self.new)) }
-        ensures others { OnOk result (KeepsNodesAndSeen self.old self.new) }
+        ensures others { OnOk result (KeepsHeadsAndSeen self.old self.new) }
         ensures fault { IfErr result (λ fault. let_numbered arity name (met_of self.old) ≡ Err fault) }
     {
         if self.lets >= MAX_LETS {

@@ -5,6 +5,7 @@ ghost use Rattle.scope_check.specs.Limits.{max_functions};
 ghost use Rattle.scope_check.specs.Places.{part_lists};
 ghost use Rattle.scope_check.specs.Progress.{AreWithin};
 ghost use Rattle.scope_check.specs.Scope.{callee_of, function_named, has_arity, main_of, names_of};
+ghost use Rattle.scope_check.specs.Stretches.{plain_from as plain_numbers};
 
 use crate::fault::ScopeFault;
 use crate::names::{unknown, written};
@@ -23,12 +24,14 @@ pub struct Plan<'a> {
     pub names: IndexSet<&'a [u8]>,
     pub forms: &'a [FormNode],
     pub parts: PartLists,
+    pub plain_from: Vec<u32>,
     ghost named: { map (λ name. name.now) names.keys ≡ names_of bytes.now functions.now },
     ghost few: { length functions.now ≤ max_functions },
     ghost within: { AreWithin (length forms.now) functions.now },
     ghost small: { length bytes.now ≤ max_text },
     ghost fewer: { length forms.now < 2 ^ 32 },
     ghost laid: { parts ≡ part_lists 0 [] forms.now },
+    ghost plain: { plain_from.items ≡ plain_numbers 0 0 forms.now },
 }
 
 impl<'a> Plan<'a> {

@@ -4,13 +4,13 @@ ghost use Rattle.scope_check.specs.Limits.{max_lets, max_texts};
 
 use crate::seen::Variable;
 use indexmap::IndexSet;
-use stab_code::Nodes;
+use stab_code::Head;
 
-/// What was made so far of a program, its nodes and texts, and of a function: how many lets it has, and the variables that are
-/// seen, the innermost last.
+/// What was made so far of a program, what its nodes are and its texts, and of a function: how many lets it has, and the variables
+/// that are seen, the innermost last.
 #[derive(Drop)]
 pub struct Progress {
-    pub nodes: Nodes,
+    pub heads: Vec<Head>,
     pub texts: IndexSet<Vec<u8>>,
     pub seen: Vec<Variable>,
     pub lets: usize,

@@ -9,9 +9,10 @@ use crate::header::function_names;
 use crate::parts::part_lists;
 use crate::plan::Plan;
 use crate::progress::Progress;
+use crate::stretches::plain_from;
 use indexmap::IndexSet;
 use stab_base::Texts;
-use stab_code::Program;
+use stab_code::{Nodes, Program};
 use stab_parse::Tree;
 use std::alloc::Global;
 
@@ -29,6 +30,7 @@ pub fn scope(alloc: Global, tree: &Tree, bytes: &[u8]) -> Result<Program, ScopeF
     let forms = tree.forms.all();
     let names = function_names(alloc, bytes, functions)?;
     let parts = part_lists(alloc, forms)?;
+    let plain_from = plain_from(alloc, forms)?;
     let plan = Plan {
         alloc,
         bytes,
@@ -36,12 +38,14 @@ pub fn scope(alloc: Global, tree: &Tree, bytes: &[u8]) -> Result<Program, ScopeF
         names,
         forms,
         parts,
+        plain_from,
     };
     let main = plan.main()?;
     let mut progress = Progress::with_room(alloc, forms.len())?;
     let made = plan.functions(&mut progress)?;
     let texts = texts_of(alloc, progress.texts)?;
-    Ok(Program::new(made, progress.nodes, texts, main))
+    let nodes = Nodes::of(progress.heads, plan.parts);
+    Ok(Program::new(made, nodes, texts, main))
 }
 
 fn texts_of(alloc: Global, numbered: IndexSet<Vec<u8>>) -> Result<Texts, ScopeFault>

@@ -1,16 +1,17 @@
-use Rattle.std.proofs.Common.{rules, ◌≡◌, ◌<◌, ap, sym, ◌∙◌, arith, get_or, refl, slice_get, Some, ◌++◌, ◌∷◌, []}
+use Rattle.std.proofs.Common.{rules, ◌≡◌, ◌<◌, ap, length, sym, ◌∙◌, arith, get_or, refl, slice_get, Some, ◌++◌, ◌∷◌, []}
 use Rattle.std.proofs.Math.Seq.{take-length}
 use Rattle.std.specs.Prelude.{None}
 use Rattle.std.proofs.lemmas.List.{reverse-reverse}
 use Rattle.std.proofs.lemmas.Option.{slice_get-get_or, slice_get_within}
 use Rattle.std.proofs.lemmas.Result.{err_from_is_err_and}
 use Rattle.stab_code.specs.declared.head.Head.TheVariants as code
-use Rattle.stab_code.specs.Nodes.{id, node_of}
+use Rattle.stab_code.specs.Nodes.{id}
 use Rattle.stab_parse.specs.declared.tree.Head.TheVariants as kind
 use Rattle.scope_check.specs.Forms.{items_of}
 use Rattle.scope_check.specs.Places.{part_lists}
-use Rattle.scope_check.proofs.Made.{HeadMet, block-met, form-head-fault, form-made, form-parts-fault, leaf-made, no-item, on-ok, part-form, part-let, part-none, part-none-fault, seen-on, so-far-all, so-far-fault, so-far-next, so-far-none}
+use Rattle.scope_check.proofs.Made.{HeadMet, block-met, form-head-fault, form-made, form-parts-fault, no-item, on-err, on-ok, part-form, part-let, part-none, part-none-fault, seen-on, so-far-all, so-far-fault, so-far-next, so-far-none}
 use Rattle.scope_check.proofs.Places.{parts-below, parts-there}
+use Rattle.scope_check.proofs.PlainForms.{length-plain_from, plain-there, stretch-fault, stretch-made}
 use Rattle.scope_check.proofs.plan.Plan.+forms.Goals as goal
 
 pub form-returns-in_err-head-clause-fault : goal.form-returns-in_err-head-clause-fault
@@ -21,21 +22,38 @@ form-returns-in_err-head-clause-fault t c =
     let found = slice_get-get_or plan.forms.now c.args.at c.index-self-at.result c.requires.there in
     rw (p.1, p.2) (form-head-fault plan.bytes.now plan.functions.now c.args.arity plan.forms.now plan.fewer c.args.at c.args.progress.now c.head.new.progress node found c.in_err-head.field-0.0 c.in_err-head.ensures.fault)
 
+pub form-index-requires : goal.form-index-requires
+form-index-requires t c =
+    let plan = c.args.self.now in
+    omega (arith, c.requires.there, ap length plan.plain, length-plain_from 0 0 plan.forms.now)
+
+pub form-stretch-requires-clause-plain : goal.form-stretch-requires-clause-plain
+form-stretch-requires-clause-plain t c =
+    let plan = c.args.self.now in
+    let inside : c.args.at < length plan.plain_from.items = omega (arith, c.requires.there, ap length plan.plain, length-plain_from 0 0 plan.forms.now) in
+    plain-there plan.forms.now plan.plain_from.items c.args.at c.index.result.now (length c.args.progress.now.heads.items) c.index.result.now plan.plain inside c.index.ensures (omega (arith, c.if-index-len.true, c.len.ensures))
+
+pub form-returns-then-index-len-clause-ok : goal.form-returns-then-index-len-clause-ok
+form-returns-then-index-len-clause-ok t c =
+    let plan = c.args.self.now in
+    let inside : c.args.at < length plan.plain_from.items = omega (arith, c.requires.there, ap length plan.plain, length-plain_from 0 0 plan.forms.now) in
+    let are = plain-there plan.forms.now plan.plain_from.items c.args.at c.index.result.now (length c.args.progress.now.heads.items) c.index.result.now plan.plain inside c.index.ensures (omega (arith, c.if-index-len.true, c.len.ensures)) in
+    on-ok c.stretch.result c.stretch.ensures.ok c.stretch.ensures.seen (λ made seen.
+    stretch-made plan.bytes.now plan.functions.now c.args.arity plan.forms.now plan.fewer c.args.at c.args.progress.now are c.stretch.new.progress made)
+
+pub form-returns-then-index-len-clause-fault : goal.form-returns-then-index-len-clause-fault
+form-returns-then-index-len-clause-fault t c =
+    let plan = c.args.self.now in
+    let inside : c.args.at < length plan.plain_from.items = omega (arith, c.requires.there, ap length plan.plain, length-plain_from 0 0 plan.forms.now) in
+    let are = plain-there plan.forms.now plan.plain_from.items c.args.at c.index.result.now (length c.args.progress.now.heads.items) c.index.result.now plan.plain inside c.index.ensures (omega (arith, c.if-index-len.true, c.len.ensures)) in
+    on-err c.stretch.result c.stretch.ensures.fault (λ fault broken.
+    stretch-fault plan.bytes.now plan.functions.now c.args.arity plan.forms.now plan.fewer c.args.at c.args.progress.now are fault broken)
+
 pub form-block-requires : goal.form-block-requires
 form-block-requires t c =
     let plan = c.args.self.now in
     let found = slice_get-get_or plan.forms.now c.args.at c.index-self-at.result c.requires.there in
     (omega (arith, c.decreases), (c.requires.texts, ((get_or plan.forms.now c.args.at c.index-self-at.result, found, c.in-Block.is ∙ ap kind.Block (sym c.all.ensures)), c.requires.few)))
-
-pub form-returns-then-form-eq0-clause-ok : goal.form-returns-then-form-eq0-clause-ok
-form-returns-then-form-eq0-clause-ok t c =
-    let plan = c.args.self.now in
-    let node = get_or plan.forms.now c.args.at c.index-self-at.result in
-    let found = slice_get-get_or plan.forms.now c.args.at c.index-self-at.result c.requires.there in
-    let head : HeadMet plan.bytes.now plan.functions.now c.args.arity plan.forms.now plan.fewer node c.args.progress.now c.head.new.progress c.in_ok-head.head =
-    record { met = c.in_ok-head.ensures.head; nodes = c.in_ok-head.ensures.others.0; seen = c.in_ok-head.ensures.others.1 } in
-    leaf-made plan.bytes.now plan.functions.now c.args.arity plan.forms.now plan.fewer c.args.at c.args.progress.now c.head.new.progress node found c.in_ok-head.head head
-    c.push.new.self c.if-form-eq0.true c.in_ok-push.ensures c.in_ok-head.ensures.slots
 
 pub form-operands-requires : goal.form-operands-requires
 form-operands-requires t c =
@@ -50,11 +68,8 @@ form-returns-in_err-operands-clause-fault t c =
     let node = get_or plan.forms.now c.args.at c.index-self-at.result in
     let found = slice_get-get_or plan.forms.now c.args.at c.index-self-at.result c.requires.there in
     let head : HeadMet plan.bytes.now plan.functions.now c.args.arity plan.forms.now plan.fewer node c.args.progress.now c.head.new.progress c.in_ok-head.head =
-    record { met = c.in_ok-head.ensures.head; nodes = c.in_ok-head.ensures.others.0; seen = c.in_ok-head.ensures.others.1 } in
+    record { met = c.in_ok-head.ensures.head; heads = c.in_ok-head.ensures.others.0; seen = c.in_ok-head.ensures.others.1 } in
     rw (p.1, p.2) (form-parts-fault plan.bytes.now plan.functions.now c.args.arity plan.forms.now plan.fewer c.args.at c.args.progress.now c.head.new.progress node found c.in_ok-head.head head c.in_err-operands.field-0.0 c.in_err-operands.ensures.fault)
-
-pub form-of-requires : goal.form-of-requires
-form-of-requires t c = parts-there c.args.self.now.forms.now c.args.self.now.parts c.args.at c.args.self.now.laid c.requires.there
 
 pub form-returns-clause-ok : goal.form-returns-clause-ok
 form-returns-clause-ok t c =
@@ -62,12 +77,9 @@ form-returns-clause-ok t c =
     let node = get_or plan.forms.now c.args.at c.index-self-at.result in
     let found = slice_get-get_or plan.forms.now c.args.at c.index-self-at.result c.requires.there in
     let head : HeadMet plan.bytes.now plan.functions.now c.args.arity plan.forms.now plan.fewer node c.args.progress.now c.head.new.progress c.in_ok-head.head =
-    record { met = c.in_ok-head.ensures.head; nodes = c.in_ok-head.ensures.others.0; seen = c.in_ok-head.ensures.others.1 } in
-    let last = c.operands.new.progress in
-    let parts = c.of.result.now in
-    let listed : slice_get (part_lists 0 [] plan.forms.now) c.args.at ≡ Some parts = ap (λ l. slice_get l c.args.at) (sym plan.laid) ∙ c.of.ensures in
+    record { met = c.in_ok-head.ensures.head; heads = c.in_ok-head.ensures.others.0; seen = c.in_ok-head.ensures.others.1 } in
     form-made plan.bytes.now plan.functions.now c.args.arity plan.forms.now plan.fewer c.args.at c.args.progress.now c.head.new.progress node found c.in_ok-head.head head
-    last [] parts c.push-2.new.self c.in_ok-operands.ensures.ok listed (c.in_ok-push-2.ensures ∙ ap (λ h. last.nodes ++ node_of h parts ∷ []) (sym c.in_ok-head.ensures.slots))
+    c.operands.new.progress [] c.push.new.self.items c.in_ok-operands.ensures.ok (c.in_ok-push.ensures.items ∙ ap (λ h. c.operands.new.progress.heads.items ++ h ∷ []) (sym c.in_ok-head.ensures.slots))
 
 pub operands-of-part-items-requires : goal.operands-of-part-items-requires
 operands-of-part-items-requires t c = parts-there c.args.self.now.forms.now c.args.self.now.parts c.args.at c.args.self.now.laid (slice_get_within c.args.self.now.forms.now c.args.at c.requires.other.0 c.requires.other.1)
@@ -126,9 +138,6 @@ operands-returns-clause-ok t c =
     so-far-all plan.bytes.now plan.functions.now c.args.arity plan.forms.now plan.fewer c.args.at c.args.progress.now c.loop-part.progress [] parts c.loop-part.part-index listed
     (omega (arith, c.loop-part-test.false, c.loop-part.auto.part-index-end)) c.loop-part.invariant.far
 
-pub block-of-requires : goal.block-of-requires
-block-of-requires t c = parts-there c.args.self.now.forms.now c.args.self.now.parts c.args.at c.args.self.now.laid (slice_get_within c.args.self.now.forms.now c.args.at c.requires.block.0 c.requires.block.1)
-
 pub block-returns-in_err-slots-clause-fault : goal.block-returns-in_err-slots-clause-fault
 block-returns-in_err-slots-clause-fault t c =
     let p = err_from_is_err_and c.from_residual.result c.from_residual.ensures.1 in
@@ -146,10 +155,8 @@ block-returns-clause-ok t c =
     let head = block-met plan.bytes.now plan.functions.now c.args.arity plan.forms.now plan.fewer old block.0 c.args.names.now block.2 in
     let last = c.block_parts.new.progress in
     let slots = c.in_ok-slots.slots.items in
-    let parts = c.of.result.now in
-    let listed : slice_get (part_lists 0 [] plan.forms.now) c.args.at ≡ Some parts = ap (λ l. slice_get l c.args.at) (sym plan.laid) ∙ c.of.ensures in
     form-made plan.bytes.now plan.functions.now c.args.arity plan.forms.now plan.fewer c.args.at old old block.0 block.1 (code.Block []) head
-    last slots parts c.push.new.self c.in_ok-slots.ensures.ok listed (c.in_ok-push.ensures ∙ ap (λ s. last.nodes ++ node_of (code.Block s) parts ∷ []) (c.in_ok-new.ensures ∙ sym (reverse-reverse slots)))
+    last slots c.push.new.self.items c.in_ok-slots.ensures.ok (c.in_ok-push.ensures.items ∙ ap (λ s. last.heads.items ++ code.Block s ∷ []) (c.in_ok-new.ensures ∙ sym (reverse-reverse slots)))
 
 pub block_parts-of-part-items-requires : goal.block_parts-of-part-items-requires
 block_parts-of-part-items-requires t c = parts-there c.args.self.now.forms.now c.args.self.now.parts c.args.at c.args.self.now.laid (slice_get_within c.args.self.now.forms.now c.args.at c.requires.block.0 c.requires.block.1)

@@ -14,6 +14,6 @@ returns-clause-ok c =
     let e = c.all-params.ensures in
     let made = subst (λ ps. IsFormMade plan.bytes.now plan.functions.now (length ps) plan.forms.now (f.forms_end - 1) begun new) e c.in_ok-form.ensures.ok in
     subst (λ m. IsFunctionMade plan.bytes.now plan.functions.now plan.forms.now f old new m) (sym c.new.ensures)
-    (function-made plan.bytes.now plan.functions.now plan.forms.now f old begun (c.in_ok-begin.ensures.seen ∙ ap (λ ps. params_seen 0 ps []) e) c.in_ok-begin.ensures.lets c.in_ok-begin.ensures.nodes c.in_ok-begin.ensures.texts
+    (function-made plan.bytes.now plan.functions.now plan.forms.now f old begun (c.in_ok-begin.ensures.seen ∙ ap (λ ps. params_seen 0 ps []) e) c.in_ok-begin.ensures.lets c.in_ok-begin.ensures.heads c.in_ok-begin.ensures.texts
     new c.in_ok-takes.takes.items c.in_ok-gives.gives (length c.all-params.result.now + new.lets) (f.forms_end - 1) made
     (c.in_ok-takes.ensures.types ∙ ap (map (λ x. x.ty)) e) c.in_ok-gives.ensures.ty (ap (λ ps. length ps + new.lets) e) refl)

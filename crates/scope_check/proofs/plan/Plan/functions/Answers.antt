@@ -7,7 +7,7 @@ use Rattle.scope_check.proofs.plan.Plan.functions.Goals as goal
 pub loop-function-init : goal.loop-function-init
 loop-function-init c =
     let plan = c.args.self.now in
-    functions-none plan.bytes.now plan.functions.now plan.forms.now c.args.progress.now c.new-functions.result.items c.requires.nodes c.requires.none c.new-functions.ensures.items
+    functions-none plan.bytes.now plan.functions.now plan.forms.now c.args.progress.now c.new-functions.result.items c.requires.none_made c.requires.none c.new-functions.ensures.items
 
 pub returns-in_err-function-clause-fault : goal.returns-in_err-function-clause-fault
 returns-in_err-function-clause-fault c =

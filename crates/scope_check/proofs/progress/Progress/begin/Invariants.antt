@@ -8,6 +8,6 @@ abbrev pub invariant-loop-i : goal.invariant-loop-i
 invariant-loop-i l = record {
   seen : params_seen 0 l.params [] ≡ params_seen l.i (drop l.i l.params) (reverse l.self.seen.items);
   lets : l.self.lets ≡ 0;
-  nodes : l.self.nodes ≡ l.initial.self.nodes;
+  heads : l.self.heads.items ≡ l.initial.self.heads.items;
   texts : texts_of l.self ≡ texts_of l.initial.self;
 }

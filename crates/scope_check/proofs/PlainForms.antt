@@ -1,0 +1,215 @@
+-- Where stretches begin, and the forms in them.
+use Rattle.std.proofs.Common.{◌≡◌, inl, inr, ◌⊎◌, ℕ, zero, suc, ◌+◌, ◌-◌, ◌<◌, ◌≤◌, ◌^◌, Bool, List, [], ◌∷◌, ◌++◌, length, take, drop, get_or, slice_get, Some, refl, sym, ap, subst, ◌∙◌, arith, length-append}
+use Rattle.std.specs.Prelude.{Ok, true, false, reverse, if◌then◌else◌}
+use Rattle.std.specs.List.{AllByRecursion, slice_range}
+use Rattle.std.proofs.lemmas.List.{take-append-le}
+use Rattle.std.proofs.Math.Seq.{drop-append_seam, take-length}
+use Rattle.std.proofs.lemmas.Option.{slice_get-get_or}
+use Rattle.stab_code.specs.declared.head.Head.{Head as Code}
+use Rattle.stab_code.specs.Stored.{nodes_in}
+use Rattle.stab_code.proofs.Lists.{slice_get-right}
+use Rattle.stab_parse.specs.declared.tree.FormNode.{FormNode}
+use Rattle.stab_parse.specs.declared.tree.Function.{Function}
+use Rattle.stab_parse.specs.Forms.{Form}
+use Rattle.stab_parse.specs.FormList.{nodes_of}
+use Rattle.scope_check.specs.declared.fault.ScopeFault.{ScopeFault}
+use Rattle.scope_check.specs.declared.progress.Progress.{Progress}
+use Rattle.scope_check.specs.Made.{IsFormFault, IsFormMade, nodes_now, scoped_now}
+use Rattle.scope_check.specs.Places.{IsAt, part_lists}
+use Rattle.scope_check.specs.Progress.{IsFaultOf, met_of, seen_of}
+use Rattle.scope_check.specs.Scope.{Met, head_met}
+use Rattle.scope_check.specs.Stretches.{ArePlain, IsStretchFault, IsStretchMade, heads_met, plain, plain_from, stretch}
+use Rattle.scope_check.proofs.Added.{length-nodes_in}
+use Rattle.scope_check.proofs.Places.{at-within, length-part_lists, some-size}
+use Rattle.scope_check.proofs.Sizes.{length-nodes_of}
+use Rattle.scope_check.proofs.Stretched.{Agrees, form-agrees, heads-fault, heads-length, heads-next}
+
+-- ---- where stretches begin
+
+step-low : (b : Bool) (r first n : ℕ) → r ≤ first → r ≤ n → r ≤ (if b then first else n + 1)
+step-low true r first n h k = h
+step-low false r first n h k = omega arith
+
+low : (n first r : ℕ) (forms : List FormNode) (at s : ℕ) → r ≤ first → r ≤ n → slice_get (plain_from n first forms) at ≡ Some s → r ≤ s
+low n first r [] at s h k found = absurd cc
+low n first r (f ∷ forms) zero s h k found =
+    let same : (if plain f then first else n + 1) ≡ s = cc in
+    subst (λ m. r ≤ m) same (step-low (plain f) r first n h k)
+low n first r (f ∷ forms) (suc at) s h k found =
+    low (n + 1) (if plain f then first else n + 1) r forms at s (step-low (plain f) r first n h k) (omega arith) found
+
+-- a form that isn't plain stands before all that follow it
+not-plain : (b : Bool) (n first : ℕ) (forms : List FormNode) (at s : ℕ) → slice_get ((if b then first else n + 1) ∷ plain_from (n + 1) (if b then first else n + 1) forms) at ≡ Some s → s ≤ n → b ≡ true
+not-plain true n first forms at s found h = refl
+not-plain false n first forms zero s found h = let same : n + 1 ≡ s = cc in absurd (omega arith)
+not-plain false n first forms (suc at) s found h =
+    let l = low (n + 1) (n + 1) (n + 1) forms at s (omega arith) (omega arith) found in absurd (omega arith)
+
+plain-behind : (n first : ℕ) (forms : List FormNode) (at s i : ℕ) (g : FormNode) → slice_get (plain_from n first forms) at ≡ Some s → s ≤ n + i → i ≤ at → slice_get forms i ≡ Some g → plain g ≡ true
+plain-behind n first [] at s i g found h k there = absurd cc
+plain-behind n first (f ∷ forms) at s zero g found h k there =
+    let same : f ≡ g = cc in
+    subst (λ x. plain x ≡ true) same (not-plain (plain f) n first forms at s found (omega arith))
+plain-behind n first (f ∷ forms) zero s (suc i) g found h k there = absurd (omega arith)
+plain-behind n first (f ∷ forms) (suc at) s (suc i) g found h k there =
+    plain-behind (n + 1) (if plain f then first else n + 1) forms at s i g found (omega arith) (omega arith) there
+
+plain-stretch : (forms : List FormNode) (numbers : List ℕ) (at s first : ℕ) → numbers ≡ plain_from 0 0 forms → slice_get numbers at ≡ Some s → s ≤ first → ArePlain forms first at
+plain-stretch forms numbers at s first e found h i g low_enough k there =
+    plain-behind 0 0 forms at s i g (ap (λ l. slice_get l at) (sym e) ∙ found) (omega arith) k there
+
+pub plain-there : (forms : List FormNode) (numbers : List ℕ) (at own first d : ℕ) → numbers ≡ plain_from 0 0 forms → at < length numbers → own ≡ get_or numbers at d → own ≤ first → ArePlain forms first at
+plain-there forms numbers at own first d e inside own_is h = plain-stretch forms numbers at own first e (slice_get-get_or numbers at d inside ∙ ap Some (sym own_is)) h
+
+pub length-plain_from : (n first : ℕ) (forms : List FormNode) → length (plain_from n first forms) ≡ length forms
+length-plain_from n first [] = refl
+length-plain_from n first (f ∷ forms) = ap suc (length-plain_from (n + 1) (if plain f then first else n + 1) forms)
+
+-- ---- the forms in a form are a stretch
+
+all-found : {X : Type 0} (P : X → Type 0) (xs : List X) → ((i : ℕ) (x : X) → slice_get xs i ≡ Some x → P x) → AllByRecursion P xs
+all-found P [] h = tt
+all-found P (x ∷ xs) h = (h 0 x refl, all-found P xs (λ i y found. h (suc i) y found))
+
+found-within : {X : Type 0} (xs ys : List X) (i : ℕ) (x : X) → slice_get xs i ≡ Some x → slice_get (xs ++ ys) i ≡ Some x
+found-within [] ys i x found = absurd cc
+found-within (y ∷ xs) ys zero x found = found
+found-within (y ∷ xs) ys (suc i) x found = found-within xs ys i x found
+
+found-before : {X : Type 0} (xs : List X) (i : ℕ) (x : X) → slice_get xs i ≡ Some x → i < length xs
+found-before [] i x found = absurd cc
+found-before (y ∷ xs) zero x found = omega arith
+found-before (y ∷ xs) (suc i) x found = omega (arith, found-before xs i x found)
+
+module _ (forms : List FormNode) (first at : ℕ) (f : Form) (is : IsAt forms first at f) where
+  forms-range : slice_range forms first (at + 1) ≡ nodes_of f
+  forms-range =
+      let own_is = is.own_is in
+      let count : (at + 1) - first ≡ length (nodes_of f) = omega (arith, length-nodes_of f) in
+      ap (take ((at + 1) - first)) (ap (λ l. drop first l) is.forms_are ∙ ap (λ n. drop n (is.before ++ (nodes_of f ++ is.after))) (sym is.first_is) ∙ drop-append_seam is.before (nodes_of f ++ is.after))
+      ∙ ap (λ n. take n (nodes_of f ++ is.after)) count ∙ take-append-le (length (nodes_of f)) (nodes_of f) is.after (omega arith) ∙ take-length (nodes_of f)
+
+  all-plain : ArePlain forms first at → AllByRecursion (λ g. plain g ≡ true) (nodes_of f)
+  all-plain are = all-found (λ g. plain g ≡ true) (nodes_of f) (λ i g found.
+      let first_is = is.first_is in
+      let own_is = is.own_is in
+      let inside = found-before (nodes_of f) i g found in
+      are (first + i) g (omega arith) (omega (arith, inside, length-nodes_of f))
+      (ap (λ l. slice_get l (first + i)) is.forms_are ∙ slice_get-right is.before (nodes_of f ++ is.after) (first + i) i (omega arith) ∙ found-within (nodes_of f) is.after i g found))
+
+-- ---- one form more in a stretch
+
+take-next : {X : Type 0} (xs : List X) (i : ℕ) (x : X) → slice_get xs i ≡ Some x → take (suc i) xs ≡ take i xs ++ x ∷ []
+take-next [] i x found = absurd cc
+take-next (y ∷ xs) zero x found = let same : y ≡ x = cc in ap (λ z. z ∷ []) same
+take-next (y ∷ xs) (suc i) x found = ap (λ l. y ∷ l) (take-next xs i x found)
+
+same-count : (first i end : ℕ) → end ≤ i → (i ≤ end) ⊎ (i ≡ first) → i - first ≡ end - first
+same-count first i end h to = elim to [ inl l ↦ omega arith | inr e ↦ omega arith ]
+
+-- at the end it is all of it
+pub range-end : {X : Type 0} (xs : List X) (first i end : ℕ) → end ≤ i → (i ≤ end) ⊎ (i ≡ first) → slice_range xs first i ≡ slice_range xs first end
+range-end xs first i end h to = ap (λ n. take n (drop first xs)) (same-count first i end h to)
+
+-- it is what stands before one of its forms, the form, and others
+pub record IsParted {X : Type 0} (xs : List X) (first i end : ℕ) (x : X) : Type 0 where
+  pub rest : List X
+  pub range_is : slice_range xs first end ≡ slice_range xs first i ++ (x ∷ rest)
+
+take-parted : {X : Type 0} (xs : List X) (i n : ℕ) (x : X) → i < n → slice_get xs i ≡ Some x → (rest : List X) × (take n xs ≡ take i xs ++ (x ∷ rest))
+take-parted [] i n x h found = absurd cc
+take-parted (y ∷ xs) i zero x h found = absurd (omega arith)
+take-parted (y ∷ xs) zero (suc n) x h found = let same : y ≡ x = cc in (take n xs, ap (λ z. z ∷ take n xs) same)
+take-parted (y ∷ xs) (suc i) (suc n) x h found =
+    let next = take-parted xs i n x (omega arith) found in
+    (next.0, ap (λ l. y ∷ l) next.1)
+
+found-behind : {X : Type 0} (xs : List X) (first i : ℕ) (x : X) → first ≤ i → slice_get xs i ≡ Some x → slice_get (drop first xs) (i - first) ≡ Some x
+found-behind xs zero i x h found = ap (slice_get xs) (omega arith) ∙ found
+found-behind [] (suc first) i x h found = absurd cc
+found-behind (y ∷ xs) (suc first) zero x h found = absurd (omega arith)
+found-behind (y ∷ xs) (suc first) (suc i) x h found = ap (slice_get (drop first xs)) (omega arith) ∙ found-behind xs first i x (omega arith) found
+
+pub range-next : {X : Type 0} (xs : List X) (first i : ℕ) (x : X) → first ≤ i → slice_get xs i ≡ Some x → slice_range xs first (i + 1) ≡ slice_range xs first i ++ x ∷ []
+range-next xs first i x h found =
+    let count : (i + 1) - first ≡ suc (i - first) = omega arith in
+    ap (λ n. take n (drop first xs)) count ∙ take-next (drop first xs) (i - first) x (found-behind xs first i x h found)
+
+pub range-parted : {X : Type 0} (xs : List X) (first i end : ℕ) (x : X) → first ≤ i → i < end → slice_get xs i ≡ Some x → IsParted xs first i end x
+range-parted xs first i end x h k found =
+    let p = take-parted (drop first xs) (i - first) (end - first) x (omega arith) (found-behind xs first i x h found) in
+    record { rest = p.0; range_is = p.1 }
+
+-- ---- what a stretch makes is what the definition gives
+
+module _ (bytes : List ℕ) (fs : List Function) (arity : ℕ) (forms : List FormNode) (small : length forms < 2 ^ 32) (at : ℕ) (old : Progress) (are : ArePlain forms (length old.heads.items) at) where
+  -- as many heads as nodes, where a form stands behind them
+  heads-there : (f : Form) → IsAt forms (length (nodes_now forms old)) at f → length (nodes_now forms old) ≡ length old.heads.items
+  heads-there f is =
+      let own_is = is.own_is in
+      omega (arith, length-nodes_in old.heads.items (part_lists 0 [] forms), length-part_lists 0 [] forms, at-within forms (length (nodes_now forms old)) at f is, some-size f)
+
+  place-is : (f : Form) → IsAt forms (length (nodes_now forms old)) at f → IsAt forms (length old.heads.items) at f
+  place-is f is = subst (λ n. IsAt forms n at f) (heads-there f is) is
+
+  agrees : (f : Form) (is : IsAt forms (length (nodes_now forms old)) at f)
+      → Agrees bytes fs arity (seen_of old) forms small old.heads.items f (heads_met bytes fs (seen_of old) (met_of old) (stretch bytes fs forms at old)) (scoped_now bytes fs arity forms at old f)
+  agrees f is =
+      let there = place-is f is in
+      subst (λ l. Agrees bytes fs arity (seen_of old) forms small old.heads.items f (heads_met bytes fs (seen_of old) (met_of old) l) (scoped_now bytes fs arity forms at old f))
+      (sym (forms-range forms (length old.heads.items) at f there))
+      (form-agrees bytes fs arity (seen_of old) forms small old.heads.items f (met_of old) (length (nodes_now forms old)) at refl is (all-plain forms (length old.heads.items) at f there are))
+
+  whole-now : (new : Progress) → IsStretchMade bytes fs forms at old new → (f : Form) → IsAt forms (length (nodes_now forms old)) at f → length (nodes_now forms new) ≡ length new.heads.items
+  whole-now new made f is =
+      let there = place-is f is in
+      let count = heads-length bytes fs (seen_of old) (met_of old) (stretch bytes fs forms at old) (made.0, met_of new) made.1 in
+      omega (
+        arith,
+        count,
+        ap length made.2,
+        length-append old.heads.items made.0,
+        ap length (forms-range forms (length old.heads.items) at f there),
+        length-nodes_of f,
+        at-within forms (length old.heads.items) at f there,
+        length-nodes_in new.heads.items (part_lists 0 [] forms),
+        length-part_lists 0 [] forms,
+      )
+
+  pub stretch-made : (new : Progress) → IsStretchMade bytes fs forms at old new → IsFormMade bytes fs arity forms at old new
+  stretch-made new made f is =
+      let agree = subst (λ r. Agrees bytes fs arity (seen_of old) forms small old.heads.items f r (scoped_now bytes fs arity forms at old f)) made.1 (agrees f is) in (
+        agree.0,
+        agree.1,
+        (ap (λ l. nodes_in l (part_lists 0 [] forms)) made.2 ∙ agree.2.0, agree.2.1),
+        whole-now new made f is,
+      )
+
+  pub stretch-fault : (fault : ScopeFault) → IsStretchFault bytes fs forms at old fault → IsFormFault bytes fs arity forms at old fault
+  stretch-fault fault h f is =
+      elim h [
+        | inl memory ↦ inl memory
+        | inr e ↦ inr (subst (λ r. Agrees bytes fs arity (seen_of old) forms small old.heads.items f r (scoped_now bytes fs arity forms at old f)) e (agrees f is))
+      ]
+
+-- ---- one head more
+
+module _ (bytes : List ℕ) (fs : List Function) (forms : List FormNode) (at : ℕ) (old now : Progress) (i : ℕ) (made : List Code) (f : FormNode) (found : slice_get forms i ≡ Some f) (from : length old.heads.items ≤ i)
+    (far : heads_met bytes fs (seen_of old) (met_of old) (slice_range forms (length old.heads.items) i) ≡ Ok (made, met_of now)) (seen : now.seen.items ≡ old.seen.items) where
+  head-same : head_met bytes fs (seen_of old) (met_of now) f.head f.parts ≡ head_met bytes fs (seen_of now) (met_of now) f.head f.parts
+  head-same = ap (λ s. head_met bytes fs (reverse s) (met_of now) f.head f.parts) (sym seen)
+
+  pub stretch-next : (own : Code) (met : Met) → head_met bytes fs (seen_of now) (met_of now) f.head f.parts ≡ Ok (own, met)
+      → heads_met bytes fs (seen_of old) (met_of old) (slice_range forms (length old.heads.items) (i + 1)) ≡ Ok (made ++ own ∷ [], met)
+  stretch-next own met e =
+      ap (heads_met bytes fs (seen_of old) (met_of old)) (range-next forms (length old.heads.items) i f from found)
+      ∙ heads-next bytes fs (seen_of old) (met_of old) (slice_range forms (length old.heads.items) i) f made (met_of now) met own far (head-same ∙ e)
+
+  pub stretch-breaks : (fault : ScopeFault) → i < at + 1 → IsFaultOf (head_met bytes fs (seen_of now) (met_of now) f.head f.parts) fault → IsStretchFault bytes fs forms at old fault
+  stretch-breaks fault h broken =
+      let p = range-parted forms (length old.heads.items) i (at + 1) f from h found in
+      elim broken [
+        | inl memory ↦ inl memory
+        | inr e ↦ inr (ap (heads_met bytes fs (seen_of old) (met_of old)) p.range_is
+            ∙ heads-fault bytes fs (seen_of old) (met_of old) (slice_range forms (length old.heads.items) i) f p.rest made (met_of now) fault far (head-same ∙ e))
+      ]

@@ -1,0 +1,62 @@
+//! Stretches of forms that are gone through in the order of the list.
+ghost use Rattle.std.specs.Prelude.{◌≡◌, ◌<◌, ◌^◌, length, IfOk, IfErr, OnOk};
+ghost use Rattle.scope_check.specs.Progress.{HaveTexts};
+ghost use Rattle.scope_check.specs.Stretches.{ArePlain, IsStretchFault, IsStretchMade, plain, plain_from as plain_numbers};
+
+use crate::fault::ScopeFault;
+use crate::plan::Plan;
+use crate::progress::Progress;
+use stab_parse::{FormNode, Head};
+use std::alloc::Global;
+
+/// Whether the nodes of a form's parts may be made before it is known what the form itself is: it is no block, no call, and
+/// nothing that may be refused behind its parts.
+fn is_plain(form: &FormNode) -> bool
+    ensures { result ≡ plain form.now }
+{
+    match &form.head {
+        Head::Text(_) => form.parts == 0,
+        Head::Variable(_) => form.parts == 0,
+        Head::Block(_) => false,
+        Head::Call(_) => false,
+        Head::Start(_, _) => false,
+        _ => true,
+    }
+}
+
+/// For each form the least number from which on all forms up to it are plain, which is the one behind it where it isn't
+/// plain itself.
+pub(crate) fn plain_from(alloc: Global, forms: &[FormNode]) -> Result<Vec<u32>, ScopeFault>
+    requires { length forms.now < 2 ^ 32 }
+    ensures numbers { IfOk result (λ numbers. numbers.items ≡ plain_numbers 0 0 forms.now) }
+    ensures fault { IfErr result (λ fault. fault ≡ ScopeFault.NoMemory) }
+{
+    let mut numbers = Vec::with_capacity(alloc, forms.len())?;
+    let mut first = 0;
+    for (i, form) in forms.iter().enumerate() {
+        if !is_plain(form) {
+            first = i as u32 + 1;
+        }
+        numbers.push(first)?;
+    }
+    Ok(numbers)
+}
+
+impl<'a> Plan<'a> {
+    /// Makes the nodes of the forms up to one and with it, behind those that were made. All of them are plain.
+    #[inline(never)]
+    pub(crate) fn stretch(&self, progress: &mut Progress, at: usize) -> Result<(), ScopeFault>
+        requires texts { HaveTexts self.now.bytes.now self.now.forms.now }
+        requires there { at < length self.now.forms.now }
+        requires plain { ArePlain self.now.forms.now (length progress.old.heads.items) at }
+        ensures ok { OnOk result (IsStretchMade self.now.bytes.now self.now.functions.now self.now.forms.now at progress.old progress.new) }
+        ensures seen { OnOk result (progress.new.seen.items ≡ progress.old.seen.items) }
+        ensures fault { IfErr result (IsStretchFault self.now.bytes.now self.now.functions.now self.now.forms.now at progress.old) }
+    {
+        for i in progress.heads.len()..at + 1 {
+            let head = self.head(progress, &self.forms[i])?;
+            progress.heads.push(head)?;
+        }
+        Ok(())
+    }
+}
