@@ -66,7 +66,7 @@ pub record IsOpenWithin (tokens : List Token) (p : Program) : Type 0 where
   pub written : IsProgram tokens p
   pub within : AllByRecursion IsWithin (pieces_of p)
 
--- All tokens are a program in which a form is too deep, and this is the least first byte of the deepest that are just too deep.
+-- The tokens are a program, and none opens more than may be open. This is the least first byte of those of its forms that are just too deep.
 pub record IsTooDeep (tokens : List Token) (at : ℕ) : Type 0 where
   pub program : Program
   pub is_program : IsOpenWithin tokens program

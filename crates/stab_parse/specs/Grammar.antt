@@ -1,5 +1,8 @@
 -- The grammar. Each rule is a type, each way of writing it a constructor, with the spans of the tokens that it writes. A `{ .. }` of a rule
 -- is a list that grows at its end, so chains of operators group to the left.
+-- The rules are those of docs/language.md, and their order and names differ from it in this: a rule stands before its use, so types and
+-- parameters come first, and functions and the program last; `type` is `WrittenType`, since `Type` is a word of antt's own; `unary` is in
+-- two, `Unary` and `Other`, and a number stands there and not in `primary`; and calls with `spawn` and `stable` stand beside other calls.
 use Rattle.std.specs.Prelude.{◌≡◌, ℕ, suc, Bool, List, [], ◌∷◌, map}
 use Rattle.stab_code.specs.declared.head.Op.{Op}
 use Rattle.stab_lex.specs.declared.token.Token.{Token}

@@ -36,10 +36,11 @@ use Rattle.stab_parse.specs.FormList.{max_depth}
 use Rattle.stab_parse.specs.Frames.{top_of, below_top, open_in}
 use Rattle.stab_parse.specs.Symbols.{symbol_of, span_of}
 
--- the depth above that of the parts, and that of one, two and three parts
+-- one more than the depth of the parts, as far as a byte counts
 abbrev pub deeper : ℕ → ℕ
 deeper d = min (suc d) 255
 
+-- the depth of one part, and that of two
 abbrev pub alone : ℕ → ℕ
 alone a = max 0 a
 
@@ -264,9 +265,9 @@ block_in (Then at d) s r = outcome (Goes (phase.ThenRead at (both d s.depth))) r
 block_in (Else at d) s r = settled_outcome (settle_if at (max d s.depth) r)
 
 -- the names of the items of a block that has items
-abbrev pub lets_of : List (Option Span) → Option (List (Option Span))
-lets_of [] = None
-lets_of (x ∷ xs) = Some (x ∷ xs)
+abbrev pub names_if_any : List (Option Span) → Option (List (Option Span))
+names_if_any [] = None
+names_if_any (x ∷ xs) = Some (x ∷ xs)
 
 -- a block ends with a last form
 abbrev pub block_done : ℕ → List (Option Span) → ℕ → ℕ → BlockPlace → Seen → Reader → Outcome

@@ -1,9 +1,9 @@
 //! What a token does where a form may begin, and behind the first token of a form.
-ghost use Rattle.std.specs.Prelude.{◌≡◌, ◌<◌, ◌≤◌, ◌^◌, [], neg_ℤ, pos, IfOk};
+ghost use Rattle.std.specs.Prelude.{◌≡◌, ◌<◌, ◌^◌, [], neg_ℤ, pos, IfOk};
 ghost use Rattle.stab_parse.specs.Moves.{Opens, begins, call_open, complete, did, else_read, in_items, is_close_brace, is_close_paren, is_else, is_let, is_open_paren, let_named, let_read, named, negative_of, opened, outcome, pushed, settled_outcome, signed, then_read};
 ghost use Rattle.stab_parse.specs.Symbols.{IsSmall};
 
-use crate::frame::{BlockPlace, Callee, Frame, Phase, Seen};
+use crate::frame::{BlockPlace, Callee, Frame, Phase};
 use crate::parser::{Admission, Parser};
 use crate::symbol::{Span, Symbol};
 use crate::tree::{Head, ItemNames};

@@ -1,5 +1,5 @@
 //! What is owed while a program is read: a frame for each thing that stands round the place.
-ghost use Rattle.std.specs.Prelude.{◌≡◌, ◌++◌, ◌∷◌, [], OnOk};
+ghost use Rattle.std.specs.Prelude.{◌≡◌, ◌∷◌, [], OnOk};
 ghost use Rattle.std.specs.Option.{option_copied};
 ghost use Rattle.stab_parse.specs.Frames.{open_by, open_in, top_of, below_top};
 

@@ -5,7 +5,7 @@ ghost use Rattle.std.specs.Option.{option_copied};
 ghost use Rattle.stab_parse.specs.Takes.{is_operator, left_of, taken, taker_of, takes_if, takes_right};
 ghost use Rattle.stab_parse.specs.Moves.{alone, both, complete, deeper, else_frame, else_top, formed, if_step, join_top, joined, least_with, more, noted, popped, seen_at, settle, settle_if, settle_step, settle_top, settled};
 
-use crate::frame::{Frame, Left, Level, Phase, Seen, Stack, Taker};
+use crate::frame::{Frame, Left, Level, Seen, Stack, Taker};
 use crate::tree::{FormNode, Forms, Functions, Head};
 use stab_code::Op;
 use std::alloc::AllocError;
@@ -131,6 +131,7 @@ fn takes_if(top: Option<&Frame>) -> bool
 }
 
 impl Reader {
+    /// The place of a form that is just too deep is noted.
     #[inline(never)]
     fn note_too_deep(&mut self, at: u32)
         ensures { self.new ≡ record self.old { too_deep = least_with self.old.too_deep at } }

@@ -2,7 +2,7 @@
 ghost use Rattle.stab_code.specs.Written.{chan_type, ref_type, pair_type};
 ghost use Rattle.stab_code.specs.WrittenType.{written_by};
 ghost use Rattle.std.specs.Prelude.{◌≡◌, IfOk, ◌++◌, ◌∷◌, [], length, reverse, OnOk, IsTrue, ◌↔◌};
-ghost use Rattle.stab_parse.specs.Moves.{lets_of};
+ghost use Rattle.stab_parse.specs.Moves.{names_if_any};
 
 use crate::symbol::{ActWord, CallWord, Span};
 use stab_code::{Op, TyForm};
@@ -54,9 +54,8 @@ pub struct ItemNames {
 }
 
 impl Model for ItemNames {
-    ghost use Rattle.std.specs.Prelude.{◌≡◌, List, Option, Some};
+    ghost use Rattle.std.specs.Prelude.{◌≡◌, [], List, Option, Some};
     ghost use Rattle.stab_parse.specs.declared.symbol.Span.{Span};
-    ghost use Rattle.std.specs.Prelude.{[]};
     ghost use Rattle.std.specs.Option.{option_map_or};
 
     ghost Value = { List (Option Span) };
@@ -93,7 +92,7 @@ impl ItemNames {
 
     /// The names, where there are items.
     pub(crate) fn into_lets(self) -> Option<Lets>
-        ensures { result ≡ lets_of self }
+        ensures { result ≡ names_if_any self }
     {
         let ItemNames { lets } = self;
         lets
