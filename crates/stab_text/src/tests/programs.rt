@@ -108,10 +108,8 @@ fn keeps_lists_of_parts(rt: HostRuntime) -> Result<(), Fail> {
 
 #[test]
 fn says_how_many_parts_are_values_first(rt: HostRuntime) -> Result<(), Fail> {
-    let mut slots = Slots::from_slice(rt.alloc(), &[None, Some(1)])?;
+    let slots = Slots::from_slice(rt.alloc(), &[None, Some(1)])?;
     assert_eq!(rt; slots.all(), [None, Some(1)].as_slice());
-    slots.set(vec![in rt.alloc(); Some(0), None]?);
-    assert_eq!(rt; slots.all(), [Some(0), None].as_slice());
     let table = [
         (Head::Block(slots), 3, 1),
         (Head::If, 3, 1),
