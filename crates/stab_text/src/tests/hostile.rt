@@ -1,16 +1,16 @@
 //! Texts that nest as far as their length lets them, and long ones.
 
-use super::read::{fault_of, parsed};
+use super::read::{answer, fault_of, parsed};
 use stab_lex::{Kind, Token, lex};
 use stab_parse::{ParseFault, parse};
 use std::alloc::{AllocError, Global};
 use std::test::Fail;
 
 /// The 18 bytes before what stands in `main`.
-const MAIN: &str = "fn main(): unit { ";
+pub(super) const MAIN: &str = "fn main(): unit { ";
 
-// A text that has one piece many times in a row.
-fn repeated(
+/// A text that has one piece many times in a row.
+pub(super) fn repeated(
     alloc: Global,
     before: &str,
     piece: &str,
@@ -49,8 +49,8 @@ fn without_end(rt: HostRuntime) -> Result<(), Fail> {
     Ok(())
 }
 
-// What stands in `main` in brackets of a kind, so many times.
-fn nested(
+/// What stands in `main` in brackets of a kind, so many times.
+pub(super) fn nested(
     alloc: Global,
     opening: &str,
     within: &str,
@@ -152,8 +152,8 @@ fn long_programs(rt: HostRuntime) -> Result<(), Fail> {
     Ok(())
 }
 
-// Tokens that no text of 1,048,576 bytes has: `fn main(): unit {` and so many `if`.
-fn many_ifs(alloc: Global, times: u32) -> Result<Vec<Token>, Fail> {
+/// Tokens that no text of 1,048,576 bytes has: `fn main(): unit {` and so many `if`.
+pub(super) fn many_ifs(alloc: Global, times: u32) -> Result<Vec<Token>, Fail> {
     let mut tokens = lex(alloc, MAIN.as_bytes())?;
     for i in 0..times {
         tokens.push(Token {
@@ -173,22 +173,57 @@ fn a_million_ifs(rt: HostRuntime) -> Result<(), Fail> {
     Ok(())
 }
 
-const CASCADE: &str = "\
-fn a(c: chan[int], k: chan[int]): unit { send(c, 5); recv(k); if probe() < 0 { stabilize() } else { () } }\n\
-fn b(c: chan[int], r: ref[int]): unit { set(r, recv(c)) }\n\
-fn c(r: ref[int], k: chan[int]): unit { let v = get(r); if v == 0 { c(r, k) } else { send(k, v) } }\n\
-fn d(): unit { print(4) }\n\
-fn main(): unit { let m = chan[int](); let k = chan[int](); let r = ref(0); spawn b(m, r); spawn c(r, k); spawn d(); \
-stable a(m, k); print(get(r)) }\n";
+#[test]
+fn a_million_nines(rt: HostRuntime) -> Result<(), Fail> {
+    let alloc = rt.alloc();
+    let main = "fn main(): unit { print(";
+    let text = repeated(alloc, main, "9", 1_000_000, ") }")?;
+    let found = answer(&rt, alloc, text.as_bytes())?;
+    assert_eq!(rt; found.as_str(), "BigNumber 24");
+    Ok(())
+}
 
-// A part of a program from its start is one where it ends with a line, and nowhere else.
+const SUM: &str = "fn main(): unit { print(1 + 2) }";
+
+// A byte that no text in UTF-8 has, in the place of each byte of a program.
+#[test]
+fn no_text_from_each_place(rt: HostRuntime) -> Result<(), Fail> {
+    let alloc = rt.alloc();
+    for place in 0..SUM.len() {
+        let mut text = SUM.as_bytes().to_vec(alloc)?;
+        text[place] = 255;
+        let found = answer(&rt, alloc, &text)?;
+        let expected = format!(in alloc; "NotUtf8 {place}")?;
+        assert_eq!(rt; found.as_str(), expected.as_str());
+    }
+    Ok(())
+}
+
+const CASCADE: &str = "\
+fn a(c: chan[int], k: chan[int]): unit { send(c, 5); recv(k); if probe() < 0 { stabilize() } else { () } } \
+fn b(c: chan[int], r: ref[int]): unit { set(r, recv(c)) } \
+fn c(r: ref[int], k: chan[int]): unit { let v = get(r); if v == 0 { c(r, k) } else { send(k, v) } } \
+fn d(): unit { print(4) } \
+fn main(): unit { let m = chan[int](); let k = chan[int](); let r = ref(0); spawn b(m, r); spawn c(r, k); spawn d(); \
+stable a(m, k); print(get(r)) }";
+
+// No part of a program from its start is one. It has no `main` where it ends with a function, and else the syntax of none.
 #[test]
 fn parts_of_a_program(rt: HostRuntime) -> Result<(), Fail> {
+    let alloc = rt.alloc();
     for end in 0..CASCADE.len() {
         let (part, rest) = CASCADE.split_at_checked(end).ok_or("no character")?;
-        let whole = part.is_empty() || part.ends_with('\n') || rest.starts_with('\n');
-        let fault = fault_of(&rt, rt.alloc(), part.as_bytes());
-        assert_eq!(rt; fault.is_none(), whole, "{end}");
+        let between = rest.starts_with("fn ") || rest.starts_with(" fn ");
+        let found = answer(&rt, alloc, part.as_bytes())?;
+        let fault = found.as_str();
+        let unfinished = fault == "EarlyEnd" || fault.starts_with("Unexpected ");
+        assert_eq!(rt;
+            (fault == "NoMain", unfinished),
+            (between, !between),
+            "{end} {fault}"
+        );
     }
+    let whole = answer(&rt, alloc, CASCADE.as_bytes())?;
+    assert_eq!(rt; whole.as_str(), "program");
     Ok(())
 }

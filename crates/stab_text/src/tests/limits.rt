@@ -29,7 +29,7 @@ fn main(): unit { stable main(1); x } -> Arity 25
 fn faults(rt: HostRuntime) -> Result<(), Fail> {
     for row in FAULTS.lines() {
         let (text, fault) = row.split_once(" -> ").ok_or("no arrow")?;
-        let found = answer(&rt, rt.alloc(), text)?;
+        let found = answer(&rt, rt.alloc(), text.as_bytes())?;
         assert_eq!(rt; found.as_str(), fault, "{row}");
     }
     Ok(())
@@ -75,7 +75,7 @@ fn as_many_as_there_may_be(rt: HostRuntime) -> Result<(), Fail> {
 }
 
 fn expect_answer(rt: &impl Abort, alloc: Global, text: String, expected: &str) -> Result<(), Fail> {
-    let found = answer(rt, alloc, text.as_str())?;
+    let found = answer(rt, alloc, text.as_bytes())?;
     assert_eq!(rt; found.as_str(), expected);
     Ok(())
 }

@@ -29,9 +29,9 @@ pub(super) fn program_of(rt: &impl Abort, alloc: Global, text: &str) -> Result<P
 }
 
 /// The fault of a text, as a reason writes it, or `program`.
-pub(super) fn answer(rt: &impl Abort, alloc: Global, text: &str) -> Result<String, AllocError> {
+pub(super) fn answer(rt: &impl Abort, alloc: Global, text: &[u8]) -> Result<String, AllocError> {
     assert!(rt; text.len() <= 1_048_576);
-    let Err(fault) = read_program(alloc, text.as_bytes()) else {
+    let Err(fault) = read_program(alloc, text) else {
         return String::from_str(alloc, "program");
     };
     let mut line = String::from_str(alloc, fault.name())?;
