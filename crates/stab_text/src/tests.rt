@@ -5,3 +5,4 @@ mod nodes;
 mod productions;
 mod programs;
 mod read;
+mod small_stack;
