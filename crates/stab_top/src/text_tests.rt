@@ -63,6 +63,29 @@ fn faults_of_long_texts(rt: HostRuntime) -> Result<(), Fail> {
     answers(&rt, alloc, "check p", &text, "0 ok functions 1 texts 0/")
 }
 
+// What `run` answers of a text that has one piece many times in a row.
+fn long_text_runs<R: Threads + Wait + Sync>(
+    rt: &R,
+    alloc: Global,
+    (front, piece, end): (&str, &str, &str),
+    count: u32,
+    expected: &str,
+) -> Result<(), Fail> {
+    let (front, piece, end) = (front.as_bytes(), piece.as_bytes(), end.as_bytes());
+    let text = repeated(alloc, front, piece, count, end)?;
+    answers(rt, alloc, "run p", &text, expected)
+}
+
+#[test]
+fn long_programs_run(rt: HostRuntime) -> Result<(), Fail> {
+    let alloc = rt.alloc();
+    let ifs = ("fn main(): unit { if true {}", " else if true {}", " }");
+    long_text_runs(&rt, alloc, ifs, 198, "0 ended 1 faulted 0 waiting 0/")?;
+    let zeros = ("fn main(): unit { print(", "0", "7) }");
+    let seven = "0 7/ended 1 faulted 0 waiting 0/";
+    long_text_runs(&rt, alloc, zeros, 1_000_000, seven)
+}
+
 #[test]
 fn check_and_size(rt: HostRuntime) -> Result<(), Fail> {
     let alloc = rt.alloc();
