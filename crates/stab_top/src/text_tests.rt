@@ -107,6 +107,10 @@ fn check_and_size(rt: HostRuntime) -> Result<(), Fail> {
 const TRY_READ: &[u8] =
     b"fn try_read(): int { let p = probe(); if p < 0 { stabilize() } else { p } } fn main(): unit { stable try_read(); }";
 
+const REQUEST: &[u8] =
+    b"fn server(c: chan[(int, chan[int])]): unit { let q = recv(c); send(snd(q), fst(q) * 2) } \
+    fn main(): unit { let c = chan[(int, chan[int])](); let r = chan[int](); spawn server(c); send(c, (21, r)); print(recv(r)) }";
+
 #[test]
 fn checks(rt: HostRuntime) -> Result<(), Fail> {
     let alloc = rt.alloc();
@@ -117,6 +121,7 @@ fn checks(rt: HostRuntime) -> Result<(), Fail> {
         let trial = Trial::new(&rt, alloc, words, TRY_READ, [&[], &[failing]])?;
         is_answer(alloc, words, trial.answer.as_str(), expected)?;
     }
+    answers(&rt, alloc, "check p", REQUEST, "0 ok functions 2 texts 0/")?;
     let texts = b"fn f(): text { \"a\" } fn main(): unit { print(\"b\"); print(\"a\") }";
     answers(&rt, alloc, "check p", texts, "0 ok functions 2 texts 2/")
 }
