@@ -43,7 +43,7 @@ whole_added heads lists head parts at e found =
 
 -- ---- trees behind others
 
-abbrev more_one : Tree → Trees
+abbrev pub more_one : Tree → Trees
 more_one t = more t none
 
 own-same : (n : ℕ) (t : Tree) (f : Form) → tree_size t ≡ size_of f → own_node n t ≡ own_number n f

@@ -6,7 +6,7 @@ use Rattle.stab_code.specs.Layout.{nodes_of as tree_nodes, nodes_of_all, own_nod
 use Rattle.stab_code.specs.Nodes.{id}
 use Rattle.stab_code.specs.Program.{FunctionParts, function_of}
 use Rattle.stab_code.specs.Stored.{nodes_in}
-use Rattle.stab_code.specs.Trees.{Tree, Trees, none, more}
+use Rattle.stab_code.specs.Trees.{Tree}
 use Rattle.stab_code.specs.Written.{Written}
 use Rattle.stab_code.proofs.LaidOut.{length-nodes_of_all, own_node-last}
 use Rattle.stab_code.proofs.Lists.{slice_get-right}
@@ -23,6 +23,7 @@ use Rattle.scope_check.specs.Places.{IsAt, part_lists}
 use Rattle.scope_check.specs.Progress.{IsFaultOf, met_of, seen_of, texts_of}
 use Rattle.scope_check.specs.Scope.{Defined, Met, after, form_scoped, function_defined, function_scoped, functions_scoped, in_order}
 use Rattle.scope_check.specs.Seen.{params_seen}
+use Rattle.scope_check.proofs.Added.{more_one}
 use Rattle.scope_check.proofs.Joined.{in_order-join, nodes-join, size-join}
 use Rattle.scope_check.proofs.Places.{some-size}
 use Rattle.scope_check.proofs.Sizes.{length-nodes_of}
@@ -125,9 +126,6 @@ module _ (bytes : List ℕ) (fs : List Function) (forms : List FormNode) where
   functions-none now made heads texts e no_functions rest is_fs is_forms n =
       record { defined = record { functions = []; trees = []; texts = [] }; scoped = refl; functions = e; whole = ap (λ l. length (nodes_in l (part_lists 0 [] forms))) heads ∙ ap length (sym heads); nodes = ap (λ l. nodes_in l (part_lists 0 [] forms)) heads; texts = texts; size = refl }
   functions-none now made heads texts e (next_function p r) rest is_fs is_forms n = absurd (omega (arith, one-more-function p r))
-
-  abbrev more_one : Tree → Trees
-  more_one t = more t none
 
   zero-first : (n : ℕ) → n ≡ 0 + n
   zero-first n = omega arith

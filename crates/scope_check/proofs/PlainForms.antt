@@ -1,13 +1,13 @@
 -- Where stretches begin, and the forms in them.
-use Rattle.std.proofs.Common.{◌≡◌, inl, inr, ◌⊎◌, ℕ, zero, suc, ◌+◌, ◌-◌, ◌<◌, ◌≤◌, ◌^◌, Bool, List, [], ◌∷◌, ◌++◌, length, take, drop, get_or, slice_get, Some, refl, sym, ap, subst, ◌∙◌, arith, length-append}
+use Rattle.std.proofs.Common.{◌≡◌, inl, inr, ℕ, zero, suc, ◌+◌, ◌-◌, ◌<◌, ◌≤◌, ◌^◌, Bool, List, [], ◌∷◌, ◌++◌, length, take, drop, get_or, slice_get, Some, refl, sym, ap, subst, ◌∙◌, arith, length-append}
 use Rattle.std.specs.Prelude.{Ok, true, false, reverse, if◌then◌else◌}
 use Rattle.std.specs.List.{AllByRecursion, slice_range}
 use Rattle.std.proofs.lemmas.List.{take-append-le}
 use Rattle.std.proofs.Math.Seq.{drop-append_seam, take-length}
-use Rattle.std.proofs.lemmas.Option.{slice_get-get_or}
+use Rattle.std.proofs.lemmas.Option.{slice_get-get_or, slice_get_within}
 use Rattle.stab_code.specs.declared.head.Head.{Head as Code}
 use Rattle.stab_code.specs.Stored.{nodes_in}
-use Rattle.stab_code.proofs.Lists.{slice_get-right}
+use Rattle.stab_code.proofs.Lists.{slice_get-left, slice_get-right}
 use Rattle.stab_parse.specs.declared.tree.FormNode.{FormNode}
 use Rattle.stab_parse.specs.declared.tree.Function.{Function}
 use Rattle.stab_parse.specs.Forms.{Form}
@@ -58,28 +58,20 @@ plain-stretch : (forms : List FormNode) (numbers : List ℕ) (at s first : ℕ) 
 plain-stretch forms numbers at s first e found h i g low_enough k there =
     plain-behind 0 0 forms at s i g (ap (λ l. slice_get l at) (sym e) ∙ found) (omega arith) k there
 
-pub plain-there : (forms : List FormNode) (numbers : List ℕ) (at own first d : ℕ) → numbers ≡ plain_from 0 0 forms → at < length numbers → own ≡ get_or numbers at d → own ≤ first → ArePlain forms first at
-plain-there forms numbers at own first d e inside own_is h = plain-stretch forms numbers at own first e (slice_get-get_or numbers at d inside ∙ ap Some (sym own_is)) h
-
 pub length-plain_from : (n first : ℕ) (forms : List FormNode) → length (plain_from n first forms) ≡ length forms
 length-plain_from n first [] = refl
 length-plain_from n first (f ∷ forms) = ap suc (length-plain_from (n + 1) (if plain f then first else n + 1) forms)
+
+pub plain-there : (forms : List FormNode) (numbers : List ℕ) (at own first d : ℕ) → numbers ≡ plain_from 0 0 forms → at < length forms → own ≡ get_or numbers at d → own ≤ first → ArePlain forms first at
+plain-there forms numbers at own first d e there own_is h =
+    let inside : at < length numbers = omega (arith, there, ap length e, length-plain_from 0 0 forms) in
+    plain-stretch forms numbers at own first e (slice_get-get_or numbers at d inside ∙ ap Some (sym own_is)) h
 
 -- ---- the forms in a form are a stretch
 
 all-found : {X : Type 0} (P : X → Type 0) (xs : List X) → ((i : ℕ) (x : X) → slice_get xs i ≡ Some x → P x) → AllByRecursion P xs
 all-found P [] h = tt
 all-found P (x ∷ xs) h = (h 0 x refl, all-found P xs (λ i y found. h (suc i) y found))
-
-found-within : {X : Type 0} (xs ys : List X) (i : ℕ) (x : X) → slice_get xs i ≡ Some x → slice_get (xs ++ ys) i ≡ Some x
-found-within [] ys i x found = absurd cc
-found-within (y ∷ xs) ys zero x found = found
-found-within (y ∷ xs) ys (suc i) x found = found-within xs ys i x found
-
-found-before : {X : Type 0} (xs : List X) (i : ℕ) (x : X) → slice_get xs i ≡ Some x → i < length xs
-found-before [] i x found = absurd cc
-found-before (y ∷ xs) zero x found = omega arith
-found-before (y ∷ xs) (suc i) x found = omega (arith, found-before xs i x found)
 
 module _ (forms : List FormNode) (first at : ℕ) (f : Form) (is : IsAt forms first at f) where
   forms-range : slice_range forms first (at + 1) ≡ nodes_of f
@@ -93,23 +85,16 @@ module _ (forms : List FormNode) (first at : ℕ) (f : Form) (is : IsAt forms fi
   all-plain are = all-found (λ g. plain g ≡ true) (nodes_of f) (λ i g found.
       let first_is = is.first_is in
       let own_is = is.own_is in
-      let inside = found-before (nodes_of f) i g found in
+      let inside = slice_get_within (nodes_of f) i g found in
       are (first + i) g (omega arith) (omega (arith, inside, length-nodes_of f))
-      (ap (λ l. slice_get l (first + i)) is.forms_are ∙ slice_get-right is.before (nodes_of f ++ is.after) (first + i) i (omega arith) ∙ found-within (nodes_of f) is.after i g found))
+      (ap (λ l. slice_get l (first + i)) is.forms_are ∙ slice_get-right is.before (nodes_of f ++ is.after) (first + i) i (omega arith) ∙ slice_get-left (nodes_of f) is.after i inside ∙ found))
 
 -- ---- one form more in a stretch
 
-take-next : {X : Type 0} (xs : List X) (i : ℕ) (x : X) → slice_get xs i ≡ Some x → take (suc i) xs ≡ take i xs ++ x ∷ []
-take-next [] i x found = absurd cc
-take-next (y ∷ xs) zero x found = let same : y ≡ x = cc in ap (λ z. z ∷ []) same
-take-next (y ∷ xs) (suc i) x found = ap (λ l. y ∷ l) (take-next xs i x found)
-
-same-count : (first i end : ℕ) → end ≤ i → (i ≤ end) ⊎ (i ≡ first) → i - first ≡ end - first
-same-count first i end h to = elim to [ inl l ↦ omega arith | inr e ↦ omega arith ]
-
--- at the end it is all of it
-pub range-end : {X : Type 0} (xs : List X) (first i end : ℕ) → end ≤ i → (i ≤ end) ⊎ (i ≡ first) → slice_range xs first i ≡ slice_range xs first end
-range-end xs first i end h to = ap (λ n. take n (drop first xs)) (same-count first i end h to)
+take-found : {X : Type 0} (xs : List X) (i : ℕ) (x : X) → slice_get xs i ≡ Some x → take (suc i) xs ≡ take i xs ++ x ∷ []
+take-found [] i x found = absurd cc
+take-found (y ∷ xs) zero x found = let same : y ≡ x = cc in ap (λ z. z ∷ []) same
+take-found (y ∷ xs) (suc i) x found = ap (λ l. y ∷ l) (take-found xs i x found)
 
 -- it is what stands before one of its forms, the form, and others
 pub record IsParted {X : Type 0} (xs : List X) (first i end : ℕ) (x : X) : Type 0 where
@@ -133,7 +118,7 @@ found-behind (y ∷ xs) (suc first) (suc i) x h found = ap (slice_get (drop firs
 pub range-next : {X : Type 0} (xs : List X) (first i : ℕ) (x : X) → first ≤ i → slice_get xs i ≡ Some x → slice_range xs first (i + 1) ≡ slice_range xs first i ++ x ∷ []
 range-next xs first i x h found =
     let count : (i + 1) - first ≡ suc (i - first) = omega arith in
-    ap (λ n. take n (drop first xs)) count ∙ take-next (drop first xs) (i - first) x (found-behind xs first i x h found)
+    ap (λ n. take n (drop first xs)) count ∙ take-found (drop first xs) (i - first) x (found-behind xs first i x h found)
 
 pub range-parted : {X : Type 0} (xs : List X) (first i end : ℕ) (x : X) → first ≤ i → i < end → slice_get xs i ≡ Some x → IsParted xs first i end x
 range-parted xs first i end x h k found =
@@ -153,17 +138,17 @@ module _ (bytes : List ℕ) (fs : List Function) (arity : ℕ) (forms : List For
   place-is f is = subst (λ n. IsAt forms n at f) (heads-there f is) is
 
   agrees : (f : Form) (is : IsAt forms (length (nodes_now forms old)) at f)
-      → Agrees bytes fs arity (seen_of old) forms small old.heads.items f (heads_met bytes fs (seen_of old) (met_of old) (stretch bytes fs forms at old)) (scoped_now bytes fs arity forms at old f)
+      → Agrees bytes fs arity (seen_of old) forms small old.heads.items f (heads_met bytes fs (seen_of old) (met_of old) (stretch forms (at + 1) old)) (scoped_now bytes fs arity forms at old f)
   agrees f is =
       let there = place-is f is in
       subst (λ l. Agrees bytes fs arity (seen_of old) forms small old.heads.items f (heads_met bytes fs (seen_of old) (met_of old) l) (scoped_now bytes fs arity forms at old f))
       (sym (forms-range forms (length old.heads.items) at f there))
       (form-agrees bytes fs arity (seen_of old) forms small old.heads.items f (met_of old) (length (nodes_now forms old)) at refl is (all-plain forms (length old.heads.items) at f there are))
 
-  whole-now : (new : Progress) → IsStretchMade bytes fs forms at old new → (f : Form) → IsAt forms (length (nodes_now forms old)) at f → length (nodes_now forms new) ≡ length new.heads.items
+  whole-now : (new : Progress) → IsStretchMade bytes fs forms (at + 1) old new → (f : Form) → IsAt forms (length (nodes_now forms old)) at f → length (nodes_now forms new) ≡ length new.heads.items
   whole-now new made f is =
       let there = place-is f is in
-      let count = heads-length bytes fs (seen_of old) (met_of old) (stretch bytes fs forms at old) (made.0, met_of new) made.1 in
+      let count = heads-length bytes fs (seen_of old) (met_of old) (stretch forms (at + 1) old) (made.0, met_of new) made.1 in
       omega (
         arith,
         count,
@@ -176,7 +161,7 @@ module _ (bytes : List ℕ) (fs : List Function) (arity : ℕ) (forms : List For
         length-part_lists 0 [] forms,
       )
 
-  pub stretch-made : (new : Progress) → IsStretchMade bytes fs forms at old new → IsFormMade bytes fs arity forms at old new
+  pub stretch-made : (new : Progress) → IsStretchMade bytes fs forms (at + 1) old new → IsFormMade bytes fs arity forms at old new
   stretch-made new made f is =
       let agree = subst (λ r. Agrees bytes fs arity (seen_of old) forms small old.heads.items f r (scoped_now bytes fs arity forms at old f)) made.1 (agrees f is) in (
         agree.0,
@@ -185,7 +170,7 @@ module _ (bytes : List ℕ) (fs : List Function) (arity : ℕ) (forms : List For
         whole-now new made f is,
       )
 
-  pub stretch-fault : (fault : ScopeFault) → IsStretchFault bytes fs forms at old fault → IsFormFault bytes fs arity forms at old fault
+  pub stretch-fault : (fault : ScopeFault) → IsStretchFault bytes fs forms (at + 1) old fault → IsFormFault bytes fs arity forms at old fault
   stretch-fault fault h f is =
       elim h [
         | inl memory ↦ inl memory
@@ -205,7 +190,7 @@ module _ (bytes : List ℕ) (fs : List Function) (forms : List FormNode) (at : �
       ap (heads_met bytes fs (seen_of old) (met_of old)) (range-next forms (length old.heads.items) i f from found)
       ∙ heads-next bytes fs (seen_of old) (met_of old) (slice_range forms (length old.heads.items) i) f made (met_of now) met own far (head-same ∙ e)
 
-  pub stretch-breaks : (fault : ScopeFault) → i < at + 1 → IsFaultOf (head_met bytes fs (seen_of now) (met_of now) f.head f.parts) fault → IsStretchFault bytes fs forms at old fault
+  pub stretch-breaks : (fault : ScopeFault) → i < at + 1 → IsFaultOf (head_met bytes fs (seen_of now) (met_of now) f.head f.parts) fault → IsStretchFault bytes fs forms (at + 1) old fault
   stretch-breaks fault h broken =
       let p = range-parted forms (length old.heads.items) i (at + 1) f from h found in
       elim broken [

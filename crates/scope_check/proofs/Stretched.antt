@@ -1,6 +1,6 @@
 -- Forms that are gone through in the order of the list, and the definition of a form.
 use Rattle.std.proofs.Common.{◌≡◌, ◌⊎◌, inl, inr, ℕ, suc, ◌+◌, ◌<◌, ◌^◌, ◌==◌, List, [], ◌∷◌, ◌++◌, length, slice_get, Some, refl, sym, ap, subst, ◌∙◌, arith, append_assoc, append-nil}
-use Rattle.std.specs.Prelude.{Result, Ok, Err, None, true}
+use Rattle.std.specs.Prelude.{false, Result, Ok, Err, None, true}
 use Rattle.std.specs.List.{AllByRecursion}
 use Rattle.std.proofs.lemmas.Bool.{true≢false}
 use Rattle.std.proofs.lemmas.Bool.Decides.{eqb_tells}
@@ -10,8 +10,6 @@ use Rattle.stab_code.specs.declared.node_id.NodeId.{NodeId}
 use Rattle.stab_code.specs.Stored.{nodes_in}
 use Rattle.stab_code.specs.Nodes.{NodeParts}
 use Rattle.stab_code.specs.Trees.{Tree, tree, none}
-use Rattle.stab_parse.specs.declared.symbol.ActWord.{ActWord}
-use Rattle.stab_parse.specs.declared.symbol.ActWord.TheVariants as word
 use Rattle.stab_parse.specs.declared.tree.FormNode.{FormNode}
 use Rattle.stab_parse.specs.declared.tree.Function.{Function}
 use Rattle.stab_parse.specs.declared.tree.Head.{Head}
@@ -21,15 +19,15 @@ use Rattle.stab_parse.specs.FormList.{count_of, nodes_of, nodes_of_parts}
 use Rattle.stab_parse.specs.Moves.{node_of as form_node}
 use Rattle.scope_check.specs.declared.fault.ScopeFault.{ScopeFault}
 use Rattle.scope_check.specs.declared.seen.Variable.{Variable}
-use Rattle.scope_check.specs.Forms.{act_of, items_of, number_of}
+use Rattle.scope_check.specs.Forms.{act_of, is_block, items_of, number_of}
 use Rattle.scope_check.specs.Made.{Adds, AddsParts}
 use Rattle.scope_check.specs.Placed.{size_of_parts}
 use Rattle.scope_check.specs.Places.{IsAt, own_number, own_numbers, part_lists}
-use Rattle.scope_check.specs.Names.{slot_of, text_at}
-use Rattle.scope_check.specs.Scope.{Behind, Met, after, behind, form_scoped, head_met, in_order, part_met, parts_scoped, slot_found, text_numbered, with_slots}
+use Rattle.scope_check.specs.Scope.{Behind, Met, after, behind, form_scoped, head_met, in_order, part_met, parts_scoped, with_slots}
 use Rattle.scope_check.specs.Stretches.{heads_met, plain, plain_head}
+use Rattle.scope_check.proofs.Made.{no-items, no-slots}
 use Rattle.scope_check.proofs.Added.{added-count, adds-next, adds-whole, node_added}
-use Rattle.scope_check.proofs.Places.{at-within, followed, part-at, parts-at}
+use Rattle.scope_check.proofs.Places.{followed, part-at, parts-at}
 
 -- ---- one step after another
 
@@ -45,9 +43,6 @@ behind_these own rest = after rest (λ r. Ok (own ++ r.0, r.1))
 
 abbrev with_last : Code → Listed → Listed
 with_last c first = after first (λ p. Ok (p.0 ++ c ∷ [], p.1))
-
-abbrev met_head : Code → Met → Result (Code × Met) ScopeFault
-met_head c met = Ok (c, met)
 
 none-before : (m : Listed) → m ≡ behind_these [] m
 none-before (Ok b) = refl
@@ -87,68 +82,23 @@ silent bytes fs (kind.Start word name) k e = absurd (true≢false (sym e))
 silent bytes fs (kind.NewChan ty) k e = inr (code.NewChan ty, λ seen met n. refl)
 silent bytes fs (kind.Act word) k e = inr (act_of word, λ seen met n. refl)
 
-act-slots : (w : ActWord) → with_slots [] (act_of w) ≡ act_of w
-act-slots word.Ref = refl
-act-slots word.Get = refl
-act-slots word.Recv = refl
-act-slots word.Print = refl
-act-slots word.Fst = refl
-act-slots word.Snd = refl
-act-slots word.Set = refl
-act-slots word.Send = refl
-act-slots word.Pick = refl
-act-slots word.Stabilize = refl
-act-slots word.Cut = refl
-act-slots word.Probe = refl
-act-slots word.Pin = refl
-act-slots word.Attempt = refl
-
-abbrev head_of : Result (Code × Met) ScopeFault → Code
-head_of (Ok own) = own.0
-head_of (Err fault) = code.Unit
-
-slots-same : (d c : Code) (met m : Met) → with_slots [] d ≡ d → met_head d met ≡ met_head c m → with_slots [] c ≡ c
-slots-same d c met m e same = subst (λ x. with_slots [] x ≡ x) (ap head_of same) e
-
-slots-behind : {A : Type 0} (r : Result A ScopeFault) (d : A → Code) (met : A → Met) (c : Code) (m : Met) → ((a : A) → with_slots [] (d a) ≡ d a) → after r (λ a. met_head (d a) (met a)) ≡ met_head c m → with_slots [] c ≡ c
-slots-behind (Ok a) d met c m free same = slots-same (d a) c (met a) m (free a) same
-slots-behind (Err fault) d met c m free same = absurd cc
-
--- a plain head has no slots
-no-slots : (bytes : List ℕ) (fs : List Function) (h : Head) (k : ℕ) (seen : List Variable) (met : Met) (c : Code) (m : Met) → plain_head h k ≡ true → head_met bytes fs seen met h k ≡ Ok (c, m) → with_slots [] c ≡ c
-no-slots bytes fs kind.Unit k seen met c m e is = slots-same code.Unit c met m refl is
-no-slots bytes fs (kind.Truth b) k seen met c m e is = slots-same (code.Truth b) c met m refl is
-no-slots bytes fs (kind.Int v) k seen met c m e is = slots-same (code.Int v) c met m refl is
-no-slots bytes fs (kind.Text span) k seen met c m e is =
-    slots-behind (text_numbered span (text_at bytes span) met.texts) (λ text. code.Text (record { 0 = text.0 })) (λ text. record met { texts = text.1 }) c m (λ text. refl) is
-no-slots bytes fs (kind.Variable name) k seen met c m e is = slots-behind (slot_found name (slot_of bytes seen name)) (λ slot. code.Var slot) (λ slot. met) c m (λ slot. refl) is
-no-slots bytes fs (kind.Block names) k seen met c m e is = absurd (true≢false (sym e))
-no-slots bytes fs kind.If k seen met c m e is = slots-same code.If c met m refl is
-no-slots bytes fs (kind.Two op) k seen met c m e is = slots-same (code.Two op) c met m refl is
-no-slots bytes fs kind.Not k seen met c m e is = slots-same code.Not c met m refl is
-no-slots bytes fs kind.Neg k seen met c m e is = slots-same code.Neg c met m refl is
-no-slots bytes fs kind.Pair k seen met c m e is = slots-same code.Pair c met m refl is
-no-slots bytes fs (kind.Call name) k seen met c m e is = absurd (true≢false (sym e))
-no-slots bytes fs (kind.Start w name) k seen met c m e is = absurd (true≢false (sym e))
-no-slots bytes fs (kind.NewChan ty) k seen met c m e is = slots-same (code.NewChan ty) c met m refl is
-no-slots bytes fs (kind.Act w) k seen met c m e is = slots-same (act_of w) c met m (act-slots w) is
-
-plain-items : (h : Head) (k : ℕ) → plain_head h k ≡ true → items_of h ≡ []
-plain-items kind.Unit k e = refl
-plain-items (kind.Truth b) k e = refl
-plain-items (kind.Int v) k e = refl
-plain-items (kind.Text span) k e = refl
-plain-items (kind.Variable name) k e = refl
-plain-items (kind.Block names) k e = absurd (true≢false (sym e))
-plain-items kind.If k e = refl
-plain-items (kind.Two op) k e = refl
-plain-items kind.Not k e = refl
-plain-items kind.Neg k e = refl
-plain-items kind.Pair k e = refl
-plain-items (kind.Call name) k e = refl
-plain-items (kind.Start word name) k e = refl
-plain-items (kind.NewChan ty) k e = refl
-plain-items (kind.Act word) k e = refl
+-- and it is no block
+plain-other : (h : Head) (k : ℕ) → plain_head h k ≡ true → is_block h ≡ false
+plain-other kind.Unit k e = refl
+plain-other (kind.Truth b) k e = refl
+plain-other (kind.Int v) k e = refl
+plain-other (kind.Text span) k e = refl
+plain-other (kind.Variable name) k e = refl
+plain-other (kind.Block names) k e = absurd (true≢false (sym e))
+plain-other kind.If k e = refl
+plain-other (kind.Two op) k e = refl
+plain-other kind.Not k e = refl
+plain-other kind.Neg k e = refl
+plain-other kind.Pair k e = refl
+plain-other (kind.Call name) k e = refl
+plain-other (kind.Start w name) k e = refl
+plain-other (kind.NewChan ty) k e = refl
+plain-other (kind.Act w) k e = refl
 
 all-parted : {X : Type 0} (P : X → Type 0) (xs ys : List X) → AllByRecursion P (xs ++ ys) → AllByRecursion P xs × AllByRecursion P ys
 all-parted P [] ys all = (tt, all)
@@ -220,8 +170,8 @@ module _ (bytes : List ℕ) (fs : List Function) (arity : ℕ) (seen : List Vari
   AgreeParts heads ps (Ok own) scoped = (trees : List Tree) × (scoped ≡ Ok (behind trees seen [] own.1)) × AddsParts (nodes_in heads lists) (nodes_in (heads ++ own.0) lists) ps trees
   AgreeParts heads ps (Err fault) scoped = scoped ≡ Err fault
 
-  abbrev parts_now : Met → Parts → Result Behind ScopeFault
-  parts_now met ps = parts_scoped bytes fs arity [] (behind [] seen [] met) ps
+  abbrev parts_behind : Met → Parts → Result Behind ScopeFault
+  parts_behind met ps = parts_scoped bytes fs arity [] (behind [] seen [] met) ps
 
   abbrev behind_part : Behind → Form → Result Behind ScopeFault
   behind_part a f = part_met arity None a (λ met. form_scoped bytes fs arity a.seen met f)
@@ -229,7 +179,7 @@ module _ (bytes : List ℕ) (fs : List Function) (arity : ℕ) (seen : List Vari
   none-added : (heads : List Code) → AddsParts (nodes_in heads lists) (nodes_in (heads ++ []) lists) no_parts []
   none-added heads = record { nodes = ap (λ l. nodes_in l lists) (append-nil heads) ∙ sym (append-nil (nodes_in heads lists)); own = refl; size = refl }
 
-  no-part : (heads : List Code) (met : Met) → AgreeParts heads no_parts (Ok ([], met)) (parts_now met no_parts)
+  no-part : (heads : List Code) (met : Met) → AgreeParts heads no_parts (Ok ([], met)) (parts_behind met no_parts)
   no-part heads met = ([], refl, none-added heads)
 
   -- a part behind others
@@ -244,9 +194,9 @@ module _ (bytes : List ℕ) (fs : List Function) (arity : ℕ) (seen : List Vari
         adds-next (nodes_in heads lists) (nodes_in (heads ++ a.0) lists) (nodes_in (heads ++ (a.0 ++ b.0)) lists) ps f trees h.0 adds last,
       )
 
-  parts-more : (heads : List Code) (ps : Parts) (f : Form) (met : Met) (a : Listed) → AgreeParts heads ps a (parts_now met ps)
+  parts-more : (heads : List Code) (ps : Parts) (f : Form) (met : Met) (a : Listed) → AgreeParts heads ps a (parts_behind met ps)
       → ((own : List Code × Met) (trees : List Tree) → AddsParts (nodes_in heads lists) (nodes_in (heads ++ own.0) lists) ps trees → Agrees (heads ++ own.0) f (heads_met bytes fs seen own.1 (nodes_of f)) (form_scoped bytes fs arity seen own.1 f))
-      → AgreeParts heads (next_part ps f) (joined bytes fs seen a (nodes_of f)) (parts_now met (next_part ps f))
+      → AgreeParts heads (next_part ps f) (joined bytes fs seen a (nodes_of f)) (parts_behind met (next_part ps f))
   parts-more heads ps f met (Err fault) h next = ap (λ r. after r (λ b. behind_part b f)) h
   parts-more heads ps f met (Ok own) h next =
       subst (AgreeParts heads (next_part ps f) (joined bytes fs seen (Ok own) (nodes_of f))) (sym (ap (λ r. after r (λ b. behind_part b f)) h.1))
@@ -265,18 +215,18 @@ module _ (bytes : List ℕ) (fs : List Function) (arity : ℕ) (seen : List Vari
 
   -- ---- form in form
 
-  leaf-agrees : (heads : List Code) (at place : ℕ) (h : Head) (met : Met) → length (nodes_in heads lists) < 2 ^ 32 → IsAt forms (length (nodes_in heads lists)) at (form place h no_parts) → plain_head h 0 ≡ true
+  leaf-agrees : (heads : List Code) (at place : ℕ) (h : Head) (met : Met) → IsAt forms (length (nodes_in heads lists)) at (form place h no_parts) → plain_head h 0 ≡ true
       → (own : Result (Code × Met) ScopeFault) → head_met bytes fs seen met h 0 ≡ own
       → Agrees heads (form place h no_parts) (after own (λ o. before_all o.0 (Ok ([], o.1)))) (after own (λ o. Ok (tree (with_slots [] o.0) none, o.1)))
-  leaf-agrees heads at place h met few is e (Err fault) m = refl
-  leaf-agrees heads at place h met few is e (Ok own) m =
-      let same = no-slots bytes fs h 0 seen met own.0 own.1 e m in
+  leaf-agrees heads at place h met is e (Err fault) m = refl
+  leaf-agrees heads at place h met is e (Ok own) m =
+      let same = no-slots bytes fs h 0 seen met own.0 own.1 (plain-other h 0 e) m in
       let whole = whole-form (length (nodes_in heads lists)) at place h heads no_parts [] [] own.0 refl is (none-added heads) in
       (tree own.0 none, ap (λ c. Ok (tree c none, own.1)) same, whole)
 
   silent-agrees : (heads : List Code) (n at place : ℕ) (h : Head) (ps : Parts) (met : Met) (c : Code) → length (nodes_in heads lists) ≡ n → IsAt forms n at (form place h ps) → with_slots [] c ≡ c
-      → (a : Listed) → AgreeParts heads ps a (parts_now met ps)
-      → Agrees heads (form place h ps) (with_last c a) (after (parts_now met ps) (λ b. Ok (tree (with_slots b.slots c) (in_order b.trees), b.met)))
+      → (a : Listed) → AgreeParts heads ps a (parts_behind met ps)
+      → Agrees heads (form place h ps) (with_last c a) (after (parts_behind met ps) (λ b. Ok (tree (with_slots b.slots c) (in_order b.trees), b.met)))
   silent-agrees heads n at place h ps met c count is same (Err fault) agree = ap (λ r. after r (λ b. Ok (tree (with_slots b.slots c) (in_order b.trees), b.met))) agree
   silent-agrees heads n at place h ps met c count is same (Ok own) agree = (
     tree c (in_order agree.0),
@@ -300,12 +250,12 @@ module _ (bytes : List ℕ) (fs : List Function) (arity : ℕ) (seen : List Vari
           | inl none_there ↦ form-leaf heads place h ps met n at count is none_there own-plain
           | inr s ↦
               let c = s.0 in
-              let same = no-slots bytes fs h k seen met c met own-plain (s.1 seen met k) in
+              let same = no-slots bytes fs h k seen met c met (plain-other h k own-plain) (s.1 seen met k) in
               let agree = silent-agrees heads n at place h ps met c count is same (heads_met bytes fs seen met (nodes_of_parts ps)) (parts-agree heads ps [] met n at place h count is parted.0) in
               let listed = heads-append bytes fs seen met (nodes_of_parts ps) (form_node h k ∷ []) ∙ silent-last (heads_met bytes fs seen met (nodes_of_parts ps)) h k c (λ m. s.1 seen m k) in
-              let scoped : form_scoped bytes fs arity seen met (form place h ps) ≡ after (parts_now met ps) (λ b. Ok (tree (with_slots b.slots c) (in_order b.trees), b.met)) =
+              let scoped : form_scoped bytes fs arity seen met (form place h ps) ≡ after (parts_behind met ps) (λ b. Ok (tree (with_slots b.slots c) (in_order b.trees), b.met)) =
               ap (λ r. after r (λ own. after (parts_scoped bytes fs arity (items_of h) (behind [] seen [] own.1) ps) (λ b. Ok (tree (with_slots b.slots own.0) (in_order b.trees), b.met)))) (s.1 seen met (number_of ps))
-              ∙ ap (λ names. after (parts_scoped bytes fs arity names (behind [] seen [] met) ps) (λ b. Ok (tree (with_slots b.slots c) (in_order b.trees), b.met))) (plain-items h k own-plain) in
+              ∙ ap (λ names. after (parts_scoped bytes fs arity names (behind [] seen [] met) ps) (λ b. Ok (tree (with_slots b.slots c) (in_order b.trees), b.met))) (no-items h (plain-other h k own-plain)) in
               subst (λ r. Agrees heads (form place h ps) r (form_scoped bytes fs arity seen met (form place h ps))) (sym listed)
               (subst (Agrees heads (form place h ps) (with_last c (heads_met bytes fs seen met (nodes_of_parts ps)))) (sym scoped) agree)
         ]
@@ -314,19 +264,18 @@ module _ (bytes : List ℕ) (fs : List Function) (arity : ℕ) (seen : List Vari
         → Agrees heads (form place h ps) (heads_met bytes fs seen met (nodes_of (form place h ps))) (form_scoped bytes fs arity seen met (form place h ps))
     form-leaf heads place h no_parts met n at count is e own-plain =
         let there : IsAt forms (length (nodes_in heads lists)) at (form place h no_parts) = subst (λ m. IsAt forms m at (form place h no_parts)) (sym count) is in
-        let few : length (nodes_in heads lists) < 2 ^ 32 = omega (arith, at-within forms n at (form place h no_parts) is) in
         subst (λ names. Agrees heads (form place h no_parts) (after (head_met bytes fs seen met h 0) (λ o. before_all o.0 (Ok ([], o.1))))
-        (after (head_met bytes fs seen met h 0) (λ own. after (parts_scoped bytes fs arity names (behind [] seen [] own.1) no_parts) (λ b. Ok (tree (with_slots b.slots own.0) (in_order b.trees), b.met))))) (sym (plain-items h 0 own-plain))
-        (leaf-agrees heads at place h met few there own-plain (head_met bytes fs seen met h 0) refl)
+        (after (head_met bytes fs seen met h 0) (λ own. after (parts_scoped bytes fs arity names (behind [] seen [] own.1) no_parts) (λ b. Ok (tree (with_slots b.slots own.0) (in_order b.trees), b.met))))) (sym (no-items h (plain-other h 0 own-plain)))
+        (leaf-agrees heads at place h met there own-plain (head_met bytes fs seen met h 0) refl)
     form-leaf heads place h (next_part ps f) met n at count is e own-plain = absurd (omega (arith, e))
 
     parts-agree : (heads : List Code) (ps : Parts) (rest : List Form) (met : Met) (n at place : ℕ) (h : Head) → length (nodes_in heads lists) ≡ n → IsAt forms n at (form place h (followed ps rest)) → AllByRecursion (λ g. plain g ≡ true) (nodes_of_parts ps)
-        → AgreeParts heads ps (heads_met bytes fs seen met (nodes_of_parts ps)) (parts_now met ps)
+        → AgreeParts heads ps (heads_met bytes fs seen met (nodes_of_parts ps)) (parts_behind met ps)
     parts-agree heads no_parts rest met n at place h count is all = no-part heads met
     parts-agree heads (next_part ps f) rest met n at place h count is all =
         let parted = all-parted (λ g. plain g ≡ true) (nodes_of_parts ps) (nodes_of f) all in
         let before = parts-agree heads ps (f ∷ rest) met n at place h count is parted.0 in
-        subst (λ r. AgreeParts heads (next_part ps f) r (parts_now met (next_part ps f))) (sym (heads-append bytes fs seen met (nodes_of_parts ps) (nodes_of f)))
+        subst (λ r. AgreeParts heads (next_part ps f) r (parts_behind met (next_part ps f))) (sym (heads-append bytes fs seen met (nodes_of_parts ps) (nodes_of f)))
         (parts-more heads ps f met (heads_met bytes fs seen met (nodes_of_parts ps)) before (λ own trees adds.
         let there = parts-count (nodes_in heads lists) (nodes_in (heads ++ own.0) lists) ps trees n adds count in
         form-agrees (heads ++ own.0) f own.1 (n + size_of_parts ps) (own_number (n + size_of_parts ps) f).0 there (part-at forms n at place h ps f rest is) parted.1))

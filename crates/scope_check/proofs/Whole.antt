@@ -10,7 +10,7 @@ use Rattle.stab_parse.specs.FormList.{functions_of}
 use Rattle.stab_parse.specs.Grammar.{Program}
 use Rattle.scope_check.specs.declared.fault.ScopeFault.{ScopeFault}
 use Rattle.scope_check.specs.declared.progress.Progress.{Progress}
-use Rattle.scope_check.specs.Made.{AreFunctionsMade, IsWhole, nodes_now}
+use Rattle.scope_check.specs.Made.{AreFunctionsMade, HaveParts, nodes_now}
 use Rattle.scope_check.specs.Places.{part_lists}
 use Rattle.scope_check.specs.Progress.{texts_of}
 use Rattle.scope_check.specs.Scope.{Defined, after, function_fault, functions_scoped, in_order, main_of, program_scoped, unless}
@@ -43,5 +43,5 @@ module _ (bytes : List ℕ) (p : Program) where
           ∙ ap (λ texts. Ok (program_of made (nodes_now forms new) texts (record { 0 = main }))) (sym are.texts)
 
 -- each head has its list of parts
-pub heads-and-lists : (forms : List FormNode) (new : Progress) (lists : List (List NodeId)) → lists ≡ part_lists 0 [] forms → IsWhole forms new → length (nodes_now forms new) ≡ length forms → length new.heads.items ≡ length lists
+pub heads-and-lists : (forms : List FormNode) (new : Progress) (lists : List (List NodeId)) → lists ≡ part_lists 0 [] forms → HaveParts forms new → length (nodes_now forms new) ≡ length forms → length new.heads.items ≡ length lists
 heads-and-lists forms new lists e whole count = sym whole ∙ count ∙ sym (ap length e ∙ length-part_lists 0 [] forms)

@@ -30,7 +30,7 @@ IsBlock forms at names = (node : FormNode) × (slice_get forms at ≡ Some node)
 abbrev pub IsOther : List FormNode → ℕ → Type 0
 IsOther forms at = (node : FormNode) × (slice_get forms at ≡ Some node) × (is_block node.head ≡ false)
 
--- the nodes are those of the form's tree more
+-- the new nodes are the old ones and those of the form's tree, one for each form in it
 abbrev pub Adds : List NodeParts → List NodeParts → Form → Tree → Type 0
 Adds old new f t = (new ≡ old ++ nodes_of (length old) t) × (tree_size t ≡ size_of f)
 
@@ -40,13 +40,13 @@ pub record AddsParts (old new : List NodeParts) (ps : Parts) (trees : List Tree)
   pub own : own_nodes (length old) (in_order trees) ≡ own_numbers (length old) ps
   pub size : size_of_all (in_order trees) ≡ size_of_parts ps
 
--- the nodes so far: each head that was made, with the parts of the form
+-- the nodes so far: each head that was made, with the parts of its form
 abbrev pub nodes_now : List FormNode → Progress → List NodeParts
 nodes_now forms p = nodes_in p.heads.items (part_lists 0 [] forms)
 
--- each head is one of the nodes
-abbrev pub IsWhole : List FormNode → Progress → Type 0
-IsWhole forms p = length (nodes_now forms p) ≡ length p.heads.items
+-- each head that was made has its list of parts
+abbrev pub HaveParts : List FormNode → Progress → Type 0
+HaveParts forms p = length (nodes_now forms p) ≡ length p.heads.items
 
 module _ (bytes : List ℕ) (fs : List Function) (arity : ℕ) (forms : List FormNode) (at : ℕ) where
   -- the form's definition, in what was made so far
@@ -55,7 +55,7 @@ module _ (bytes : List ℕ) (fs : List Function) (arity : ℕ) (forms : List For
 
   abbrev pub IsFormMade : Progress → Progress → Type 0
   IsFormMade old new =
-      (f : Form) → IsAt forms (length (nodes_now forms old)) at f → (t : Tree) × (scoped_now old f ≡ Ok (t, met_of new)) × Adds (nodes_now forms old) (nodes_now forms new) f t × IsWhole forms new
+      (f : Form) → IsAt forms (length (nodes_now forms old)) at f → (t : Tree) × (scoped_now old f ≡ Ok (t, met_of new)) × Adds (nodes_now forms old) (nodes_now forms new) f t × HaveParts forms new
 
   abbrev pub IsFormFault : Progress → ScopeFault → Type 0
   IsFormFault old fault = (f : Form) → IsAt forms (length (nodes_now forms old)) at f → IsFaultOf (scoped_now old f) fault
@@ -97,7 +97,7 @@ module _ (bytes : List ℕ) (fs : List Function) (forms : List FormNode) (f : Fu
 
   abbrev pub IsFunctionMade : Progress → Progress → FunctionParts → Type 0
   IsFunctionMade old new made =
-      (b : Form) → IsBody old b → (t : Tree × Met) × (body_now old b ≡ Ok t) × Adds (nodes_now forms old) (nodes_now forms new) b t.0 × (t.1.texts ≡ texts_of new) × IsWhole forms new
+      (b : Form) → IsBody old b → (t : Tree × Met) × (body_now old b ≡ Ok t) × Adds (nodes_now forms old) (nodes_now forms new) b t.0 × (t.1.texts ≡ texts_of new) × HaveParts forms new
       × ((d : Defined) → size_of_all (in_order d.trees) ≡ length (nodes_now forms old) → (function_defined d f t).functions ≡ d.functions ++ made ∷ [])
 
   abbrev pub IsFunctionFault : Progress → ScopeFault → Type 0
@@ -108,7 +108,7 @@ pub record AreFunctionsMade (bytes : List ℕ) (fs : List Function) (forms : Lis
   pub defined : Defined
   pub scoped : functions_scoped bytes fs p ≡ Ok defined
   pub functions : made ≡ defined.functions
-  pub whole : IsWhole forms new
+  pub whole : HaveParts forms new
   pub nodes : nodes_now forms new ≡ nodes_of_all 0 (in_order defined.trees)
   pub texts : texts_of new ≡ defined.texts
   pub size : size_of_all (in_order defined.trees) ≡ length (nodes_of_program p)

@@ -12,7 +12,8 @@ use Rattle.scope_check.specs.declared.seen.Variable.{Variable}
 use Rattle.scope_check.specs.Progress.{IsFaultOf, met_of, seen_of}
 use Rattle.scope_check.specs.Scope.{Met, after, head_met}
 
--- a head with so many parts that is the same before and behind them: no block, no call, and a text or variable only without parts
+-- A plain head with so many parts: no block, call, spawn or stable, and a text or variable only without parts. It is the same before
+-- and behind them.
 abbrev pub plain_head : Head → ℕ → Bool
 plain_head (head.Text span) parts = parts == 0
 plain_head (head.Variable name) parts = parts == 0
@@ -28,28 +29,29 @@ plain f = plain_head f.head f.parts
 abbrev pub ArePlain : List FormNode → ℕ → ℕ → Type 0
 ArePlain forms first at = (i : ℕ) (f : FormNode) → first ≤ i → i ≤ at → slice_get forms i ≡ Some f → plain f ≡ true
 
--- for each form, of which the first has number n, the least number from which on all up to it are plain; before them it is the second number
+-- for each form, of which the first has number n, the least number from which on all up to it and with it are plain, where that number is
+-- first for those that stand before them
 abbrev pub plain_from : ℕ → ℕ → List FormNode → List ℕ
 plain_from n first [] = []
 plain_from n first (f ∷ forms) =
     let own = if plain f then first else n + 1 in
     own ∷ plain_from (n + 1) own forms
 
+-- the forms behind those whose heads were made, as far as before a number
+abbrev pub stretch : List FormNode → ℕ → Progress → List FormNode
+stretch forms end old = slice_range forms (length old.heads.items) end
+
 module _ (bytes : List ℕ) (fs : List Function) where
-  -- what forms are, one after the other, where the same is seen
+  -- the heads of forms, one after the other, where the same variables are seen
   abbrev pub heads_met : List Variable → Met → List FormNode → Result (List Code × Met) ScopeFault
   heads_met seen met [] = Ok ([], met)
   heads_met seen met (f ∷ forms) =
       after (head_met bytes fs seen met f.head f.parts) (λ own. after (heads_met seen own.1 forms) (λ rest. Ok (own.0 ∷ rest.0, rest.1)))
 
-  module _ (forms : List FormNode) (at : ℕ) where
-    -- the forms behind those that were made, up to the one at the place
-    abbrev pub stretch : Progress → List FormNode
-    stretch old = slice_range forms (length old.heads.items) (at + 1)
-
+  module _ (forms : List FormNode) (end : ℕ) where
     abbrev pub IsStretchMade : Progress → Progress → Type 0
     IsStretchMade old new =
-        (heads : List Code) × (heads_met (seen_of old) (met_of old) (stretch old) ≡ Ok (heads, met_of new)) × (new.heads.items ≡ old.heads.items ++ heads)
+        (heads : List Code) × (heads_met (seen_of old) (met_of old) (stretch forms end old) ≡ Ok (heads, met_of new)) × (new.heads.items ≡ old.heads.items ++ heads)
 
     abbrev pub IsStretchFault : Progress → ScopeFault → Type 0
-    IsStretchFault old fault = IsFaultOf (heads_met (seen_of old) (met_of old) (stretch old)) fault
+    IsStretchFault old fault = IsFaultOf (heads_met (seen_of old) (met_of old) (stretch forms end old)) fault

@@ -14,7 +14,7 @@ use stab_code::{Function as CodeFunction, NodeId};
 use stab_parse::Function;
 
 impl<'a> Plan<'a> {
-    /// Makes the nodes of a function's body, and gives the function.
+    /// Makes the heads of a function's body, and gives the function.
     fn function(
         &self,
         progress: &mut Progress,
@@ -37,7 +37,7 @@ impl<'a> Plan<'a> {
         Ok(CodeFunction::new(takes, gives, slots, NodeId(body as u32)))
     }
 
-    /// Makes the nodes of all bodies, and gives the functions.
+    /// Makes the heads of all bodies, and gives the functions.
     pub(crate) fn functions(&self, progress: &mut Progress) -> Result<Vec<CodeFunction>, ScopeFault>
         requires texts { HaveTexts self.now.bytes.now self.now.forms.now }
         requires none_made { progress.old.heads.items ≡ [] }

@@ -10,7 +10,7 @@ use stab_code::{Head as Code, Slots};
 use stab_parse::{Head, Span};
 
 impl<'a> Plan<'a> {
-    /// Makes the nodes of a form and of those in it, in a function that takes so many arguments.
+    /// Makes the heads of a form and of those in it, in a function that takes so many arguments.
     #[cycle(forms)]
     #[inline(always)]
     pub(crate) fn form(
@@ -39,7 +39,7 @@ impl<'a> Plan<'a> {
         Ok(())
     }
 
-    /// Makes the nodes of the parts of a form that isn't a block.
+    /// Makes the heads of the parts of a form that isn't a block.
     #[cycle(forms)]
     #[inline(never)]
     fn operands(&self, progress: &mut Progress, arity: u32, at: usize) -> Result<(), ScopeFault>
@@ -56,7 +56,7 @@ impl<'a> Plan<'a> {
         Ok(())
     }
 
-    /// Makes the nodes of a block and of the forms in it. The names of its items are seen up to its end.
+    /// Makes the heads of a block and of the forms in it. The names of its items are seen up to its end.
     #[cycle(forms)]
     #[inline(never)]
     fn block(
@@ -81,7 +81,7 @@ impl<'a> Plan<'a> {
         Ok(())
     }
 
-    /// Makes the nodes of a block's parts, and gives the slots of those that are its items.
+    /// Makes the heads of a block's parts, and gives the slots of those that are its items.
     #[cycle(forms)]
     fn block_parts(
         &self,
@@ -111,7 +111,7 @@ impl<'a> Plan<'a> {
         Ok(slots)
     }
 
-    /// Makes the nodes of one part more. An item that is a let is counted before its form, and seen behind it.
+    /// Makes the heads of one part more. An item that is a let is counted before its form, and seen behind it.
     #[cycle(forms)]
     fn part(
         &self,

@@ -4,7 +4,7 @@ ghost use Rattle.stab_lex.specs.Pieces.{IsText};
 ghost use Rattle.scope_check.specs.Forms.{act_of, is_block};
 ghost use Rattle.scope_check.specs.Names.{named, text_at};
 ghost use Rattle.scope_check.specs.Progress.{HasText, IsFaultOf, KeepsHeadsAndSeen, met_of, seen_of, texts_of};
-ghost use Rattle.scope_check.specs.Scope.{head_met, text_numbered, with_slots};
+ghost use Rattle.scope_check.specs.Scope.{head_met, text_numbered};
 
 use crate::fault::ScopeFault;
 use crate::names::written;
@@ -41,7 +41,6 @@ impl<'a> Plan<'a> {
         requires other { is_block form.now.head ≡ false }
         ensures head { IfOk result (λ head. head_met self.now.bytes.now self.now.functions.now (seen_of progress.old) (met_of progress.old)
             form.now.head form.now.parts ≡ Ok (head, met_of progress.new)) }
-        ensures slots { IfOk result (λ head. with_slots [] head ≡ head) }
         ensures others { OnOk result (KeepsHeadsAndSeen progress.old progress.new) }
         ensures fault { IfErr result (IsFaultOf (head_met self.now.bytes.now self.now.functions.now (seen_of progress.old)
             (met_of progress.old) form.now.head form.now.parts)) }

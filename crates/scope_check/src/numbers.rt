@@ -21,13 +21,13 @@ const MAX_LETS: usize = 200;
 const MAX_TEXTS: usize = 1000;
 
 impl Progress {
-    /// Nothing yet, with room for so many nodes.
-    pub(crate) fn with_room(alloc: Global, nodes: usize) -> Result<Progress, ScopeFault>
+    /// Nothing yet, with room for so many heads.
+    pub(crate) fn with_room(alloc: Global, heads: usize) -> Result<Progress, ScopeFault>
         ensures heads { IfOk result (λ progress. progress.heads.items ≡ []) }
         ensures texts { IfOk result (λ progress. texts_of progress ≡ []) }
         ensures fault { IfErr result (λ fault. fault ≡ ScopeFault.NoMemory) }
     {
-        let heads = Vec::with_capacity(alloc, nodes)?;
+        let heads = Vec::with_capacity(alloc, heads)?;
         Ok(Progress {
             heads,
             texts: IndexSet::new(alloc),

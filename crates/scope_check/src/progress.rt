@@ -6,8 +6,8 @@ use crate::seen::Variable;
 use indexmap::IndexSet;
 use stab_code::Head;
 
-/// What was made so far of a program, what its nodes are and its texts, and of a function: how many lets it has, and the variables
-/// that are seen, the innermost last.
+/// What was made so far of a program, the heads of its nodes and its texts, and of a function: how many lets it has, and the
+/// variables that are seen, the innermost last.
 #[derive(Drop)]
 pub struct Progress {
     pub heads: Vec<Head>,

@@ -1,5 +1,5 @@
 //! Stretches of forms that are gone through in the order of the list.
-ghost use Rattle.std.specs.Prelude.{◌≡◌, ◌<◌, ◌^◌, length, IfOk, IfErr, OnOk};
+ghost use Rattle.std.specs.Prelude.{◌≡◌, ◌+◌, ◌<◌, ◌^◌, length, IfOk, IfErr, OnOk};
 ghost use Rattle.scope_check.specs.Progress.{HaveTexts};
 ghost use Rattle.scope_check.specs.Stretches.{ArePlain, IsStretchFault, IsStretchMade, plain, plain_from as plain_numbers};
 
@@ -9,8 +9,8 @@ use crate::progress::Progress;
 use stab_parse::{FormNode, Head};
 use std::alloc::Global;
 
-/// Whether the nodes of a form's parts may be made before it is known what the form itself is: it is no block, no call, and
-/// nothing that may be refused behind its parts.
+/// Whether a form is plain: no block, call, spawn or stable, and a text or variable only without parts. Its head is then the same
+/// before and behind its parts.
 fn is_plain(form: &FormNode) -> bool
     ensures { result ≡ plain form.now }
 {
@@ -24,8 +24,8 @@ fn is_plain(form: &FormNode) -> bool
     }
 }
 
-/// For each form the least number from which on all forms up to it are plain, which is the one behind it where it isn't
-/// plain itself.
+/// For each form the least number from which on all forms up to it and with it are plain, which is the next one's where it
+/// isn't plain itself.
 pub(crate) fn plain_from(alloc: Global, forms: &[FormNode]) -> Result<Vec<u32>, ScopeFault>
     requires { length forms.now < 2 ^ 32 }
     ensures numbers { IfOk result (λ numbers. numbers.items ≡ plain_numbers 0 0 forms.now) }
@@ -43,15 +43,15 @@ pub(crate) fn plain_from(alloc: Global, forms: &[FormNode]) -> Result<Vec<u32>, 
 }
 
 impl<'a> Plan<'a> {
-    /// Makes the nodes of the forms up to one and with it, behind those that were made. All of them are plain.
+    /// Makes the heads of the forms up to one and with it, behind those that were made. All of them are plain.
     #[inline(never)]
     pub(crate) fn stretch(&self, progress: &mut Progress, at: usize) -> Result<(), ScopeFault>
         requires texts { HaveTexts self.now.bytes.now self.now.forms.now }
         requires there { at < length self.now.forms.now }
         requires plain { ArePlain self.now.forms.now (length progress.old.heads.items) at }
-        ensures ok { OnOk result (IsStretchMade self.now.bytes.now self.now.functions.now self.now.forms.now at progress.old progress.new) }
+        ensures ok { OnOk result (IsStretchMade self.now.bytes.now self.now.functions.now self.now.forms.now (at + 1) progress.old progress.new) }
         ensures seen { OnOk result (progress.new.seen.items ≡ progress.old.seen.items) }
-        ensures fault { IfErr result (IsStretchFault self.now.bytes.now self.now.functions.now self.now.forms.now at progress.old) }
+        ensures fault { IfErr result (IsStretchFault self.now.bytes.now self.now.functions.now self.now.forms.now (at + 1) progress.old) }
     {
         for i in progress.heads.len()..at + 1 {
             let head = self.head(progress, &self.forms[i])?;

@@ -1,15 +1,16 @@
 use Rattle.std.proofs.Common.{rules, ◌≡◌, ◌<◌, ap, length, sym, ◌∙◌, arith, get_or, refl, slice_get, Some, ◌++◌, ◌∷◌, []}
 use Rattle.std.proofs.Math.Seq.{take-length}
-use Rattle.std.specs.Prelude.{None}
+use Rattle.std.specs.Prelude.{None, false}
 use Rattle.std.proofs.lemmas.List.{reverse-reverse}
 use Rattle.std.proofs.lemmas.Option.{slice_get-get_or, slice_get_within}
 use Rattle.std.proofs.lemmas.Result.{err_from_is_err_and}
 use Rattle.stab_code.specs.declared.head.Head.TheVariants as code
 use Rattle.stab_code.specs.Nodes.{id}
 use Rattle.stab_parse.specs.declared.tree.Head.TheVariants as kind
-use Rattle.scope_check.specs.Forms.{items_of}
+use Rattle.scope_check.specs.Forms.{is_block, items_of}
+use Rattle.scope_check.specs.Progress.{met_of, seen_of}
 use Rattle.scope_check.specs.Places.{part_lists}
-use Rattle.scope_check.proofs.Made.{HeadMet, block-met, form-head-fault, form-made, form-parts-fault, no-item, on-err, on-ok, part-form, part-let, part-none, part-none-fault, seen-on, so-far-all, so-far-fault, so-far-next, so-far-none}
+use Rattle.scope_check.proofs.Made.{HeadMet, block-met, form-head-fault, form-made, form-parts-fault, no-item, no-slots, on-err, on-ok, part-form, part-let, part-none, part-none-fault, seen-on, so-far-all, so-far-fault, so-far-next, so-far-none}
 use Rattle.scope_check.proofs.Places.{parts-below, parts-there}
 use Rattle.scope_check.proofs.PlainForms.{length-plain_from, plain-there, stretch-fault, stretch-made}
 use Rattle.scope_check.proofs.plan.Plan.+forms.Goals as goal
@@ -30,22 +31,19 @@ form-index-requires t c =
 pub form-stretch-requires-clause-plain : goal.form-stretch-requires-clause-plain
 form-stretch-requires-clause-plain t c =
     let plan = c.args.self.now in
-    let inside : c.args.at < length plan.plain_from.items = omega (arith, c.requires.there, ap length plan.plain, length-plain_from 0 0 plan.forms.now) in
-    plain-there plan.forms.now plan.plain_from.items c.args.at c.index.result.now (length c.args.progress.now.heads.items) c.index.result.now plan.plain inside c.index.ensures (omega (arith, c.if-index-len.true, c.len.ensures))
+    plain-there plan.forms.now plan.plain_from.items c.args.at c.index.result.now (length c.args.progress.now.heads.items) c.index.result.now plan.plain c.requires.there c.index.ensures (omega (arith, c.if-index-len.true, c.len.ensures))
 
 pub form-returns-then-index-len-clause-ok : goal.form-returns-then-index-len-clause-ok
 form-returns-then-index-len-clause-ok t c =
     let plan = c.args.self.now in
-    let inside : c.args.at < length plan.plain_from.items = omega (arith, c.requires.there, ap length plan.plain, length-plain_from 0 0 plan.forms.now) in
-    let are = plain-there plan.forms.now plan.plain_from.items c.args.at c.index.result.now (length c.args.progress.now.heads.items) c.index.result.now plan.plain inside c.index.ensures (omega (arith, c.if-index-len.true, c.len.ensures)) in
+    let are = plain-there plan.forms.now plan.plain_from.items c.args.at c.index.result.now (length c.args.progress.now.heads.items) c.index.result.now plan.plain c.requires.there c.index.ensures (omega (arith, c.if-index-len.true, c.len.ensures)) in
     on-ok c.stretch.result c.stretch.ensures.ok c.stretch.ensures.seen (λ made seen.
     stretch-made plan.bytes.now plan.functions.now c.args.arity plan.forms.now plan.fewer c.args.at c.args.progress.now are c.stretch.new.progress made)
 
 pub form-returns-then-index-len-clause-fault : goal.form-returns-then-index-len-clause-fault
 form-returns-then-index-len-clause-fault t c =
     let plan = c.args.self.now in
-    let inside : c.args.at < length plan.plain_from.items = omega (arith, c.requires.there, ap length plan.plain, length-plain_from 0 0 plan.forms.now) in
-    let are = plain-there plan.forms.now plan.plain_from.items c.args.at c.index.result.now (length c.args.progress.now.heads.items) c.index.result.now plan.plain inside c.index.ensures (omega (arith, c.if-index-len.true, c.len.ensures)) in
+    let are = plain-there plan.forms.now plan.plain_from.items c.args.at c.index.result.now (length c.args.progress.now.heads.items) c.index.result.now plan.plain c.requires.there c.index.ensures (omega (arith, c.if-index-len.true, c.len.ensures)) in
     on-err c.stretch.result c.stretch.ensures.fault (λ fault broken.
     stretch-fault plan.bytes.now plan.functions.now c.args.arity plan.forms.now plan.fewer c.args.at c.args.progress.now are fault broken)
 
@@ -78,8 +76,10 @@ form-returns-clause-ok t c =
     let found = slice_get-get_or plan.forms.now c.args.at c.index-self-at.result c.requires.there in
     let head : HeadMet plan.bytes.now plan.functions.now c.args.arity plan.forms.now plan.fewer node c.args.progress.now c.head.new.progress c.in_ok-head.head =
     record { met = c.in_ok-head.ensures.head; heads = c.in_ok-head.ensures.others.0; seen = c.in_ok-head.ensures.others.1 } in
+    let other : is_block node.head ≡ false = search rules in
+    let same = no-slots plan.bytes.now plan.functions.now node.head node.parts (seen_of c.args.progress.now) (met_of c.args.progress.now) c.in_ok-head.head (met_of c.head.new.progress) other c.in_ok-head.ensures.head in
     form-made plan.bytes.now plan.functions.now c.args.arity plan.forms.now plan.fewer c.args.at c.args.progress.now c.head.new.progress node found c.in_ok-head.head head
-    c.operands.new.progress [] c.push.new.self.items c.in_ok-operands.ensures.ok (c.in_ok-push.ensures.items ∙ ap (λ h. c.operands.new.progress.heads.items ++ h ∷ []) (sym c.in_ok-head.ensures.slots))
+    c.operands.new.progress [] c.push.new.self.items c.in_ok-operands.ensures.ok (c.in_ok-push.ensures.items ∙ ap (λ h. c.operands.new.progress.heads.items ++ h ∷ []) (sym same))
 
 pub operands-of-part-items-requires : goal.operands-of-part-items-requires
 operands-of-part-items-requires t c = parts-there c.args.self.now.forms.now c.args.self.now.parts c.args.at c.args.self.now.laid (slice_get_within c.args.self.now.forms.now c.args.at c.requires.other.0 c.requires.other.1)
