@@ -1,4 +1,4 @@
-//! The nodes of a program while it is made, and how they are kept.
+//! The nodes of a program, and how they are kept.
 ghost use Rattle.std.specs.Prelude.{◌≡◌, ◌↔◌, ◌++◌, ◌∷◌, ◌+◌, ◌<◌, ◌≤◌, ◌^◌, [], Some, IfOk, IsTrue, MatchResult, length, slice_get};
 ghost use Rattle.stab_code.specs.Nodes.{node_of};
 ghost use Rattle.stab_code.specs.Stored.{nodes_in};
@@ -12,7 +12,7 @@ use stab_base::NoMemory;
 use std::alloc::Global;
 use std::marker::Model;
 
-/// A list of nodes, to which a program's are added one by one, each after its parts. Contracts see it as the list.
+/// A list of nodes, made of their heads and lists of parts, or by adding one behind the others. Contracts see it as the list.
 #[derive(Debug, Drop)]
 pub struct Nodes {
     heads: Vec<Head>,
