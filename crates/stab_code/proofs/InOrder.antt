@@ -1,21 +1,24 @@
 -- What the order of a program's nodes says of each node, and how a program that is laid out has it.
-use Rattle.std.proofs.Common.{◌≡◌, ℕ, ◌<◌, List, length, map, slice_get, Some, option_map, sym, ap, subst, ◌∙◌, arith}
+use Rattle.std.proofs.Common.{◌≡◌, ℕ, ◌+◌, ◌<◌, ◌≤◌, List, [], ◌∷◌, length, map, slice_get, Some, option_map, sym, ap, subst, ◌∙◌, arith}
 use Rattle.std.specs.List.{All}
+use Rattle.std.proofs.lemmas.List.Elements.{All-head, All-tail}
 use Rattle.std.proofs.lemmas.Option.{slice_get-map}
 use Rattle.stab_code.specs.declared.head.Head.{Head}
 use Rattle.stab_code.specs.declared.node_id.NodeId.{NodeId}
-use Rattle.stab_code.specs.Layout.{size_of_all, nodes_of_all, own_nodes}
-use Rattle.stab_code.specs.Nodes.{NodeParts}
-use Rattle.stab_code.specs.Program.{FunctionParts, ProgramParts, bodies_of, tree_at, trees_at, trees_of, trees_among}
-use Rattle.stab_code.specs.Trees.{Trees, tree, fold}
-use Rattle.stab_code.specs.Valid.{NodesAreInOrder}
-use Rattle.stab_code.proofs.LaidOut.{length-nodes_of_all, nodes_of_all-below, own_nodes-below, trees_of-own_nodes}
+use Rattle.stab_code.specs.Layout.{size_of_all, nodes_of_all, own_node, own_nodes}
+use Rattle.stab_code.specs.Limits.{max_form_depth}
+use Rattle.stab_code.specs.Nodes.{NodeParts, id}
+use Rattle.stab_code.specs.Program.{FunctionParts, ProgramParts, bodies_of, body_of, tree_at, trees_at, trees_of, trees_among}
+use Rattle.stab_code.specs.Syntax.{deepest, depth_from, depth_of}
+use Rattle.stab_code.specs.Trees.{Trees, tree, none, more, fold, fold_all}
+use Rattle.stab_code.specs.Valid.{DepthsAreWithin, NodesAreInOrder}
+use Rattle.stab_code.proofs.LaidOut.{Have, by_order, have-all, length-nodes_of_all, own-trees, own_nodes-below, parts-below}
 use Rattle.stab_code.proofs.Lists.{All-at}
 use Rattle.stab_code.proofs.Trees.{PartsAreBelow, fold-node, tree_among-node}
 
 module _ (p : ProgramParts) (order : NodesAreInOrder p) where
   pub parts_below : PartsAreBelow p.nodes
-  parts_below = subst PartsAreBelow order.nodes (nodes_of_all-below (trees_at p (bodies_of p)))
+  parts_below = parts-below p.nodes (trees_at p (bodies_of p)) (sym order.nodes)
 
   pub node_tree : (n : NodeId) (node : NodeParts) → slice_get p.nodes n.0 ≡ Some node → tree_at p n ≡ tree node.head (trees_at p node.parts)
   node_tree n node found = tree_among-node p.nodes parts_below n node found
@@ -32,11 +35,30 @@ module _ (p : ProgramParts) (order : NodesAreInOrder p) where
       let all : All (λ body. body.0 < length p.nodes) (bodies_of p) = subst (λ bodies. All (λ body. body.0 < length p.nodes) bodies) order.bodies (own_nodes-below 0 (trees_at p (bodies_of p)) (length p.nodes) (omega (arith, size_of_bodies))) in
       All-at (λ body. body.0 < length p.nodes) (bodies_of p) k f.body all (slice_get-map (λ g. g.body) p.functions k ∙ ap (option_map (λ g. g.body)) found)
 
+  -- the forms of trees that are no deeper than a limit are none of them deeper
+  forms-within : (limit n : ℕ) (ts : Trees) → Have p.nodes n ts → deepest (fold_all depth_from ts) ≤ limit → (k : ℕ) → n ≤ k → k < n + size_of_all ts → depth_of (tree_at p (id k)) ≤ limit
+  forms-within limit n none have within k low high = absurd (omega arith)
+  forms-within limit n (more (tree head parts) ts) have within k low high =
+      let own = ap depth_of (node_tree (own_node n (tree head parts)) _ have.1 ∙ ap (tree head) (own-trees p.nodes parts_below n parts have.0)) in
+      by_order k (n + size_of_all parts) (λ h. forms-within limit n parts have.0 (omega arith) k low h)
+      (λ e. rw e (omega (arith, own)))
+      (λ h. forms-within limit (n + (size_of_all parts + 1)) ts have.2 (omega arith) k (omega arith) (omega arith))
+
+  bodies-within : (limit : ℕ) (fs : List FunctionParts) → All (λ f. depth_of (body_of p f) ≤ limit) fs → deepest (fold_all depth_from (trees_at p (map (λ f. f.body) fs))) ≤ limit
+  bodies-within limit [] all = omega arith
+  bodies-within limit (f ∷ fs) all =
+      omega (arith, All-head (λ g. depth_of (body_of p g) ≤ limit) f fs all, bodies-within limit fs (All-tail (λ g. depth_of (body_of p g) ≤ limit) f fs all))
+
+  -- no form of a valid program is deeper than the limit
+  pub node-depth : DepthsAreWithin p → (n : NodeId) → n.0 < length p.nodes → depth_of (tree_at p n) ≤ max_form_depth
+  node-depth within n h =
+      let ts = trees_at p (bodies_of p) in
+      forms-within max_form_depth 0 ts (have-all p.nodes ts (sym order.nodes)) (bodies-within max_form_depth p.functions within) n.0 (omega arith) (omega (arith, size_of_bodies))
+
 -- a program whose nodes are those of some trees is in order, and its functions' bodies are these trees
 module _ (p : ProgramParts) (ts : Trees) (nodes : p.nodes ≡ nodes_of_all 0 ts) (bodies : bodies_of p ≡ own_nodes 0 ts) where
   pub laid_out-bodies : trees_at p (bodies_of p) ≡ ts
-  laid_out-bodies =
-      ap (λ all. trees_among (trees_of all) (bodies_of p)) nodes ∙ ap (λ own. trees_among (trees_of (nodes_of_all 0 ts)) own) bodies ∙ trees_of-own_nodes ts
+  laid_out-bodies = ap (trees_among (trees_of p.nodes)) bodies ∙ own-trees p.nodes (parts-below p.nodes ts nodes) 0 ts (have-all p.nodes ts nodes)
 
   pub laid_out-order : NodesAreInOrder p
   laid_out-order = record {

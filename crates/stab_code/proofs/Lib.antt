@@ -1,6 +1,5 @@
 pub mod AllForms
 pub mod Crossing
-pub mod FormDepths
 pub mod InOrder
 pub mod LaidOut
 pub mod Lists

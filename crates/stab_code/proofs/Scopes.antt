@@ -1,6 +1,7 @@
 -- What a form leaves open, names and lets, part by part.
-use Rattle.std.proofs.Common.{◌≡◌, ℕ, ◌==◌, Bool, true, false, not, List, [], ◌∷◌, ◌++◌, Option, Some, None, cond, refl, sym, subst, eqb-true}
+use Rattle.std.proofs.Common.{◌≡◌, ℕ, ◌==◌, inl, inr, not, List, [], ◌∷◌, ◌++◌, Option, Some, None, sym, subst, eqb-true}
 use Rattle.std.specs.List.{All, filter}
+use Rattle.std.proofs.lemmas.Bool.{cases_Bool}
 use Rattle.std.proofs.lemmas.List.Elements.{All-append, All-cons, All-head, All-nil, All-tail}
 use Rattle.stab_code.specs.Heads.{slots_of, variable_of}
 use Rattle.stab_code.specs.Syntax.{one_or_none, with_own, without, left_open, lets_from, lets_of, named_from, named_in, open_from, open_in}
@@ -8,27 +9,19 @@ use Rattle.stab_code.specs.Trees.{Tree, Trees, tree, none, more, fold_all}
 use Rattle.stab_code.proofs.Lists.{All-left, All-right}
 
 module _ (P : ℕ → Type 0) where
-  kept : (x y : ℕ) (ys : List ℕ) (same : Bool) → (y == x) ≡ same → P x → All P (cond (not same) (y ∷ filter (λ z. not (z == x)) ys) (filter (λ z. not (z == x)) ys)) → P y × All P (filter (λ z. not (z == x)) ys)
-  kept x y ys true e px all = (subst P (sym (eqb-true y x e)) px, all)
-  kept x y ys false e px all = (All-head P y (filter (λ z. not (z == x)) ys) all, All-tail P y (filter (λ z. not (z == x)) ys) all)
-
   from_filter : (x : ℕ) (ys : List ℕ) → P x → All P (filter (λ z. not (z == x)) ys) → All P ys
   from_filter x [] px all = All-nil P
   from_filter x (y ∷ ys) px all =
-      let both = kept x y ys (y == x) refl px all in
-      All-cons P y ys both.0 (from_filter x ys px both.1)
+      let others = filter (λ z. not (z == x)) ys in
+      elim (cases_Bool (y == x)) [
+        | inl same ↦ All-cons P y ys (subst P (sym (eqb-true y x same)) px) (from_filter x ys px (rw same at all))
+        | inr apart ↦ let kept : All P (y ∷ others) = rw apart at all in All-cons P y ys (All-head P y others kept) (from_filter x ys px (All-tail P y others kept))
+      ]
 
   -- what holds of a let's slot and of the others holds of all
   pub from_without : (slot : Option ℕ) (ys : List ℕ) → All P (one_or_none slot) → All P (without slot ys) → All P ys
   from_without None ys own all = all
   from_without (Some x) ys own all = from_filter x ys (All-head P x [] own) all
-
-  -- the first form of a block's items, and the rest of the block where the slot of its let is seen
-  pub open-first : (slot : Option ℕ) (own : List (Option ℕ)) (part : List ℕ) (parts : List (List ℕ)) → All P (left_open (slot ∷ own) (part ∷ parts)) → All P part
-  open-first slot own part parts all = All-left P part (without slot (left_open own parts)) all
-
-  pub open-rest : (slot : Option ℕ) (own : List (Option ℕ)) (part : List ℕ) (parts : List (List ℕ)) → All P (one_or_none slot) → All P (left_open (slot ∷ own) (part ∷ parts)) → All P (left_open own parts)
-  open-rest slot own part parts seen all = from_without slot (left_open own parts) seen (All-right P part (without slot (left_open own parts)) all)
 
   mutual
     -- a slot that a form names is left open or let
@@ -45,6 +38,7 @@ module _ (P : ℕ → Type 0) where
     named-parts (slot ∷ own) (more t ts) opened lets =
         let its = All-left P (one_or_none slot) (lets_of t ++ with_own own (fold_all lets_from ts)) lets in
         let others = All-right P (one_or_none slot) (lets_of t ++ with_own own (fold_all lets_from ts)) lets in
+        let unseen = without slot (left_open own (fold_all open_from ts)) in
         All-append P (one_or_none slot) (named_in t ++ with_own own (fold_all named_from ts)) its
-        (All-append P (named_in t) (with_own own (fold_all named_from ts)) (named-open-let t (open-first slot own (open_in t) (fold_all open_from ts) opened) (All-left P (lets_of t) (with_own own (fold_all lets_from ts)) others))
-        (named-parts own ts (open-rest slot own (open_in t) (fold_all open_from ts) its opened) (All-right P (lets_of t) (with_own own (fold_all lets_from ts)) others)))
+        (All-append P (named_in t) (with_own own (fold_all named_from ts)) (named-open-let t (All-left P (open_in t) unseen opened) (All-left P (lets_of t) (with_own own (fold_all lets_from ts)) others))
+        (named-parts own ts (from_without slot (left_open own (fold_all open_from ts)) its (All-right P (open_in t) unseen opened)) (All-right P (lets_of t) (with_own own (fold_all lets_from ts)) others)))

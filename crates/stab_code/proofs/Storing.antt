@@ -1,6 +1,6 @@
 -- What is stored, as lists and as nodes.
-use Rattle.std.proofs.Common.{◌≡◌, ℕ, zero, suc, ◌+◌, ◌-◌, ◌<◌, ◌≤◌, List, [], ◌∷◌, ◌++◌, length, take, drop, get_or, slice_get, Some, refl, ap, ◌∙◌, subst, sym, arith, length-drop, length-append}
-use Rattle.std.specs.List.{slice_range}
+use Rattle.std.proofs.Common.{◌≡◌, ℕ, zero, suc, ◌+◌, ◌-◌, ◌<◌, ◌≤◌, List, [], ◌∷◌, ◌++◌, length, map, take, drop, get_or, slice_get, Some, refl, ap, ◌∙◌, subst, sym, arith, length-drop, length-append}
+use Rattle.std.specs.List.{flat_map, slice_range}
 use Rattle.std.proofs.lemmas.List.{drop_all, length-take-le, take-append-le, drop-append-le}
 use Rattle.std.proofs.lemmas.List.Folds.{drop_split}
 use Rattle.std.proofs.lemmas.Option.{slice_get-get_or}
@@ -65,38 +65,31 @@ list_found ends parts lists i to are view h found =
     list_at 0 ends parts i to are (slice_get-get_or ends i to inside ∙ ap Some (sym found))
 
 -- a list begins where the one before it ends
-pub start_behind : (from : ℕ) (ends : List ℕ) (i before : ℕ) → i ≡ suc before → i < length ends → get_or ends before 0 ≡ start_of from ends i
-start_behind from [] i before e h = absurd (omega arith)
-start_behind from (to ∷ ends) zero before e h = absurd (omega arith)
-start_behind from (to ∷ []) (suc i) before e h = absurd (omega arith)
-start_behind from (to ∷ end ∷ ends) (suc zero) zero e h = refl
-start_behind from (to ∷ end ∷ ends) (suc zero) (suc before) e h = absurd (omega arith)
-start_behind from (to ∷ end ∷ ends) (suc (suc i)) zero e h = absurd (omega arith)
-start_behind from (to ∷ end ∷ ends) (suc (suc i)) (suc before) e h = start_behind to (end ∷ ends) (suc i) before (omega arith) (omega arith)
+pub start_is : (from : ℕ) (ends : List ℕ) (i : ℕ) → i ≤ length ends → start_of from ends i ≡ get_or (from ∷ ends) i 0
+start_is from ends zero h = refl
+start_is from [] (suc i) h = absurd (omega arith)
+start_is from (to ∷ ends) (suc i) h = start_is to ends i (omega arith)
 
-range-length : (parts : List NodeId) (from to : ℕ) → from ≤ to → to ≤ length parts → length (slice_range parts from to) ≡ to - from
-range-length parts from to h k =
-    let some : to - from ≤ length (drop from parts) = omega (arith, length-drop from parts) in
-    length-take-le (to - from) (drop from parts) some
+-- the places where lists of these lengths end
+abbrev ends_of : ℕ → List (List NodeId) → List ℕ
+ends_of from [] = []
+ends_of from (parts ∷ lists) = (from + length parts) ∷ ends_of (from + length parts) lists
 
--- lists are the same only where they are stored so
-pub stored_lists : (from : ℕ) (ends others : List ℕ) (parts own : List NodeId) → AreEnds from ends parts → AreEnds from others own → lists_in from ends parts ≡ lists_in from others own → (ends ≡ others) × (drop from parts ≡ drop from own)
-stored_lists from [] [] parts own are be same = (refl, drop_all from parts (omega arith) ∙ sym (drop_all from own (omega arith)))
-stored_lists from [] (to ∷ others) parts own are be same = cc
-stored_lists from (to ∷ ends) [] parts own are be same = cc
-stored_lists from (to ∷ ends) (end ∷ others) parts own are be same =
-    let first : slice_range parts from to ≡ slice_range own from end = cc in
-    let to_within = ends_within to ends parts are.1 in
-    let end_within = ends_within end others own be.1 in
-    let long = range-length parts from to are.0 to_within in
-    let as_long = range-length own from end be.0 end_within in
-    let counts : to - from ≡ end - from = sym long ∙ ap length first ∙ as_long in
-    let e : to ≡ end = omega (arith, are.0, be.0) in
-    let behind : lists_in to ends parts ≡ lists_in to others own = subst (λ n. lists_in to ends parts ≡ lists_in n others own) (sym e) (cc) in
-    let rest = stored_lists to ends others parts own are.1 (subst (λ n. AreEnds n others own) (sym e) be.1) behind in
-    let split = drop_split parts from to are.0 in
-    let as_split : drop from own ≡ slice_range own from end ++ drop to own = rw e (drop_split own from end be.0) in
-    (cc, split ∙ ap (λ xs. xs ++ drop to parts) first ∙ ap (λ xs. slice_range own from end ++ xs) rest.1 ∙ sym as_split)
+-- what is stored follows from the lists
+stored_is : (from : ℕ) (ends : List ℕ) (parts : List NodeId) → AreEnds from ends parts → (ends ≡ ends_of from (lists_in from ends parts)) × (drop from parts ≡ flat_map (λ list. list) (lists_in from ends parts))
+stored_is from [] parts are = (refl, drop_all from parts (omega arith))
+stored_is from (to ∷ ends) parts are =
+    let long = length-take-le (to - from) (drop from parts) (omega (arith, length-drop from parts, ends_within to ends parts are.1)) in
+    let end : from + length (slice_range parts from to) ≡ to = omega (arith, are.0) in
+    let rest = stored_is to ends parts are.1 in
+    (rw end (ap (λ others. to ∷ others) rest.0), drop_split parts from to are.0 ∙ ap (λ others. slice_range parts from to ++ others) rest.1)
+
+-- so lists are the same only where they are stored so
+pub stored_lists : (ends others : List ℕ) (parts own : List NodeId) → AreEnds 0 ends parts → AreEnds 0 others own → lists_in 0 ends parts ≡ lists_in 0 others own → (ends ≡ others) × (parts ≡ own)
+stored_lists ends others parts own are be same =
+    let left = stored_is 0 ends parts are in
+    let right = stored_is 0 others own be in
+    (left.0 ∙ ap (ends_of 0) same ∙ sym right.0, left.1 ∙ ap (flat_map (λ list. list)) same ∙ sym right.1)
 
 pub node_pushed : (heads : List Head) (lists : List (List NodeId)) (head : Head) (parts : List NodeId) → length heads ≡ length lists → nodes_in (heads ++ head ∷ []) (lists ++ parts ∷ []) ≡ nodes_in heads lists ++ node_of head parts ∷ []
 node_pushed [] [] head parts e = refl
@@ -112,26 +105,18 @@ count_of_nodes (h ∷ heads) (l ∷ lists) e = ap suc (count_of_nodes heads list
 pub node_at : (heads : List Head) (lists : List (List NodeId)) (i : ℕ) (head : Head) (parts : List NodeId) → slice_get heads i ≡ Some head → slice_get lists i ≡ Some parts → slice_get (nodes_in heads lists) i ≡ Some (node_of head parts)
 node_at [] lists i head parts h p = cc
 node_at (g ∷ heads) [] i head parts h p = cc
-node_at (g ∷ heads) (l ∷ lists) zero head parts h p =
-    let a : g ≡ head = cc in
-    let b : l ≡ parts = cc in
-    rw (a, b) refl
+node_at (g ∷ heads) (l ∷ lists) zero head parts h p = cc
 node_at (g ∷ heads) (l ∷ lists) (suc i) head parts h p = node_at heads lists i head parts h p
+
+heads_and_parts : (heads : List Head) (lists : List (List NodeId)) → length heads ≡ length lists → (heads ≡ map (λ n. n.head) (nodes_in heads lists)) × (lists ≡ map (λ n. n.parts) (nodes_in heads lists))
+heads_and_parts [] [] e = (refl, refl)
+heads_and_parts [] (l ∷ lists) e = absurd (omega arith)
+heads_and_parts (h ∷ heads) [] e = absurd (omega arith)
+heads_and_parts (h ∷ heads) (l ∷ lists) e = let rest = heads_and_parts heads lists (omega arith) in (ap (λ hs. h ∷ hs) rest.0, ap (λ ls. l ∷ ls) rest.1)
 
 -- nodes are the same only where their heads and their parts are
 pub stored_nodes : (heads own : List Head) (lists others : List (List NodeId)) → length heads ≡ length lists → length own ≡ length others → nodes_in heads lists ≡ nodes_in own others → (heads ≡ own) × (lists ≡ others)
-stored_nodes [] [] [] [] e f same = (refl, refl)
-stored_nodes [] [] [] (o ∷ others) e f same = absurd (omega arith)
-stored_nodes [] [] (l ∷ lists) others e f same = absurd (omega arith)
-stored_nodes [] (h ∷ own) lists [] e f same = absurd (omega arith)
-stored_nodes [] (h ∷ own) lists (o ∷ others) e f same = cc
-stored_nodes (h ∷ heads) own [] others e f same = absurd (omega arith)
-stored_nodes (h ∷ heads) [] (l ∷ lists) others e f same = cc
-stored_nodes (h ∷ heads) (g ∷ own) (l ∷ lists) [] e f same = absurd (omega arith)
-stored_nodes (h ∷ heads) (g ∷ own) (l ∷ lists) (o ∷ others) e f same =
-    let first : node_of h l ≡ node_of g o = cc in
-    let as_head : h ≡ g = ap (λ n. n.head) first in
-    let as_parts : l ≡ o = ap (λ n. n.parts) first in
-    let behind : nodes_in heads lists ≡ nodes_in own others = cc in
-    let rest = stored_nodes heads own lists others (omega arith) (omega arith) behind in
-    (cc (as_head, rest.0), cc (as_parts, rest.1))
+stored_nodes heads own lists others e f same =
+    let left = heads_and_parts heads lists e in
+    let right = heads_and_parts own others f in
+    (left.0 ∙ ap (map (λ n. n.head)) same ∙ sym right.0, left.1 ∙ ap (map (λ n. n.parts)) same ∙ sym right.1)

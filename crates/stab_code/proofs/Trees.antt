@@ -1,6 +1,7 @@
 -- The trees of nodes: what the tree of a node is, where its parts stand before it.
 use Rattle.std.proofs.Common.{◌≡◌, ℕ, zero, suc, ◌+◌, ◌<◌, List, [], ◌∷◌, ◌++◌, length, map, slice_get, Some, unwrap_or, refl, sym, ap, ◌∙◌, arith, length-append}
 use Rattle.std.specs.List.{All}
+use Rattle.std.proofs.lemmas.List.{map-append}
 use Rattle.std.proofs.lemmas.List.Elements.{All-head, All-tail}
 use Rattle.stab_code.specs.declared.head.Head.{Head}
 use Rattle.stab_code.specs.declared.head.Head.TheVariants.{Unit}
@@ -18,37 +19,27 @@ PartsAreBelow nodes = (n : ℕ) (node : NodeParts) → slice_get nodes n ≡ Som
 abbrev its_tree : List Tree → NodeParts → Tree
 its_tree trees node = tree node.head (trees_among trees node.parts)
 
-pub length-trees_after : (trees : List Tree) (nodes : List NodeParts) → length (trees_after trees nodes) ≡ length trees + length nodes
-length-trees_after trees [] = omega arith
-length-trees_after trees (x ∷ xs) =
-    omega (arith, length-trees_after (trees ++ its_tree trees x ∷ []) xs, length-append trees (its_tree trees x ∷ []))
-
--- each node has a tree
-pub length-trees_of : (nodes : List NodeParts) → length (trees_of nodes) ≡ length nodes
-length-trees_of nodes = omega (arith, length-trees_after [] nodes)
-
 trees_after-keeps : (trees : List Tree) (nodes : List NodeParts) (i : ℕ) → i < length trees → slice_get (trees_after trees nodes) i ≡ slice_get trees i
 trees_after-keeps trees [] i h = refl
 trees_after-keeps trees (x ∷ xs) i h =
-    let more_trees = length-append trees (its_tree trees x ∷ []) in
-    trees_after-keeps (trees ++ its_tree trees x ∷ []) xs i (omega arith) ∙ slice_get-left trees (its_tree trees x ∷ []) i h
+    trees_after-keeps (trees ++ its_tree trees x ∷ []) xs i (omega (arith, length-append trees (its_tree trees x ∷ [])))
+    ∙ slice_get-left trees (its_tree trees x ∷ []) i h
 
 -- parts that stand among the trees so far keep theirs
 trees_among-keeps : (trees : List Tree) (nodes : List NodeParts) (parts : List NodeId) → All (λ part. part.0 < length trees) parts → trees_among (trees_after trees nodes) parts ≡ trees_among trees parts
 trees_among-keeps trees nodes [] below = refl
 trees_among-keeps trees nodes (m ∷ ms) below =
-    ap (λ found. more (unwrap_or found (tree Unit none)) (trees_among (trees_after trees nodes) ms)) (trees_after-keeps trees nodes m.0 (All-head (λ part. part.0 < length trees) m ms below))
-    ∙ ap (λ rest. more (tree_among trees m) rest) (trees_among-keeps trees nodes ms (All-tail (λ part. part.0 < length trees) m ms below))
+    cc (
+      trees_after-keeps trees nodes m.0 (All-head (λ part. part.0 < length trees) m ms below),
+      trees_among-keeps trees nodes ms (All-tail (λ part. part.0 < length trees) m ms below),
+    )
 
 trees_after-at : (trees : List Tree) (nodes : List NodeParts) (k i : ℕ) (node : NodeParts) → i ≡ length trees + k → slice_get nodes k ≡ Some node → All (λ part. part.0 < i) node.parts → slice_get (trees_after trees nodes) i ≡ Some (its_tree (trees_after trees nodes) node)
 trees_after-at trees [] k i node e found below = cc
 trees_after-at trees (x ∷ xs) zero i node e found below =
-    let same : x ≡ node = cc in
     let size = length-append trees (its_tree trees x ∷ []) in
-    trees_after-keeps (trees ++ its_tree trees x ∷ []) xs i (omega arith)
-    ∙ slice_get-right trees (its_tree trees x ∷ []) i 0 (omega arith)
-    ∙ ap (λ y. Some (its_tree trees y)) same
-    ∙ ap (λ own. Some (tree node.head own)) (sym (trees_among-keeps trees (x ∷ xs) node.parts (λ k d h. let b = below k d h in omega arith)))
+    let own = trees_among-keeps trees (x ∷ xs) node.parts (λ k d h. let b = below k d h in omega arith) in
+    trees_after-keeps (trees ++ its_tree trees x ∷ []) xs i (omega arith) ∙ slice_get-right trees (its_tree trees x ∷ []) i 0 (omega arith) ∙ cc
 trees_after-at trees (x ∷ xs) (suc k) i node e found below =
     let size = length-append trees (its_tree trees x ∷ []) in
     trees_after-at (trees ++ its_tree trees x ∷ []) xs k i node (omega arith) found below
@@ -73,19 +64,11 @@ value_among-fold value [] n = refl
 value_among-fold value (t ∷ ts) zero = refl
 value_among-fold value (t ∷ ts) (suc n) = value_among-fold value ts n
 
-values_among-fold : {A : Type 0} (value : Head → List A → A) (trees : List Tree) (ns : List NodeId) → map (value_among value (map (fold value) trees)) ns ≡ fold_all value (trees_among trees ns)
-values_among-fold value trees [] = refl
-values_among-fold value trees (n ∷ ns) =
-    ap (λ v. v ∷ map (value_among value (map (fold value) trees)) ns) (value_among-fold value trees n.0) ∙ ap (λ vs. fold value (tree_among trees n) ∷ vs) (values_among-fold value trees ns)
-
-map-append : {A B : Type 0} (f : A → B) (xs ys : List A) → map f (xs ++ ys) ≡ map f xs ++ map f ys
-map-append f [] ys = refl
-map-append f (x ∷ xs) ys = ap (λ zs. f x ∷ zs) (map-append f xs ys)
-
 values_after-fold : {A : Type 0} (value : Head → List A → A) (trees : List Tree) (nodes : List NodeParts) → values_after value (map (fold value) trees) nodes ≡ map (fold value) (trees_after trees nodes)
 values_after-fold value trees [] = refl
 values_after-fold value trees (x ∷ xs) =
-    ap (λ own. values_after value (map (fold value) trees ++ value x.head own ∷ []) xs) (values_among-fold value trees x.parts)
+    let among : map (value_among value (map (fold value) trees)) x.parts ≡ map (λ n. fold value (tree_among trees n)) x.parts = λ i. map (λ n. value_among-fold value trees n.0 i) x.parts in
+    ap (λ own. values_after value (map (fold value) trees ++ value x.head own ∷ []) xs) (among ∙ sym (fold_all-trees_among value trees x.parts))
     ∙ ap (λ values. values_after value values xs) (sym (map-append (fold value) trees (its_tree trees x ∷ [])))
     ∙ values_after-fold value (trees ++ its_tree trees x ∷ []) xs
 

@@ -1,8 +1,8 @@
 -- What the facts of a valid program say of one function or node.
-use Rattle.std.proofs.Common.{◌≡◌, ℕ, suc, zero, ◌+◌, ◌<◌, ◌≤◌, List, [], ◌++◌, length, slice_get, Option, Some, None, IfSome, IsSomeAnd, option_map, refl, sym, ap, subst, ◌∙◌, arith, length-append}
+use Rattle.std.proofs.Common.{◌≡◌, ℕ, ◌+◌, ◌<◌, ◌≤◌, List, [], ◌++◌, length, slice_get, Option, Some, None, IfSome, IsSomeAnd, option_map, refl, sym, ap, subst, ◌∙◌, arith, length-append}
 use Rattle.std.specs.List.{All, range_with_len}
-use Rattle.std.proofs.lemmas.List.Elements.{All-cons, All-nil, All-same, All-weaker}
-use Rattle.std.proofs.lemmas.List.FromFn.{length-range_with_len}
+use Rattle.std.proofs.lemmas.List.Elements.{All-same, All-weaker}
+use Rattle.std.proofs.lemmas.List.FromFn.{get_or-range_with_len, length-range_with_len}
 use Rattle.stab_base.specs.declared.numbers.FnId.{FnId}
 use Rattle.stab_base.specs.declared.numbers.TextId.{TextId}
 use Rattle.stab_code.specs.declared.head.Head.{Head}
@@ -15,27 +15,21 @@ use Rattle.stab_code.specs.Valid.{BlocksHaveItems, HasItem, MainIsThere, PartsFi
 use Rattle.stab_code.proofs.Lists.{All-at, All-right}
 use Rattle.stab_code.proofs.Scopes.{named-open-let}
 
-range-below : (n m end : ℕ) → n + m ≤ end → All (λ k. k < end) (range_with_len n m)
-range-below n zero end h = All-nil (λ k. k < end)
-range-below n (suc m) end h = All-cons (λ k. k < end) n (range_with_len (n + 1) m) (omega arith) (range-below (n + 1) m end (omega arith))
-
-arity_from_order : (arity slots : ℕ) (lets : List ℕ) → range_with_len 0 arity ++ lets ≡ range_with_len 0 slots → arity ≤ slots
-arity_from_order arity slots lets e =
-    omega (arith, length-range_with_len 0 arity, length-range_with_len 0 slots, length-append (range_with_len 0 arity) lets, ap length e)
-
 module _ (p : ProgramParts) (in_order : SlotsAreInOrder p) (k : ℕ) (f : FunctionParts) (found : slice_get p.functions k ≡ Some f) where
   slots_of_function : range_with_len 0 (arity_of f) ++ lets_of (body_of p f) ≡ range_with_len 0 f.slots
   slots_of_function = All-at (λ g. range_with_len 0 (arity_of g) ++ lets_of (body_of p g) ≡ range_with_len 0 g.slots) p.functions k f in_order found
 
   -- a function has at least as many slots as parameters
   pub arity_le-slots : arity_of f ≤ f.slots
-  arity_le-slots = arity_from_order (arity_of f) f.slots (lets_of (body_of p f)) slots_of_function
+  arity_le-slots =
+      omega (arith, length-range_with_len 0 (arity_of f), length-range_with_len 0 f.slots, length-append (range_with_len 0 (arity_of f)) (lets_of (body_of p f)), ap length slots_of_function)
 
   -- the slots of its lets are below their number
   pub lets-below : All (λ slot. slot < f.slots) (lets_of (body_of p f))
   lets-below =
+      let below : All (λ slot. slot < f.slots) (range_with_len 0 f.slots) = λ i d h. omega (arith, get_or-range_with_len 0 f.slots i d (omega (arith, length-range_with_len 0 f.slots)), length-range_with_len 0 f.slots) in
       All-right (λ slot. slot < f.slots) (range_with_len 0 (arity_of f)) (lets_of (body_of p f))
-      (All-same (λ slot. slot < f.slots) (range_with_len 0 (arity_of f) ++ lets_of (body_of p f)) (range_with_len 0 f.slots) slots_of_function (range-below 0 f.slots f.slots (omega arith)))
+      (All-same (λ slot. slot < f.slots) (range_with_len 0 (arity_of f) ++ lets_of (body_of p f)) (range_with_len 0 f.slots) slots_of_function below)
 
   -- and so is each slot that its body names
   pub named-below : VariablesAreSeen p → All (λ slot. slot < f.slots) (named_in (body_of p f))

@@ -1,4 +1,4 @@
-use Rattle.stab_code.proofs.FormDepths.{node-depth}
+use Rattle.stab_code.proofs.InOrder.{node-depth}
 use Rattle.stab_code.proofs.laws.no_deep_form.Goals as goal
 
 pub returns : goal.returns

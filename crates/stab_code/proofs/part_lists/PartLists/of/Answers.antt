@@ -10,29 +10,23 @@ start-from-requires c = omega (arith, c.requires, c.deref.ensures.len, c.self.in
 pub index-to-requires : goal.index-to-requires
 index-to-requires c = omega (arith, c.requires, c.self.inside.ends.ok.0, ap length c.self.view_is, count_of_lists 0 c.self.inside.ends.items c.self.inside.parts.items)
 
-there : (c : goal.After-deref-2) → IsListAt 0 c.self.inside.ends.items c.self.inside.parts.items c.args.i c.index-to.result.now
-there c = list_found c.self.inside.ends.items c.self.inside.parts.items c.args.self.now c.args.i c.index-to.result.now c.self.invariant c.self.view_is c.requires c.index-to.ensures
-
-from_is : (c : goal.After-deref-2) → c.start-from.result ≡ start_of 0 c.self.inside.ends.items c.args.i
-from_is c = c.start-from.ensures ∙ ap (λ ends. start_of 0 ends c.args.i) c.deref.ensures.value
-
-rises : (c : goal.After-deref-2) → c.start-from.result ≤ c.index-to.result.now
-rises c = omega (arith, from_is c, (there c).rises)
-
-within : (c : goal.After-deref-2) → c.index-to.result.now ≤ length c.deref-2.result.now
-within c = omega (arith, (there c).within, ap length c.deref-2.ensures.value)
+bounds : (c : goal.After-deref-2) → (c.start-from.result ≤ c.index-to.result.now) × (c.index-to.result.now ≤ length c.deref-2.result.now)
+bounds c =
+    let there = list_found c.self.inside.ends.items c.self.inside.parts.items c.args.self.now c.args.i c.index-to.result.now c.self.invariant c.self.view_is c.requires c.index-to.ensures in
+    let from = c.start-from.ensures ∙ ap (λ ends. start_of 0 ends c.args.i) c.deref.ensures.value in
+    (omega (arith, from, there.rises), omega (arith, there.within, ap length c.deref-2.ensures.value))
 
 pub offset_bounds-deref-from : goal.offset_bounds-deref-from
-offset_bounds-deref-from c = omega (arith, rises c, within c)
+offset_bounds-deref-from c = omega (arith, (bounds c).0, (bounds c).1)
 
 pub slice_bounds-result-count : goal.slice_bounds-result-count
-slice_bounds-result-count c = rises c
+slice_bounds-result-count c = (bounds c).0
 
 pub slice_bounds-result-start : goal.slice_bounds-result-start
-slice_bounds-result-start c = let r = rises c in let w = within c in search rules
+slice_bounds-result-start c = let b = bounds c in search rules
 
 pub slice_bounds-result-end : goal.slice_bounds-result-end
-slice_bounds-result-end c = let r = rises c in let w = within c in search rules
+slice_bounds-result-end c = let b = bounds c in search rules
 
 pub returns : goal.returns
 returns c =

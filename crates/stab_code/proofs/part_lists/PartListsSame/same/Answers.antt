@@ -6,19 +6,14 @@ use Rattle.stab_code.proofs.part_lists.PartListsSame.same.Goals as goal
 pub returns-then-eq : goal.returns-then-eq
 returns-then-eq c =
     let ends : c.self.inside.ends.items ≡ c.other.inside.ends.items = search rules in (
-      λ eq.
-          let parts : c.self.inside.parts.items ≡ c.other.inside.parts.items = sym c.deref.ensures.value ∙ c.all_same.ensures.0 eq ∙ c.deref-then-eq.ensures.value in
-          sym c.self.view_is ∙ rw (ends, parts) c.other.view_is,
+      λ eq. sym c.self.view_is ∙ rw (ends, sym c.deref.ensures.value ∙ c.all_same.ensures.0 eq ∙ c.deref-then-eq.ensures.value) c.other.view_is,
       λ same.
-          let stored = stored_lists 0 c.self.inside.ends.items c.other.inside.ends.items c.self.inside.parts.items c.other.inside.parts.items c.self.invariant c.other.invariant (c.self.view_is ∙ same ∙ sym c.other.view_is) in
+          let stored = stored_lists _ _ _ _ c.self.invariant c.other.invariant (c.self.view_is ∙ same ∙ sym c.other.view_is) in
           c.all_same.ensures.1 (c.deref.ensures.value ∙ stored.1 ∙ sym c.deref-then-eq.ensures.value),
     )
 
 pub returns-else-eq : goal.returns-else-eq
 returns-else-eq c = (
   λ eq. absurd (cc),
-  λ same.
-      let stored = stored_lists 0 c.self.inside.ends.items c.other.inside.ends.items c.self.inside.parts.items c.other.inside.parts.items c.self.invariant c.other.invariant (c.self.view_is ∙ same ∙ sym c.other.view_is) in
-      let ends : c.self.inside.ends.items ≡ c.other.inside.ends.items = stored.0 in
-      search rules,
+  λ same. let stored = stored_lists _ _ _ _ c.self.invariant c.other.invariant (c.self.view_is ∙ same ∙ sym c.other.view_is) in search rules,
 )
