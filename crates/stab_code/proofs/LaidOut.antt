@@ -5,7 +5,7 @@ use Rattle.std.specs.List.{All}
 use Rattle.std.proofs.lemmas.List.Elements.{All-cons, All-nil}
 use Rattle.std.proofs.lemmas.Option.{slice_get_within}
 use Rattle.stab_code.specs.declared.node_id.NodeId.{NodeId}
-use Rattle.stab_code.specs.Layout.{size_of, size_of_all, own_node, own_nodes, nodes_of, nodes_of_all}
+use Rattle.stab_code.specs.Layout.{size_of, size_of_all, own_node, own_nodes, nodes_of_all}
 use Rattle.stab_code.specs.Nodes.{NodeParts, node_of}
 use Rattle.stab_code.specs.Program.{trees_among, trees_of}
 use Rattle.stab_code.specs.Trees.{Tree, Trees, tree, none, more}

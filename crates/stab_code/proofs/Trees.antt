@@ -8,8 +8,8 @@ use Rattle.stab_code.specs.declared.head.Head.TheVariants.{Unit}
 use Rattle.stab_code.specs.declared.node_id.NodeId.{NodeId}
 use Rattle.stab_code.specs.Nodes.{NodeParts}
 use Rattle.stab_code.specs.Program.{tree_among, trees_among, trees_after, trees_of}
-use Rattle.stab_code.specs.Trees.{Tree, tree, none, more, fold, fold_all}
-use Rattle.stab_code.specs.Walk.{value_among, values_after, values_of}
+use Rattle.stab_code.specs.Trees.{Tree, tree, none, fold, fold_all}
+use Rattle.stab_code.specs.Walk.{value_among, values_after}
 use Rattle.stab_code.proofs.Lists.{slice_get-left, slice_get-right}
 
 -- each part of each node has a smaller number than the node
@@ -54,24 +54,16 @@ pub fold_all-trees_among : {A : Type 0} (value : Head → List A → A) (trees :
 fold_all-trees_among value trees [] = refl
 fold_all-trees_among value trees (n ∷ ns) = ap (λ rest. fold value (tree_among trees n) ∷ rest) (fold_all-trees_among value trees ns)
 
--- so what a tree has follows from what the trees of its parts have
-pub fold-node : {A : Type 0} (value : Head → List A → A) (nodes : List NodeParts) → PartsAreBelow nodes → (n : NodeId) (node : NodeParts) → slice_get nodes n.0 ≡ Some node → fold value (tree_among (trees_of nodes) n) ≡ value node.head (map (λ part. fold value (tree_among (trees_of nodes) part)) node.parts)
-fold-node value nodes below n node found =
-    ap (fold value) (tree_among-node nodes below n node found) ∙ ap (value node.head) (fold_all-trees_among value (trees_of nodes) node.parts)
-
 value_among-fold : {A : Type 0} (value : Head → List A → A) (trees : List Tree) (n : ℕ) → unwrap_or (slice_get (map (fold value) trees) n) (value Unit []) ≡ fold value (unwrap_or (slice_get trees n) (tree Unit none))
 value_among-fold value [] n = refl
 value_among-fold value (t ∷ ts) zero = refl
 value_among-fold value (t ∷ ts) (suc n) = value_among-fold value ts n
 
-values_after-fold : {A : Type 0} (value : Head → List A → A) (trees : List Tree) (nodes : List NodeParts) → values_after value (map (fold value) trees) nodes ≡ map (fold value) (trees_after trees nodes)
+-- values that are made node by node are those of the nodes' trees
+pub values_after-fold : {A : Type 0} (value : Head → List A → A) (trees : List Tree) (nodes : List NodeParts) → values_after value (map (fold value) trees) nodes ≡ map (fold value) (trees_after trees nodes)
 values_after-fold value trees [] = refl
 values_after-fold value trees (x ∷ xs) =
     let among : map (value_among value (map (fold value) trees)) x.parts ≡ map (λ n. fold value (tree_among trees n)) x.parts = λ i. map (λ n. value_among-fold value trees n.0 i) x.parts in
     ap (λ own. values_after value (map (fold value) trees ++ value x.head own ∷ []) xs) (among ∙ sym (fold_all-trees_among value trees x.parts))
     ∙ ap (λ values. values_after value values xs) (sym (map-append (fold value) trees (its_tree trees x ∷ [])))
     ∙ values_after-fold value (trees ++ its_tree trees x ∷ []) xs
-
--- values that are made node by node from the front are those of the nodes' trees
-pub values_of-fold : {A : Type 0} (value : Head → List A → A) (nodes : List NodeParts) → values_of value nodes ≡ map (fold value) (trees_of nodes)
-values_of-fold value nodes = values_after-fold value [] nodes

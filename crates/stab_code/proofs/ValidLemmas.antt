@@ -1,19 +1,56 @@
 -- What the facts of a valid program say of one function or node.
-use Rattle.std.proofs.Common.{◌≡◌, ℕ, ◌+◌, ◌<◌, ◌≤◌, List, [], ◌++◌, length, slice_get, Option, Some, None, IfSome, IsSomeAnd, option_map, refl, sym, ap, subst, ◌∙◌, arith, length-append}
-use Rattle.std.specs.List.{All, range_with_len}
-use Rattle.std.proofs.lemmas.List.Elements.{All-same, All-weaker}
+use Rattle.std.proofs.Common.{◌≡◌, inl, inr, ℕ, ◌+◌, ◌<◌, ◌≤◌, ◌==◌, not, List, [], ◌∷◌, ◌++◌, length, slice_get, Option, Some, None, IfSome, IsSomeAnd, option_map, refl, sym, ap, subst, ◌∙◌, arith, eqb-true, length-append}
+use Rattle.std.specs.List.{All, filter, range_with_len}
+use Rattle.std.proofs.lemmas.Bool.{cases_Bool}
+use Rattle.std.proofs.lemmas.List.Elements.{All-append, All-cons, All-head, All-nil, All-same, All-tail, All-weaker}
 use Rattle.std.proofs.lemmas.List.FromFn.{get_or-range_with_len, length-range_with_len}
 use Rattle.stab_base.specs.declared.numbers.FnId.{FnId}
 use Rattle.stab_base.specs.declared.numbers.TextId.{TextId}
 use Rattle.stab_code.specs.declared.head.Head.{Head}
 use Rattle.stab_code.specs.declared.head.Head.TheVariants.{Block, Call, Spawn, Stable}
-use Rattle.stab_code.specs.Heads.{callee_of, text_of}
+use Rattle.stab_code.specs.Heads.{callee_of, slots_of, text_of, variable_of}
 use Rattle.stab_code.specs.Nodes.{NodeParts}
 use Rattle.stab_code.specs.Program.{FunctionParts, arity_of, ProgramParts, body_of}
-use Rattle.stab_code.specs.Syntax.{lets_of, named_in, open_in}
+use Rattle.stab_code.specs.Syntax.{one_or_none, with_own, without, left_open, lets_from, lets_of, named_from, named_in, open_from, open_in}
+use Rattle.stab_code.specs.Trees.{Tree, Trees, tree, none, more, fold_all}
 use Rattle.stab_code.specs.Valid.{BlocksHaveItems, HasItem, MainIsThere, PartsFit, SlotsAreInOrder, TextsAreThere, VariablesAreSeen, parts_of}
-use Rattle.stab_code.proofs.Lists.{All-at, All-right}
-use Rattle.stab_code.proofs.Scopes.{named-open-let}
+use Rattle.stab_code.proofs.Lists.{All-at, All-left, All-right}
+
+-- what holds of the slots that a form leaves open or lets holds of those that it names
+module _ (P : ℕ → Type 0) where
+  from_filter : (x : ℕ) (ys : List ℕ) → P x → All P (filter (λ z. not (z == x)) ys) → All P ys
+  from_filter x [] px all = All-nil P
+  from_filter x (y ∷ ys) px all =
+      let others = filter (λ z. not (z == x)) ys in
+      elim (cases_Bool (y == x)) [
+        | inl same ↦ All-cons P y ys (subst P (sym (eqb-true y x same)) px) (from_filter x ys px (rw same at all))
+        | inr apart ↦ let kept : All P (y ∷ others) = rw apart at all in All-cons P y ys (All-head P y others kept) (from_filter x ys px (All-tail P y others kept))
+      ]
+
+  -- what holds of a let's slot and of the others holds of all
+  from_without : (slot : Option ℕ) (ys : List ℕ) → All P (one_or_none slot) → All P (without slot ys) → All P ys
+  from_without None ys own all = all
+  from_without (Some x) ys own all = from_filter x ys (All-head P x [] own) all
+
+  mutual
+    -- a slot that a form names is left open or let
+    named-open-let : (t : Tree) → All P (open_in t) → All P (lets_of t) → All P (named_in t)
+    named-open-let (tree head parts) opened lets =
+        All-append P (one_or_none (variable_of head)) (with_own (slots_of head) (fold_all named_from parts)) (All-left P (one_or_none (variable_of head)) (left_open (slots_of head) (fold_all open_from parts)) opened)
+        (named-parts (slots_of head) parts (All-right P (one_or_none (variable_of head)) (left_open (slots_of head) (fold_all open_from parts)) opened) lets)
+
+    named-parts : (own : List (Option ℕ)) (ts : Trees) → All P (left_open own (fold_all open_from ts)) → All P (with_own own (fold_all lets_from ts)) → All P (with_own own (fold_all named_from ts))
+    named-parts own none opened lets = All-nil P
+    named-parts [] (more t ts) opened lets =
+        All-append P (named_in t) (with_own [] (fold_all named_from ts)) (named-open-let t (All-left P (open_in t) (left_open [] (fold_all open_from ts)) opened) (All-left P (lets_of t) (with_own [] (fold_all lets_from ts)) lets))
+        (named-parts [] ts (All-right P (open_in t) (left_open [] (fold_all open_from ts)) opened) (All-right P (lets_of t) (with_own [] (fold_all lets_from ts)) lets))
+    named-parts (slot ∷ own) (more t ts) opened lets =
+        let its = All-left P (one_or_none slot) (lets_of t ++ with_own own (fold_all lets_from ts)) lets in
+        let others = All-right P (one_or_none slot) (lets_of t ++ with_own own (fold_all lets_from ts)) lets in
+        let unseen = without slot (left_open own (fold_all open_from ts)) in
+        All-append P (one_or_none slot) (named_in t ++ with_own own (fold_all named_from ts)) its
+        (All-append P (named_in t) (with_own own (fold_all named_from ts)) (named-open-let t (All-left P (open_in t) unseen opened) (All-left P (lets_of t) (with_own own (fold_all lets_from ts)) others))
+        (named-parts own ts (from_without slot (left_open own (fold_all open_from ts)) its (All-right P (open_in t) unseen opened)) (All-right P (lets_of t) (with_own own (fold_all lets_from ts)) others)))
 
 module _ (p : ProgramParts) (in_order : SlotsAreInOrder p) (k : ℕ) (f : FunctionParts) (found : slice_get p.functions k ≡ Some f) where
   slots_of_function : range_with_len 0 (arity_of f) ++ lets_of (body_of p f) ≡ range_with_len 0 f.slots

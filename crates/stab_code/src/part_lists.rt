@@ -88,6 +88,7 @@ fn append(parts: &mut Vec<NodeId>, more: &[NodeId]) -> Result<(), NoMemory>
 }
 
 /// Where the list of a number begins.
+#[tactic(auto, using(crate::proofs::Storing::start_behind))]
 fn start(ends: &[usize], i: usize) -> usize
     requires { i < length ends.now }
     ensures { result ≡ start_of 0 ends.now i }

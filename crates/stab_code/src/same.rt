@@ -8,6 +8,7 @@ pub(crate) trait Same {
 }
 
 /// Whether two lists are equal, item by item.
+#[tactic(auto, using(std::proofs::lemmas::List::same_lists))]
 pub(crate) fn all_same<T: Same>(left: &[T], right: &[T]) -> bool
     ensures { IsTrue result ↔ (left.now ≡ right.now) }
 {

@@ -1,5 +1,4 @@
-use Rattle.stab_code.proofs.InOrder.{size_of_bodies, body_there}
-use Rattle.stab_code.proofs.Once.{node-once}
+use Rattle.stab_code.proofs.InOrder.{body_there, node-once, size_of_bodies}
 use Rattle.stab_code.proofs.laws.no_other_nodes.Goals as goal
 
 pub returns : goal.returns

@@ -1,7 +1,7 @@
 -- A list by its number stands between where it begins and where it ends.
 use Rattle.std.proofs.Common.{◌≡◌, ◌<◌, ◌≤◌, length, slice_get, Some, ap, sym, ◌∙◌, arith, rules}
 use Rattle.stab_code.specs.Stored.{start_of}
-use Rattle.stab_code.proofs.Storing.{IsListAt, count_of_lists, list_found}
+use Rattle.stab_code.proofs.Storing.{count_of_lists, list_found}
 use Rattle.stab_code.proofs.part_lists.PartLists.of.Goals as goal
 
 pub start-from-requires : goal.start-from-requires
@@ -14,7 +14,7 @@ bounds : (c : goal.After-deref-2) → (c.start-from.result ≤ c.index-to.result
 bounds c =
     let there = list_found c.self.inside.ends.items c.self.inside.parts.items c.args.self.now c.args.i c.index-to.result.now c.self.invariant c.self.view_is c.requires c.index-to.ensures in
     let from = c.start-from.ensures ∙ ap (λ ends. start_of 0 ends c.args.i) c.deref.ensures.value in
-    (omega (arith, from, there.rises), omega (arith, there.within, ap length c.deref-2.ensures.value))
+    (omega (arith, from, there.0), omega (arith, there.1, ap length c.deref-2.ensures.value))
 
 pub offset_bounds-deref-from : goal.offset_bounds-deref-from
 offset_bounds-deref-from c = omega (arith, (bounds c).0, (bounds c).1)
@@ -31,4 +31,4 @@ slice_bounds-result-end c = let b = bounds c in search rules
 pub returns : goal.returns
 returns c =
     let there = list_found c.self.inside.ends.items c.self.inside.parts.items c.args.self.now c.args.i c.index-to.result.now c.self.invariant c.self.view_is c.requires c.index-to.ensures in
-    rw (c.start-from.ensures, c.deref.ensures.value, c.deref-2.ensures.value, ← c.self.view_is) there.found
+    rw (c.start-from.ensures, c.deref.ensures.value, c.deref-2.ensures.value, ← c.self.view_is) there.2
