@@ -1,5 +1,5 @@
 -- What is stored, as lists and as nodes.
-use Rattle.std.proofs.Common.{◌≡◌, ℕ, zero, suc, ◌+◌, ◌-◌, ◌<◌, ◌≤◌, List, [], ◌∷◌, ◌++◌, length, map, take, drop, get_or, slice_get, Some, refl, ap, ◌∙◌, subst, sym, arith, length-drop, length-append}
+use Rattle.std.proofs.Common.{◌≡◌, ℕ, zero, suc, ◌+◌, ◌-◌, ◌<◌, ◌≤◌, List, [], ◌∷◌, ◌++◌, length, map, take, drop, get_or, slice_get, Some, refl, ap, ◌∙◌, sym, arith, length-drop, length-append}
 use Rattle.std.specs.List.{flat_map, slice_range}
 use Rattle.std.proofs.lemmas.List.{drop_all, length-map, length-take-le, take-append-le, drop-append-le}
 use Rattle.std.proofs.lemmas.Grind.{get_or_tail}

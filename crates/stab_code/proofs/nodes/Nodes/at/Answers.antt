@@ -1,5 +1,5 @@
 -- A node is the head and the parts of its number.
-use Rattle.std.proofs.Common.{◌≡◌, ◌<◌, length, slice_get, Some, ap, sym, ◌∙◌, arith}
+use Rattle.std.proofs.Common.{◌<◌, length, Some, ap, sym, ◌∙◌, arith}
 use Rattle.std.proofs.lemmas.Option.{slice_get-get_or}
 use Rattle.stab_code.proofs.Storing.{count_of_nodes, node_at}
 use Rattle.stab_code.proofs.nodes.Nodes.at.Goals as goal

@@ -1,5 +1,5 @@
 -- A list by its number stands between where it begins and where it ends.
-use Rattle.std.proofs.Common.{◌≡◌, ◌<◌, ◌≤◌, length, slice_get, Some, ap, sym, ◌∙◌, arith, rules}
+use Rattle.std.proofs.Common.{◌≤◌, length, ap, ◌∙◌, arith, rules}
 use Rattle.stab_code.specs.Stored.{start_of}
 use Rattle.stab_code.proofs.Storing.{count_of_lists, list_found}
 use Rattle.stab_code.proofs.part_lists.PartLists.of.Goals as goal
