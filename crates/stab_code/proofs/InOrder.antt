@@ -83,18 +83,13 @@ module _ (m : ℕ) where
       simp (flat_map-append, sum_by-append)
       (omega (arith, first, once-nodes_of_all n parts own refl, before-more own behind (omega arith), once-nodes_of_all behind ts end (omega arith)))
 
-  before-zero : before 0 ≡ 0
-  before-zero = grind (arith, nat_tests)
-
-  before-within : (n : ℕ) → m < n → before n ≡ 1
-  before-within n h = grind (arith, nat_tests)
-
   -- each node is once a part of a node or the body of a function
   pub node-once : (p : ProgramParts) → NodesAreInOrder p → m < length p.nodes → count_by (λ part. part.0 == m) (flat_map (λ node. node.parts) p.nodes ++ bodies_of p) ≡ 1
   node-once p order h =
       let once = once-nodes_of_all 0 (trees_at p (bodies_of p)) (length p.nodes) (omega (arith, size_of_bodies p order)) in
-      simp sum_by-append
-      (omega (arith, rw order.nodes at (rw order.bodies at once), before-zero, before-within (length p.nodes) h))
+      let none : before 0 ≡ 0 = grind (arith, nat_tests) in
+      let all : before (length p.nodes) ≡ 1 = grind (arith, nat_tests) in
+      simp sum_by-append (omega (arith, rw order.nodes at (rw order.bodies at once), none, all))
 
 -- a program whose nodes are those of some trees is in order, and its functions' bodies are these trees
 module _ (p : ProgramParts) (ts : Trees) (nodes : p.nodes ≡ nodes_of_all 0 ts) (bodies : bodies_of p ≡ own_nodes 0 ts) where

@@ -29,10 +29,8 @@ trees_after-keeps trees (x ∷ xs) i h =
 trees_among-keeps : (trees : List Tree) (nodes : List NodeParts) (parts : List NodeId) → All (λ part. part.0 < length trees) parts → trees_among (trees_after trees nodes) parts ≡ trees_among trees parts
 trees_among-keeps trees nodes [] below = refl
 trees_among-keeps trees nodes (m ∷ ms) below =
-    cc (
-      trees_after-keeps trees nodes m.0 (All-head (λ part. part.0 < length trees) m ms below),
-      trees_among-keeps trees nodes ms (All-tail (λ part. part.0 < length trees) m ms below),
-    )
+    let first = trees_after-keeps trees nodes m.0 (All-head (λ part. part.0 < length trees) m ms below) in
+    cc (first, trees_among-keeps trees nodes ms (All-tail (λ part. part.0 < length trees) m ms below))
 
 trees_after-at : (trees : List Tree) (nodes : List NodeParts) (k i : ℕ) (node : NodeParts) → i ≡ length trees + k → slice_get nodes k ≡ Some node → All (λ part. part.0 < i) node.parts → slice_get (trees_after trees nodes) i ≡ Some (its_tree (trees_after trees nodes) node)
 trees_after-at trees [] k i node e found below = cc
