@@ -1,48 +1,41 @@
 -- What the tree of each form has that the definition gives.
-use Rattle.std.proofs.Common.{◌≡◌, ℕ, zero, suc, ◌+◌, ◌-◌, ◌<◌, ◌≤◌, Bool, true, false, List, [], ◌∷◌, ◌++◌, length, Option, Some, None, IfSome, refl, sym, ap, subst, ◌∙◌, arith, length-append, cond, not, ◌||◌, ◌⊎◌, inl, inr}
-use Rattle.std.specs.Prelude.{Result, Ok, Err, IfOk, slice_get, option_map, reverse, min, max, if◌then◌else◌, bytes_eq, nat_le}
-use Rattle.std.specs.List.{All, range_with_len, list_any, position_or_len}
+use Rattle.std.proofs.Common.{◌≡◌, ℕ, zero, suc, ◌+◌, ◌-◌, ◌<◌, ◌≤◌, Bool, true, false, List, [], ◌∷◌, ◌++◌, length, Option, Some, None, IfSome, refl, sym, ap, subst, ◌∙◌, arith, ◌⊎◌, inl, inr}
+use Rattle.std.specs.Prelude.{Ok, Err, IfOk, slice_get, reverse, min, max, if◌then◌else◌, nat_le}
+use Rattle.std.specs.List.{All, range_with_len}
 use Rattle.std.proofs.lemmas.Bool.{true≢false}
-use Rattle.std.proofs.lemmas.Bool.Decides.{eqb_tells, leb_tells}
+use Rattle.std.proofs.lemmas.Bool.Decides.{leb_tells}
 use Rattle.std.proofs.lemmas.List.{length-reverse, reverse-append}
 use Rattle.std.proofs.lemmas.Option.{slice_get_within}
-use Rattle.std.proofs.lemmas.List.Elements.{All-append, All-cons, All-nil}
+use Rattle.std.proofs.lemmas.List.Elements.{All-append, All-nil}
 use Rattle.stab_base.specs.declared.numbers.TextId.{TextId}
 use Rattle.stab_code.specs.declared.head.Head.{Head as Code}
 use Rattle.stab_code.specs.declared.head.Head.TheVariants as code
 use Rattle.stab_code.specs.Heads.{slots_of, text_of, variable_of}
 use Rattle.stab_code.specs.Layout.{size_of as tree_size, size_of_all}
-use Rattle.stab_code.specs.Program.{FunctionParts, arity_of}
+use Rattle.stab_code.specs.Program.{FunctionParts}
 use Rattle.stab_code.specs.Syntax.{deepest, depth_from, depth_of, lets_from, lets_of, left_open, one_or_none, open_from, open_in, with_own}
 use Rattle.stab_code.specs.Trees.{Tree, Trees, tree, none, more}
 use Rattle.stab_code.specs.Valid.{HasItem, parts_of}
 use Rattle.stab_code.proofs.AllForms.{AllForms, AllFormsIn}
-use Rattle.stab_parse.specs.declared.symbol.ActWord.{ActWord}
-use Rattle.stab_parse.specs.declared.symbol.ActWord.TheVariants as word
-use Rattle.stab_parse.specs.declared.symbol.CallWord.TheVariants.{Spawn, Stable}
 use Rattle.stab_parse.specs.declared.symbol.Span.{Span}
 use Rattle.stab_parse.specs.declared.tree.Function.{Function}
 use Rattle.stab_parse.specs.declared.tree.Head.{Head}
 use Rattle.stab_parse.specs.declared.tree.Head.TheVariants as head
 use Rattle.stab_parse.specs.Forms.{Form, form, Parts, no_parts, next_part}
 use Rattle.stab_parse.specs.FormList.{depth_of as form_depth, depth_of_parts as parts_depth}
-use Rattle.scope_check.specs.declared.fault.ScopeFault.{ScopeFault}
-use Rattle.scope_check.specs.declared.fault.ScopeFault.TheVariants.{Arity, TooMany}
+use Rattle.scope_check.specs.declared.fault.ScopeFault.TheVariants.{TooMany}
 use Rattle.scope_check.specs.declared.seen.Variable.{Variable}
-use Rattle.scope_check.specs.Forms.{number_of, items_of, act_of}
-use Rattle.scope_check.specs.Limits.{max_lets, max_texts}
-use Rattle.scope_check.specs.Names.{named, text_at, slot_of, is_same}
+use Rattle.scope_check.specs.Forms.{number_of, items_of}
+use Rattle.scope_check.specs.Limits.{max_lets}
+use Rattle.scope_check.specs.Names.{named}
 use Rattle.scope_check.specs.Placed.{size_of, size_of_parts}
-use Rattle.scope_check.specs.Scope.{after, in_order, Met, Behind, behind, part_met, form_scoped, parts_scoped, head_met, with_slots, let_numbered, slot_found, callee_found, function_named, has_arity, text_numbered}
-use Rattle.scope_check.specs.Sound.{Fits, IsSound, AreSound, operands}
+use Rattle.scope_check.specs.Scope.{after, in_order, Met, Behind, behind, part_met, form_scoped, parts_scoped, head_met, with_slots, let_numbered}
+use Rattle.scope_check.specs.Sound.{Fits, IsSound, AreSound}
 use Rattle.scope_check.proofs.Joined.{count-in_order, join, in_order-join, size-join}
-use Rattle.scope_check.proofs.OwnSlots.{values, values-next, length-values, deepest-last, with_own-item, with_own-last, IsAmong, among-left, among-last, Left, All-mapped, open-last, open-item, range-join}
+use Rattle.scope_check.proofs.OwnSlots.{values, values-next, length-values, deepest-last, AreSame, no-lets, with_own-item, with_own-last, IsAmong, among-left, among-last, Left, All-mapped, open-last, open-item, range-join}
 use Rattle.scope_check.proofs.After.{IfOk-after}
-
--- the slot is one of those that are seen
-abbrev pub IsSeen : ℕ → List Variable → Type 0
-IsSeen y [] = ⊥
-IsSeen y (x ∷ seen) = (y ≡ x.slot) ⊎ IsSeen y seen
+use Rattle.scope_check.proofs.Made.{slots-known}
+use Rattle.scope_check.proofs.HeadFacts.{Agree, FormFits, Grew, HeadFacts, IsSeen, grew-on, grew-same, head-facts}
 
 -- ---- all forms of trees one after another
 
@@ -52,45 +45,6 @@ AllForms-join P (more t a) b ha hb = (ha.0, AllForms-join P a b ha.1 hb)
 
 pub AllForms-next : (P : Code → ℕ → Type 0) (t : Tree) (xs : List Tree) → AllForms P t → AllFormsIn P (in_order xs) → AllFormsIn P (in_order (t ∷ xs))
 AllForms-next P t xs own all = subst (AllFormsIn P) (sym (in_order-join xs (more t none))) (AllForms-join P (in_order xs) (more t none) all (own, tt))
-
--- ---- texts
-
--- how the texts grew
-pub record Grew (before after : List (List ℕ)) : Type 0 where
-  pub more : length before ≤ length after
-  pub within : length before ≤ max_texts → length after ≤ max_texts
-
-found-case : (b : Bool) (text : List ℕ) (texts : List (List ℕ)) → (list_any (bytes_eq text) texts ≡ true → position_or_len (bytes_eq text) texts < length texts) → (b || list_any (bytes_eq text) texts) ≡ true → cond (not b) (1 + position_or_len (bytes_eq text) texts) 0 < suc (length texts)
-found-case true text texts below e = omega arith
-found-case false text texts below e = let h = below e in omega arith
-
-found-below : (text : List ℕ) (texts : List (List ℕ)) → list_any (bytes_eq text) texts ≡ true → position_or_len (bytes_eq text) texts < length texts
-found-below text [] e = absurd cc
-found-below text (x ∷ texts) e = found-case (bytes_eq text x) text texts (found-below text texts) e
-
--- the number of a text that was found or added
-record Numbered (texts : List (List ℕ)) (n : ℕ × List (List ℕ)) : Type 0 where
-  pub below : n.0 < length n.1
-  pub grew : Grew texts n.1
-
-few : (n m : ℕ) → n < max_texts → m ≡ n + 1 → m ≤ max_texts
-few n m h e = omega arith
-
-numbered-case : (span : Span) (text : List ℕ) (texts : List (List ℕ)) (there full : Bool) → list_any (bytes_eq text) texts ≡ there → nat_le max_texts (length texts) ≡ full → IfOk (if there then Ok (position_or_len (bytes_eq text) texts, texts) else if full then Err (TooMany span.start) else Ok (length texts, texts ++ text ∷ [])) (Numbered texts)
-numbered-case span text texts true full e f = record { below = found-below text texts e; grew = record { more = omega arith; within = λ h. h } }
-numbered-case span text texts false true e f = tt
-numbered-case span text texts false false e f =
-    let some : length (texts ++ text ∷ []) ≡ length texts + 1 = length-append texts (text ∷ []) in
-    record { below = omega arith; grew = record { more = omega arith; within = λ h. few (length texts) (length (texts ++ text ∷ [])) (elim (leb_tells max_texts (length texts)) [ inl w ↦ absurd (true≢false (sym w.0 ∙ f)) | inr w ↦ w.1 ]) some } }
-
-text-numbered : (span : Span) (text : List ℕ) (texts : List (List ℕ)) → IfOk (text_numbered span text texts) (Numbered texts)
-text-numbered span text texts = numbered-case span text texts (list_any (bytes_eq text) texts) (nat_le max_texts (length texts)) refl refl
-
-grew-same : (texts : List (List ℕ)) → Grew texts texts
-grew-same texts = record { more = omega arith; within = λ h. h }
-
-grew-on : (a b c : List (List ℕ)) → Grew a b → Grew b c → Grew a c
-grew-on a b c g h = record { more = let m = g.more in let n = h.more in omega arith; within = λ w. h.within (g.within w) }
 
 -- ---- lets in a row
 
@@ -124,157 +78,6 @@ let-case arity name met false e = record {
 
 let-facts : (arity : ℕ) (name : Span) (met : Met) → IfOk (let_numbered arity name met) (Let arity met)
 let-facts arity name met = let-case arity name met (nat_le max_lets met.lets) refl
-
--- ---- the head of a form
-
--- the functions of a program take as many arguments as those of the syntax
-abbrev pub Agree : List Function → List FunctionParts → Type 0
-Agree fs functions = (n : ℕ) → option_map arity_of (slice_get functions n) ≡ option_map (λ f. length f.params) (slice_get fs n)
-
-abbrev pub FormFits : List FunctionParts → ℕ → Code → ℕ → Type 0
-FormFits functions texts h parts = (parts_of functions h ≡ Some parts) × IfSome (text_of h) (λ t. t.0 < texts) × HasItem h
-
-pub record HeadFacts (fs : List Function) (seen : List Variable) (met : Met) (parts : ℕ) (own : Code × Met) : Type 0 where
-  pub fits : (functions : List FunctionParts) → Agree fs functions → parts_of functions own.0 ≡ Some parts
-  pub text : IfSome (text_of own.0) (λ t. t.0 < length own.1.texts)
-  pub item : HasItem own.0
-  pub slots : slots_of own.0 ≡ []
-  pub plain : (slots : List (Option ℕ)) → with_slots slots own.0 ≡ own.0
-  pub named : All (λ y. IsSeen y seen) (one_or_none (variable_of own.0))
-  pub lets : own.1.lets ≡ met.lets
-  pub texts : Grew met.texts own.1.texts
-
--- a head that names nothing
-record Simple (h : Code) (parts : ℕ) : Type 0 where
-  fits : (functions : List FunctionParts) → parts_of functions h ≡ Some parts
-  text : text_of h ≡ None
-  item : HasItem h
-  slots : slots_of h ≡ []
-  plain : (slots : List (Option ℕ)) → with_slots slots h ≡ h
-  named : variable_of h ≡ None
-
-simple-act : (w : ActWord) → Simple (act_of w) (operands w)
-simple-act word.Ref = record { fits = λ _. refl; text = refl; item = tt; slots = refl; plain = λ _. refl; named = refl }
-simple-act word.Get = record { fits = λ _. refl; text = refl; item = tt; slots = refl; plain = λ _. refl; named = refl }
-simple-act word.Recv = record { fits = λ _. refl; text = refl; item = tt; slots = refl; plain = λ _. refl; named = refl }
-simple-act word.Print = record { fits = λ _. refl; text = refl; item = tt; slots = refl; plain = λ _. refl; named = refl }
-simple-act word.Fst = record { fits = λ _. refl; text = refl; item = tt; slots = refl; plain = λ _. refl; named = refl }
-simple-act word.Snd = record { fits = λ _. refl; text = refl; item = tt; slots = refl; plain = λ _. refl; named = refl }
-simple-act word.Set = record { fits = λ _. refl; text = refl; item = tt; slots = refl; plain = λ _. refl; named = refl }
-simple-act word.Send = record { fits = λ _. refl; text = refl; item = tt; slots = refl; plain = λ _. refl; named = refl }
-simple-act word.Pick = record { fits = λ _. refl; text = refl; item = tt; slots = refl; plain = λ _. refl; named = refl }
-simple-act word.Stabilize = record { fits = λ _. refl; text = refl; item = tt; slots = refl; plain = λ _. refl; named = refl }
-simple-act word.Cut = record { fits = λ _. refl; text = refl; item = tt; slots = refl; plain = λ _. refl; named = refl }
-simple-act word.Probe = record { fits = λ _. refl; text = refl; item = tt; slots = refl; plain = λ _. refl; named = refl }
-simple-act word.Pin = record { fits = λ _. refl; text = refl; item = tt; slots = refl; plain = λ _. refl; named = refl }
-simple-act word.Attempt = record { fits = λ _. refl; text = refl; item = tt; slots = refl; plain = λ _. refl; named = refl }
-
--- a head that names the function with this number
-record Calls (own : ℕ → Code) (n : ℕ) : Type 0 where
-  fits : (functions : List FunctionParts) → parts_of functions (own n) ≡ option_map arity_of (slice_get functions n)
-  text : text_of (own n) ≡ None
-  item : HasItem (own n)
-  slots : slots_of (own n) ≡ []
-  plain : (slots : List (Option ℕ)) → with_slots slots (own n) ≡ own n
-  named : variable_of (own n) ≡ None
-
--- the slot of a name is one of those that are seen
-slot-case : (x : Variable) (xs : List Variable) (same : Bool) (o : Option ℕ) → IfSome o (λ y. IsSeen y xs) → IfSome (if same then Some x.slot else o) (λ y. IsSeen y (x ∷ xs))
-slot-case x xs true o rest = inl refl
-slot-case x xs false None rest = tt
-slot-case x xs false (Some slot) rest = inr rest
-
-slot-seen : (bytes : List ℕ) (name : Span) (seen : List Variable) → IfSome (slot_of bytes seen name) (λ y. IsSeen y seen)
-slot-seen bytes name [] = tt
-slot-seen bytes name (x ∷ xs) = slot-case x xs (is_same bytes x.name name) (slot_of bytes xs name) (slot-seen bytes name xs)
-
--- a function that takes so many arguments
-pub arity-is : (found : Option Function) (n : ℕ) → has_arity found n ≡ true → option_map (λ f. length f.params) found ≡ Some n
-arity-is None n e = absurd cc
-arity-is (Some f) n e = elim (eqb_tells (length f.params) n) [ inl w ↦ ap Some w.1 | inr w ↦ absurd (true≢false (sym e ∙ w.0)) ]
-
-module _ (fs : List Function) (seen : List Variable) (met : Met) (parts : ℕ) where
-  abbrev Facts : Code × Met → Type 0
-  Facts = HeadFacts fs seen met parts
-
-  simple : (h : Code) (n : ℕ) → parts ≡ n → Simple h n → Facts (h, met)
-  simple h n e s = record {
-    fits = λ functions agree. s.fits functions ∙ ap Some (sym e);
-    text = subst (λ o. IfSome o (λ t. t.0 < length met.texts)) (sym s.text) tt;
-    item = s.item;
-    slots = s.slots;
-    plain = s.plain;
-    named = subst (λ o. All (λ y. IsSeen y seen) (one_or_none o)) (sym s.named) (All-nil (λ y. IsSeen y seen));
-    lets = refl;
-    texts = grew-same met.texts;
-  }
-
-  text-facts : (m : Result (ℕ × List (List ℕ)) ScopeFault) → parts ≡ 0 → IfOk m (Numbered met.texts) → IfOk (after m (λ text. Ok (code.Text (record { 0 = text.0 }), record met { texts = text.1 }))) Facts
-  text-facts (Ok n) e facts = record {
-    fits = λ functions agree. ap Some (sym e);
-    text = facts.below;
-    item = tt;
-    slots = refl;
-    plain = λ _. refl;
-    named = All-nil (λ y. IsSeen y seen);
-    lets = refl;
-    texts = facts.grew;
-  }
-  text-facts (Err f) e facts = tt
-
-  variable-case : (name : Span) (o : Option ℕ) → parts ≡ 0 → IfSome o (λ y. IsSeen y seen) → IfOk (after (slot_found name o) (λ slot. Ok (code.Var slot, met))) Facts
-  variable-case name None e from = tt
-  variable-case name (Some slot) e from = record {
-    fits = λ functions agree. ap Some (sym e);
-    text = tt;
-    item = tt;
-    slots = refl;
-    plain = λ _. refl;
-    named = All-cons (λ y. IsSeen y seen) slot [] from (All-nil (λ y. IsSeen y seen));
-    lets = refl;
-    texts = grew-same met.texts;
-  }
-
-  arity-case : (own : ℕ → Code) (n : ℕ) → Calls own n → (name : Span) (right : Bool) → has_arity (slice_get fs n) parts ≡ right → IfOk (after (if right then Ok n else Err (Arity name.start)) (λ f. Ok (own f, met))) Facts
-  arity-case own n calls name true e = record {
-    fits = λ functions agree. calls.fits functions ∙ agree n ∙ arity-is (slice_get fs n) parts e;
-    text = subst (λ o. IfSome o (λ t. t.0 < length met.texts)) (sym calls.text) tt;
-    item = calls.item;
-    slots = calls.slots;
-    plain = calls.plain;
-    named = subst (λ o. All (λ y. IsSeen y seen) (one_or_none o)) (sym calls.named) (All-nil (λ y. IsSeen y seen));
-    lets = refl;
-    texts = grew-same met.texts;
-  }
-  arity-case own n calls name false e = tt
-
-  -- a call of a function that takes so many arguments
-  callee-case : (own : ℕ → Code) → ((n : ℕ) → Calls own n) → (name : Span) (o : Option ℕ) → IfOk (after (callee_found fs name parts o) (λ f. Ok (own f, met))) Facts
-  callee-case own calls name None = tt
-  callee-case own calls name (Some n) = arity-case own n (calls n) name (has_arity (slice_get fs n) parts) refl
-
-head-facts : (bytes : List ℕ) (fs : List Function) (seen : List Variable) (met : Met) (h : Head) (parts : ℕ) → Fits bytes h parts → items_of h ≡ [] → IfOk (head_met bytes fs seen met h parts) (HeadFacts fs seen met parts)
-head-facts bytes fs seen met head.Unit parts fits e = simple fs seen met parts code.Unit 0 fits (record { fits = λ _. refl; text = refl; item = tt; slots = refl; plain = λ _. refl; named = refl })
-head-facts bytes fs seen met (head.Truth b) parts fits e = simple fs seen met parts (code.Truth b) 0 fits (record { fits = λ _. refl; text = refl; item = tt; slots = refl; plain = λ _. refl; named = refl })
-head-facts bytes fs seen met (head.Int n) parts fits e = simple fs seen met parts (code.Int n) 0 fits (record { fits = λ _. refl; text = refl; item = tt; slots = refl; plain = λ _. refl; named = refl })
-head-facts bytes fs seen met (head.Text span) parts fits e =
-    text-facts fs seen met parts (text_numbered span (text_at bytes span) met.texts) fits.0 (text-numbered span (text_at bytes span) met.texts)
-head-facts bytes fs seen met (head.Variable name) parts fits e =
-    variable-case fs seen met parts name (slot_of bytes seen name) fits (slot-seen bytes name seen)
-head-facts bytes fs seen met (head.Block names) parts fits e = let some = fits.0 in absurd (omega (arith, ap length e))
-head-facts bytes fs seen met head.If parts fits e = simple fs seen met parts code.If 3 fits (record { fits = λ _. refl; text = refl; item = tt; slots = refl; plain = λ _. refl; named = refl })
-head-facts bytes fs seen met (head.Two op) parts fits e = simple fs seen met parts (code.Two op) 2 fits (record { fits = λ _. refl; text = refl; item = tt; slots = refl; plain = λ _. refl; named = refl })
-head-facts bytes fs seen met head.Not parts fits e = simple fs seen met parts code.Not 1 fits (record { fits = λ _. refl; text = refl; item = tt; slots = refl; plain = λ _. refl; named = refl })
-head-facts bytes fs seen met head.Neg parts fits e = simple fs seen met parts code.Neg 1 fits (record { fits = λ _. refl; text = refl; item = tt; slots = refl; plain = λ _. refl; named = refl })
-head-facts bytes fs seen met head.Pair parts fits e = simple fs seen met parts code.Pair 2 fits (record { fits = λ _. refl; text = refl; item = tt; slots = refl; plain = λ _. refl; named = refl })
-head-facts bytes fs seen met (head.Call name) parts fits e =
-    callee-case fs seen met parts (λ f. code.Call (record { 0 = f })) (λ n. record { fits = λ _. refl; text = refl; item = tt; slots = refl; plain = λ _. refl; named = refl }) name (function_named bytes fs (named bytes name))
-head-facts bytes fs seen met (head.Start Spawn name) parts fits e =
-    callee-case fs seen met parts (λ f. code.Spawn (record { 0 = f })) (λ n. record { fits = λ _. refl; text = refl; item = tt; slots = refl; plain = λ _. refl; named = refl }) name (function_named bytes fs (named bytes name))
-head-facts bytes fs seen met (head.Start Stable name) parts fits e =
-    callee-case fs seen met parts (λ f. code.Stable (record { 0 = f })) (λ n. record { fits = λ _. refl; text = refl; item = tt; slots = refl; plain = λ _. refl; named = refl }) name (function_named bytes fs (named bytes name))
-head-facts bytes fs seen met (head.NewChan ty) parts fits e = simple fs seen met parts (code.NewChan ty) 0 fits (record { fits = λ _. refl; text = refl; item = tt; slots = refl; plain = λ _. refl; named = refl })
-head-facts bytes fs seen met (head.Act w) parts fits e = simple fs seen met parts (act_of w) (operands w) fits (simple-act w)
 
 plus-none : (n : ℕ) → n + 0 ≡ n
 plus-none n = omega arith
@@ -341,16 +144,16 @@ module _ (fs : List Function) (arity : ℕ) where
 
   -- a form whose parts are complete
   finish : (seen : List Variable) (met : Met) (at : ℕ) (h : Head) (parts : Parts) (own : Met) (d : Behind) (head : Code) → PartsFacts (items_of h) seen own parts d → own.lets ≡ met.lets → Grew met.texts own.texts
-      → slots_of head ≡ reverse d.slots → ((functions : List FunctionParts) → Agree fs functions → parts_of functions head ≡ Some (number_of parts)) → IfSome (text_of head) (λ t. t.0 < length own.texts) → HasItem head
+      → AreSame (slots_of head) (reverse d.slots) → ((functions : List FunctionParts) → Agree fs functions → parts_of functions head ≡ Some (number_of parts)) → IfSome (text_of head) (λ t. t.0 < length own.texts) → HasItem head
       → All (λ y. IsSeen y seen) (one_or_none (variable_of head)) → FormFacts seen met (form at h parts) (tree head (in_order d.trees), d.met)
   finish seen met at h parts own d head facts lets texts slots fits text item named = record {
     depth = omega (arith, facts.depth);
     size = omega (arith, facts.size);
     more = omega (arith, facts.more);
     few = λ h. facts.few (subst (λ n. n ≤ max_lets) (sym lets) h);
-    lets = ap (λ l. with_own l (values lets_from d.trees)) slots ∙ facts.lets ∙ ap (λ n. range_with_len (arity + n) (d.met.lets - n)) lets;
+    lets = slots.lets (values lets_from d.trees) ∙ facts.lets ∙ ap (λ n. range_with_len (arity + n) (d.met.lets - n)) lets;
     opened = All-append (λ y. IsSeen y seen) (one_or_none (variable_of head)) (left_open (slots_of head) (values open_from d.trees)) named
-        (subst (λ l. All (λ y. IsSeen y seen) (left_open l (values open_from d.trees))) (sym slots) facts.opened);
+        (subst (All (λ y. IsSeen y seen)) (sym (slots.opened (values open_from d.trees))) facts.opened);
     forms = λ functions agree n h. ((fits functions agree ∙ ap Some (sym (count-in_order d.trees none ∙ plus-none (length d.trees) ∙ facts.count)), text-below (text_of head) (length own.texts) n (below n h facts.texts.more) text, item), facts.forms functions agree n h);
     texts = grew-on met.texts own.texts d.met.texts texts facts.texts;
   }
@@ -494,14 +297,16 @@ module _ (fs : List Function) (arity : ℕ) where
         IfOk-after (form_scoped bytes fs arity d.seen x.1 f) (λ t. Ok (behind (t.0 ∷ d.trees) (x.0 ∷ d.seen) (Some x.0.slot ∷ d.slots) t.1)) (FormFacts d.seen x.1 f) (PartsFacts names seen met (next_part ps f))
         (own d.seen x.1) (λ t h. next-let names seen met ps f d x t (slice_get_within names (number_of ps) (Some name) e) facts own-let h))
 
-    block-facts : (at : ℕ) (names : List (Option Span)) (parts : Parts) → Fits bytes (head.Block names) (number_of parts) → (seen : List Variable) (met : Met)
-        → IfOk (parts_scoped bytes fs arity names (behind [] seen [] met) parts) (PartsFacts names seen met parts) → IfOk (form_scoped bytes fs arity seen met (form at (head.Block names) parts)) (FormFacts seen met (form at (head.Block names) parts))
+    block-facts : (at : ℕ) (names : List (Option Span)) (parts : Parts) → Fits bytes (head.LetBlock names) (number_of parts) → (seen : List Variable) (met : Met)
+        → IfOk (parts_scoped bytes fs arity names (behind [] seen [] met) parts) (PartsFacts names seen met parts)
+        → IfOk (form_scoped bytes fs arity seen met (form at (head.LetBlock names) parts)) (FormFacts seen met (form at (head.LetBlock names) parts))
     block-facts at names parts fits seen met all =
-        IfOk-after (parts_scoped bytes fs arity names (behind [] seen [] met) parts) (λ d. Ok (tree (code.Block (reverse d.slots)) (in_order d.trees), d.met)) (PartsFacts names seen met parts) (FormFacts seen met (form at (head.Block names) parts))
+        IfOk-after (parts_scoped bytes fs arity names (behind [] seen [] met) parts) (λ d. Ok (tree (with_slots d.slots (code.Block [])) (in_order d.trees), d.met)) (PartsFacts names seen met parts) (FormFacts seen met (form at (head.LetBlock names) parts))
         all (λ d facts.
         let full : length (reverse d.slots) ≡ length names = full-block d names (number_of parts) facts.slots fits.1 in
-        finish seen met at (head.Block names) parts met d (code.Block (reverse d.slots)) facts refl (grew-same met.texts) refl
-        (λ functions agree. ap (λ n. Some (n + 1)) full ∙ ap Some (sym fits.1)) tt (subst (λ n. 0 < n) (sym full) fits.0) (All-nil (λ y. IsSeen y seen)))
+        subst (λ c. FormFacts seen met (form at (head.LetBlock names) parts) (tree c (in_order d.trees), d.met)) (sym (slots-known d.slots))
+        (finish seen met at (head.LetBlock names) parts met d (code.Block (reverse d.slots)) facts refl (grew-same met.texts) (record { lets = λ _. refl; opened = λ _. refl })
+        (λ functions agree. ap (λ n. Some (n + 1)) full ∙ ap Some (sym fits.1)) tt (subst (λ n. 0 < n) (sym full) fits.0) (All-nil (λ y. IsSeen y seen))))
 
     plain-facts : (at : ℕ) (h : Head) (parts : Parts) → Fits bytes h (number_of parts) → (seen : List Variable) (met : Met) → items_of h ≡ []
         → ((m : Met) → IfOk (parts_scoped bytes fs arity (items_of h) (behind [] seen [] m) parts) (PartsFacts (items_of h) seen m parts)) → IfOk (form_scoped bytes fs arity seen met (form at h parts)) (FormFacts seen met (form at h parts))
@@ -510,12 +315,14 @@ module _ (fs : List Function) (arity : ℕ) where
         (head-facts bytes fs seen met h (number_of parts) fits nil) (λ own hf.
         IfOk-after (parts_scoped bytes fs arity (items_of h) (behind [] seen [] own.1) parts) (λ d. Ok (tree (with_slots d.slots own.0) (in_order d.trees), d.met)) (PartsFacts (items_of h) seen own.1 parts) (FormFacts seen met (form at h parts))
         (all own.1) (λ d facts.
-        subst (λ c. FormFacts seen met (form at h parts) (tree c (in_order d.trees), d.met)) (sym (hf.plain d.slots))
-        (finish seen met at h parts own.1 d own.0 facts hf.lets hf.texts (hf.slots ∙ sym (ap reverse (no-slots d (items_of h) (number_of parts) facts.slots nil))) hf.fits hf.text hf.item hf.named)))
+        let empty : d.slots ≡ [] = no-slots d (items_of h) (number_of parts) facts.slots nil in
+        subst (λ s. FormFacts seen met (form at h parts) (tree (with_slots s own.0) (in_order d.trees), d.met)) (sym empty)
+        (finish seen met at h parts own.1 d own.0 facts hf.lets hf.texts (no-lets (slots_of own.0) d.slots hf.slots.0 hf.slots.1 empty) hf.fits hf.text hf.item hf.named)))
 
     form-case : (at : ℕ) (h : Head) (parts : Parts) → Fits bytes h (number_of parts) → (seen : List Variable) (met : Met)
         → ((m : Met) → IfOk (parts_scoped bytes fs arity (items_of h) (behind [] seen [] m) parts) (PartsFacts (items_of h) seen m parts)) → IfOk (form_scoped bytes fs arity seen met (form at h parts)) (FormFacts seen met (form at h parts))
-    form-case at (head.Block names) parts fits seen met all = block-facts at names parts fits seen met (all met)
+    form-case at (head.LetBlock names) parts fits seen met all = block-facts at names parts fits seen met (all met)
+    form-case at head.Block parts fits seen met all = plain-facts at head.Block parts fits seen met refl all
     form-case at head.Unit parts fits seen met all = plain-facts at head.Unit parts fits seen met refl all
     form-case at (head.Truth b) parts fits seen met all = plain-facts at (head.Truth b) parts fits seen met refl all
     form-case at (head.Int n) parts fits seen met all = plain-facts at (head.Int n) parts fits seen met refl all

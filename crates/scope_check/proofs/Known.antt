@@ -40,7 +40,8 @@ module _ (bytes : List ℕ) where
   text-head (head.Truth b) parts fits = tt
   text-head (head.Int n) parts fits = tt
   text-head (head.Variable name) parts fits = tt
-  text-head (head.Block names) parts fits = tt
+  text-head head.Block parts fits = tt
+  text-head (head.LetBlock names) parts fits = tt
   text-head head.If parts fits = tt
   text-head (head.Two op) parts fits = tt
   text-head head.Not parts fits = tt

@@ -4,6 +4,7 @@ pub mod Characters
 pub mod Declared
 pub mod Facts
 pub mod Functions
+pub mod HeadFacts
 pub mod Joined
 pub mod Known
 pub mod Made

@@ -24,16 +24,12 @@ use Rattle.stab_parse.specs.Moves.{node_of as form_node}
 use Rattle.scope_check.specs.declared.fault.ScopeFault.{ScopeFault}
 use Rattle.scope_check.specs.declared.progress.Progress.{Progress}
 use Rattle.scope_check.specs.declared.seen.Variable.{Variable}
-use Rattle.stab_parse.specs.declared.symbol.ActWord.{ActWord}
-use Rattle.stab_parse.specs.declared.symbol.ActWord.TheVariants as word
-use Rattle.stab_parse.specs.declared.symbol.CallWord.TheVariants.{Spawn, Stable}
-use Rattle.scope_check.specs.Forms.{act_of, is_block, items_of, number_of}
-use Rattle.scope_check.specs.Names.{slot_of, text_at}
+use Rattle.scope_check.specs.Forms.{has_lets, items_of, number_of}
 use Rattle.scope_check.specs.Made.{Adds, AddsParts, ArePartsMade, IsFormFault, IsFormMade, IsPartMade, IsPartFault, IsPartsFault, nodes_now, parts_now, part_now, scoped_now}
 use Rattle.scope_check.specs.Placed.{size_of_parts}
 use Rattle.scope_check.specs.Places.{IsAt, own_number, own_numbers, part_lists}
 use Rattle.scope_check.specs.Progress.{IsFaultOf, met_of, seen_of}
-use Rattle.scope_check.specs.Scope.{Behind, Met, after, callee_of, slot_found, text_numbered, behind, form_scoped, head_met, in_order, let_numbered, part_met, parts_scoped, with_slots}
+use Rattle.scope_check.specs.Scope.{Behind, Met, after, behind, form_scoped, head_met, in_order, let_numbered, part_met, parts_scoped, with_slots}
 use Rattle.scope_check.proofs.Added.{added-count, adds-next, adds-whole, node_added, whole_added}
 use Rattle.scope_check.proofs.Places.{at-within, count-is, followed, length-own_numbers, node-at, own-at, part-at, parts-at}
 
@@ -62,14 +58,15 @@ fault-second m a step fault e h = elim h [ inl memory ↦ inl memory | inr s ↦
 pub fault-same : {A : Type 0} (a b : Result A ScopeFault) (fault : ScopeFault) → a ≡ b → IsFaultOf b fault → IsFaultOf a fault
 fault-same a b fault e h = subst (λ r. IsFaultOf r fault) (sym e) h
 
--- a form that isn't a block has no items
-pub no-items : (h : Head) → is_block h ≡ false → items_of h ≡ []
+-- a form that isn't a block with lets has no names
+pub no-items : (h : Head) → has_lets h ≡ false → items_of h ≡ []
 no-items kind.Unit e = refl
 no-items (kind.Truth b) e = refl
 no-items (kind.Int n) e = refl
 no-items (kind.Text span) e = refl
 no-items (kind.Variable name) e = refl
-no-items (kind.Block names) e = absurd (true≢false e)
+no-items kind.Block e = refl
+no-items (kind.LetBlock names) e = absurd (true≢false e)
 no-items kind.If e = refl
 no-items (kind.Two op) e = refl
 no-items kind.Not e = refl
@@ -80,66 +77,18 @@ no-items (kind.Start word name) e = refl
 no-items (kind.NewChan ty) e = refl
 no-items (kind.Act word) e = refl
 
-pub no-item : (h : Head) (i : ℕ) → is_block h ≡ false → None ≡ slice_get (items_of h) i
+pub no-item : (h : Head) (i : ℕ) → has_lets h ≡ false → None ≡ slice_get (items_of h) i
 no-item h i e = ap (λ items. slice_get items i) (sym (no-items h e))
 
--- nor has its head slots
-abbrev met_head : Code → Met → Result (Code × Met) ScopeFault
-met_head c met = Ok (c, met)
-
-act-slots : (w : ActWord) → with_slots [] (act_of w) ≡ act_of w
-act-slots word.Ref = refl
-act-slots word.Get = refl
-act-slots word.Recv = refl
-act-slots word.Print = refl
-act-slots word.Fst = refl
-act-slots word.Snd = refl
-act-slots word.Set = refl
-act-slots word.Send = refl
-act-slots word.Pick = refl
-act-slots word.Stabilize = refl
-act-slots word.Cut = refl
-act-slots word.Probe = refl
-act-slots word.Pin = refl
-act-slots word.Attempt = refl
-
-abbrev head_of : Result (Code × Met) ScopeFault → Code
-head_of (Ok own) = own.0
-head_of (Err fault) = code.Unit
-
-slots-same : (d c : Code) (met m : Met) → with_slots [] d ≡ d → met_head d met ≡ met_head c m → with_slots [] c ≡ c
-slots-same d c met m e same = subst (λ x. with_slots [] x ≡ x) (ap head_of same) e
-
-slots-behind : {A : Type 0} (r : Result A ScopeFault) (d : A → Code) (met : A → Met) (c : Code) (m : Met) → ((a : A) → with_slots [] (d a) ≡ d a) → after r (λ a. met_head (d a) (met a)) ≡ met_head c m → with_slots [] c ≡ c
-slots-behind (Ok a) d met c m free same = slots-same (d a) c (met a) m (free a) same
-slots-behind (Err fault) d met c m free same = absurd cc
-
-pub no-slots : (bytes : List ℕ) (fs : List Function) (h : Head) (k : ℕ) (seen : List Variable) (met : Met) (c : Code) (m : Met) → is_block h ≡ false → head_met bytes fs seen met h k ≡ Ok (c, m) → with_slots [] c ≡ c
-no-slots bytes fs kind.Unit k seen met c m e is = slots-same code.Unit c met m refl is
-no-slots bytes fs (kind.Truth b) k seen met c m e is = slots-same (code.Truth b) c met m refl is
-no-slots bytes fs (kind.Int v) k seen met c m e is = slots-same (code.Int v) c met m refl is
-no-slots bytes fs (kind.Text span) k seen met c m e is =
-    slots-behind (text_numbered span (text_at bytes span) met.texts) (λ text. code.Text (record { 0 = text.0 })) (λ text. record met { texts = text.1 }) c m (λ text. refl) is
-no-slots bytes fs (kind.Variable name) k seen met c m e is = slots-behind (slot_found name (slot_of bytes seen name)) (λ slot. code.Var slot) (λ slot. met) c m (λ slot. refl) is
-no-slots bytes fs (kind.Block names) k seen met c m e is = absurd (true≢false e)
-no-slots bytes fs kind.If k seen met c m e is = slots-same code.If c met m refl is
-no-slots bytes fs (kind.Two op) k seen met c m e is = slots-same (code.Two op) c met m refl is
-no-slots bytes fs kind.Not k seen met c m e is = slots-same code.Not c met m refl is
-no-slots bytes fs kind.Neg k seen met c m e is = slots-same code.Neg c met m refl is
-no-slots bytes fs kind.Pair k seen met c m e is = slots-same code.Pair c met m refl is
-no-slots bytes fs (kind.Call name) k seen met c m e is =
-    slots-behind (callee_of bytes fs name k) (λ f. code.Call (record { 0 = f })) (λ f. met) c m (λ f. refl) is
-no-slots bytes fs (kind.Start Spawn name) k seen met c m e is =
-    slots-behind (callee_of bytes fs name k) (λ f. code.Spawn (record { 0 = f })) (λ f. met) c m (λ f. refl) is
-no-slots bytes fs (kind.Start Stable name) k seen met c m e is =
-    slots-behind (callee_of bytes fs name k) (λ f. code.Stable (record { 0 = f })) (λ f. met) c m (λ f. refl) is
-no-slots bytes fs (kind.NewChan ty) k seen met c m e is = slots-same (code.NewChan ty) c met m refl is
-no-slots bytes fs (kind.Act w) k seen met c m e is = slots-same (act_of w) c met m (act-slots w) is
+-- the slots of a block with lets are those of its items
+pub slots-known : (slots : List (Option ℕ)) → with_slots slots (code.Block []) ≡ code.Block (reverse slots)
+slots-known [] = refl
+slots-known (slot ∷ slots) = refl
 
 below-last : (i n : ℕ) → i < n + 1 → (i ≡ n → ⊥) → i < n
 below-last i n h other = omega (arith, other)
 
-sizes-in : (first s n : ℕ) → first + (s + 1) ≤ n → n < 2 ^ 32 → s < 2 ^ 32
+pub sizes-in : (first s n : ℕ) → first + (s + 1) ≤ n → n < 2 ^ 32 → s < 2 ^ 32
 sizes-in first s n h k = omega arith
 
 module _ (bytes : List ℕ) (fs : List Function) (arity : ℕ) (forms : List FormNode) (at : ℕ) where
@@ -166,7 +115,7 @@ module _ (bytes : List ℕ) (fs : List Function) (arity : ℕ) (forms : List For
     pub heads : next.heads.items ≡ old.heads.items
     pub seen : next.seen.items ≡ old.seen.items
 
-  pub block-met : (old : Progress) (node : FormNode) (names : List (Option Span)) → node.head ≡ kind.Block names → HeadMet node old old (code.Block [])
+  pub block-met : (old : Progress) (node : FormNode) (names : List (Option Span)) → node.head ≡ kind.LetBlock names → HeadMet node old old (code.Block [])
   block-met old node names e = record { met = ap (λ h. head_met bytes fs (seen_of old) (met_of old) h node.parts) e; heads = refl; seen = refl }
 
   module _ (at : ℕ) (old next : Progress) (node : FormNode) (found : slice_get forms at ≡ Some node) where

@@ -1,7 +1,7 @@
 -- Lists of what parts have, with one part more, and the slots of lets among them.
 use Rattle.std.proofs.Common.{◌≡◌, ℕ, zero, suc, ◌+◌, ◌≤◌, ◌⊎◌, inl, inr, Bool, true, false, cond, not, ◌==◌, eqb-true, List, [], ◌∷◌, ◌++◌, length, Option, Some, None, refl, sym, ap, subst, ◌∙◌, arith, append_assoc, append-nil}
 use Rattle.std.specs.List.{All, filter, range_with_len}
-use Rattle.std.specs.Prelude.{max}
+use Rattle.std.specs.Prelude.{max, replicate, reverse}
 use Rattle.std.proofs.lemmas.Bool.{true≢false}
 use Rattle.std.proofs.lemmas.Bool.Decides.{eqb_tells}
 use Rattle.std.proofs.lemmas.List.Elements.{All-append, All-cons, All-head, All-nil, All-tail}
@@ -56,6 +56,27 @@ with_own-last (s ∷ own) [] part h = absurd (omega arith)
 with_own-last (s ∷ own) (x ∷ parts) part h =
     ap (λ l. one_or_none s ++ (x ++ l)) (with_own-last own parts part (omega arith))
     ∙ ap (λ l. one_or_none s ++ l) (sym (append_assoc x (with_own own parts) part)) ∙ sym (append_assoc (one_or_none s) (x ++ with_own own parts) part)
+
+-- ---- items without lets
+
+none-own : (k : ℕ) (parts : List (List ℕ)) → with_own (replicate k None) parts ≡ with_own [] parts
+none-own zero parts = refl
+none-own (suc k) [] = refl
+none-own (suc k) (x ∷ parts) = ap (λ l. x ++ l) (none-own k parts)
+
+none-open : (k : ℕ) (parts : List (List ℕ)) → left_open (replicate k None) parts ≡ left_open [] parts
+none-open zero parts = refl
+none-open (suc k) [] = refl
+none-open (suc k) (x ∷ parts) = ap (λ l. x ++ l) (none-open k parts)
+
+-- whatever the parts, they have the same lets and leave the same slots open with these slots as with those
+pub record AreSame (own slots : List (Option ℕ)) : Type 0 where
+  pub lets : (parts : List (List ℕ)) → with_own own parts ≡ with_own slots parts
+  pub opened : (parts : List (List ℕ)) → left_open own parts ≡ left_open slots parts
+
+pub no-lets : (own slots : List (Option ℕ)) (k : ℕ) → own ≡ replicate k None → slots ≡ [] → AreSame own (reverse slots)
+no-lets own slots k e empty =
+    subst (λ o. AreSame o (reverse slots)) (sym e) (subst (λ s. AreSame (replicate k None) (reverse s)) (sym empty) (record { lets = none-own k; opened = none-open k }))
 
 -- ---- the slots that parts leave open
 

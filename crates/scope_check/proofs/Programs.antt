@@ -31,7 +31,8 @@ use Rattle.scope_check.specs.Scope.{after, first_fault, unless, in_order, Met, f
 use Rattle.scope_check.specs.Seen.{params_seen}
 use Rattle.scope_check.specs.Sound.{IsSoundProgram}
 use Rattle.scope_check.proofs.Joined.{join, in_order-join, own-join, size-join}
-use Rattle.scope_check.proofs.Facts.{Agree, FormFits, IsSeen, FormFacts, form-facts, AllForms-next, arity-is}
+use Rattle.scope_check.proofs.Facts.{FormFacts, form-facts, AllForms-next}
+use Rattle.scope_check.proofs.HeadFacts.{Agree, FormFits, IsSeen, arity-is}
 use Rattle.scope_check.proofs.Sizes.{length-nodes_of}
 use Rattle.scope_check.proofs.OwnSlots.{All-mapped, range-join}
 use Rattle.scope_check.proofs.After.{IfOk-after}

@@ -1,7 +1,7 @@
 -- What a syntax has that was read from a text, rule by rule of the grammar.
-use Rattle.std.proofs.Common.{◌≡◌, ℕ, suc, ◌+◌, ◌<◌, List, [], ◌∷◌, length, map, refl, sym, ap, arith, length-append}
-use Rattle.std.specs.Prelude.{⊤}
-use Rattle.std.specs.List.{AllByRecursion}
+use Rattle.std.proofs.Common.{◌≡◌, ℕ, suc, ◌+◌, ◌<◌, List, [], ◌∷◌, length, map, refl, sym, ap, arith, length-append, Bool, true, false, cond}
+use Rattle.std.specs.Prelude.{⊤, Option, is_some}
+use Rattle.std.specs.List.{AllByRecursion, list_any}
 use Rattle.stab_lex.specs.Pieces.{IsText}
 use Rattle.stab_parse.specs.declared.symbol.Span.{Span}
 use Rattle.stab_parse.specs.declared.symbol.Symbol.{Symbol}
@@ -12,7 +12,7 @@ use Rattle.stab_parse.specs.Grammar.{WrittenType, basic_type, chan_type, ref_typ
 use Rattle.stab_parse.specs.Symbols.{Sign}
 use Rattle.scope_check.specs.Forms.{number_of}
 use Rattle.scope_check.specs.Names.{named}
-use Rattle.scope_check.specs.Sound.{operands, IsSound, AreSound, IsSoundProgram}
+use Rattle.scope_check.specs.Sound.{operands, Fits, IsSound, AreSound, IsSoundProgram}
 
 -- a block has a part for each item
 number-items : (is : Items) → number_of (parts_of_items is) ≡ length (names_of is)
@@ -34,11 +34,17 @@ module _ (bytes : List ℕ) where
   abbrev pub AreSigns : List Piece → Type 0
   AreSigns pieces = AllByRecursion IsSoundSign (map sign_of_piece pieces)
 
+  -- a block's head fits, with lets among its items or not
+  fits-names : (names : List (Option Span)) (lets : Bool) → 0 < length names → (items : ℕ) → items ≡ length names → Fits bytes (cond lets (head.LetBlock names) head.Block) (items + 1)
+  fits-names names true some items e = (some, ap (λ n. n + 1) e)
+  fits-names names false some items e = omega arith
+
   sound-block_form : (at : ℕ) (is : Items) (last : Form) → AreSound bytes (parts_of_items is) → IsSound bytes last → IsSound bytes (block_form at is (parts_of_items is) last)
   sound-block_form at no_items last parts own = own
   sound-block_form at (next_item is i m) last parts own =
-      let some : 0 < length (names_of (next_item is i m)) = omega (arith, length-append (names_of is) (name_of i ∷ [])) in
-      ((some, ap (λ n. n + 1) (number-items (next_item is i m))), (parts, own))
+      let names = names_of (next_item is i m) in
+      let some : 0 < length names = omega (arith, length-append (names_of is) (name_of i ∷ [])) in
+      (fits-names names (list_any is_some names) some (number_of (parts_of_items (next_item is i m))) (number-items (next_item is i m)), (parts, own))
 
   sound-type : (n : ℕ) (t : WrittenType) (rest : List Piece) → AreSigns (spell_type n t rest) → AreSigns rest
   sound-type n (basic_type b p) rest all = all.1

@@ -1,6 +1,6 @@
 -- Forms that are gone through in the order of the list, and the definition of a form.
 use Rattle.std.proofs.Common.{◌≡◌, ◌⊎◌, inl, inr, ℕ, suc, ◌+◌, ◌<◌, ◌^◌, ◌==◌, List, [], ◌∷◌, ◌++◌, length, slice_get, Some, refl, sym, ap, subst, ◌∙◌, arith, append_assoc, append-nil}
-use Rattle.std.specs.Prelude.{false, Result, Ok, Err, None, true}
+use Rattle.std.specs.Prelude.{◌-◌, false, replicate, Result, Ok, Err, None, true}
 use Rattle.std.specs.List.{AllByRecursion}
 use Rattle.std.proofs.lemmas.Bool.{true≢false}
 use Rattle.std.proofs.lemmas.Bool.Decides.{eqb_tells}
@@ -19,15 +19,15 @@ use Rattle.stab_parse.specs.FormList.{count_of, nodes_of, nodes_of_parts}
 use Rattle.stab_parse.specs.Moves.{node_of as form_node}
 use Rattle.scope_check.specs.declared.fault.ScopeFault.{ScopeFault}
 use Rattle.scope_check.specs.declared.seen.Variable.{Variable}
-use Rattle.scope_check.specs.Forms.{act_of, is_block, items_of, number_of}
+use Rattle.scope_check.specs.Forms.{act_of, has_lets, items_of}
 use Rattle.scope_check.specs.Made.{Adds, AddsParts}
 use Rattle.scope_check.specs.Placed.{size_of_parts}
 use Rattle.scope_check.specs.Places.{IsAt, own_number, own_numbers, part_lists}
 use Rattle.scope_check.specs.Scope.{Behind, Met, after, behind, form_scoped, head_met, in_order, part_met, parts_scoped, with_slots}
 use Rattle.scope_check.specs.Stretches.{heads_met, plain, plain_head}
-use Rattle.scope_check.proofs.Made.{no-items, no-slots}
+use Rattle.scope_check.proofs.Made.{no-items, sizes-in}
 use Rattle.scope_check.proofs.Added.{added-count, adds-next, adds-whole, node_added}
-use Rattle.scope_check.proofs.Places.{followed, part-at, parts-at}
+use Rattle.scope_check.proofs.Places.{at-within, count-is, followed, part-at, parts-at}
 
 -- ---- one step after another
 
@@ -62,34 +62,36 @@ no-parts : (k : ℕ) → (k == 0) ≡ true → k ≡ 0
 no-parts k e = elim (eqb_tells k 0) [ inl w ↦ w.1 | inr w ↦ absurd (true≢false (sym e ∙ w.0)) ]
 
 -- a plain head has no parts, or is the same in all that was met
-abbrev IsSilent : List ℕ → List Function → Head → Type 0
-IsSilent bytes fs h = (c : Code) × ((seen : List Variable) (met : Met) (n : ℕ) → head_met bytes fs seen met h n ≡ Ok (c, met))
+abbrev IsSilent : List ℕ → List Function → Head → ℕ → Type 0
+IsSilent bytes fs h k = (c : Code) × ((seen : List Variable) (met : Met) → head_met bytes fs seen met h k ≡ Ok (c, met))
 
-silent : (bytes : List ℕ) (fs : List Function) (h : Head) (k : ℕ) → plain_head h k ≡ true → (k ≡ 0) ⊎ IsSilent bytes fs h
-silent bytes fs kind.Unit k e = inr (code.Unit, λ seen met n. refl)
-silent bytes fs (kind.Truth b) k e = inr (code.Truth b, λ seen met n. refl)
-silent bytes fs (kind.Int v) k e = inr (code.Int v, λ seen met n. refl)
+silent : (bytes : List ℕ) (fs : List Function) (h : Head) (k : ℕ) → plain_head h k ≡ true → (k ≡ 0) ⊎ IsSilent bytes fs h k
+silent bytes fs kind.Unit k e = inr (code.Unit, λ seen met. refl)
+silent bytes fs (kind.Truth b) k e = inr (code.Truth b, λ seen met. refl)
+silent bytes fs (kind.Int v) k e = inr (code.Int v, λ seen met. refl)
 silent bytes fs (kind.Text span) k e = inl (no-parts k e)
 silent bytes fs (kind.Variable name) k e = inl (no-parts k e)
-silent bytes fs (kind.Block names) k e = absurd (true≢false (sym e))
-silent bytes fs kind.If k e = inr (code.If, λ seen met n. refl)
-silent bytes fs (kind.Two op) k e = inr (code.Two op, λ seen met n. refl)
-silent bytes fs kind.Not k e = inr (code.Not, λ seen met n. refl)
-silent bytes fs kind.Neg k e = inr (code.Neg, λ seen met n. refl)
-silent bytes fs kind.Pair k e = inr (code.Pair, λ seen met n. refl)
+silent bytes fs kind.Block k e = inr (code.Block (replicate (k - 1) None), λ seen met. refl)
+silent bytes fs (kind.LetBlock names) k e = absurd (true≢false (sym e))
+silent bytes fs kind.If k e = inr (code.If, λ seen met. refl)
+silent bytes fs (kind.Two op) k e = inr (code.Two op, λ seen met. refl)
+silent bytes fs kind.Not k e = inr (code.Not, λ seen met. refl)
+silent bytes fs kind.Neg k e = inr (code.Neg, λ seen met. refl)
+silent bytes fs kind.Pair k e = inr (code.Pair, λ seen met. refl)
 silent bytes fs (kind.Call name) k e = absurd (true≢false (sym e))
 silent bytes fs (kind.Start word name) k e = absurd (true≢false (sym e))
-silent bytes fs (kind.NewChan ty) k e = inr (code.NewChan ty, λ seen met n. refl)
-silent bytes fs (kind.Act word) k e = inr (act_of word, λ seen met n. refl)
+silent bytes fs (kind.NewChan ty) k e = inr (code.NewChan ty, λ seen met. refl)
+silent bytes fs (kind.Act word) k e = inr (act_of word, λ seen met. refl)
 
--- and it is no block
-plain-other : (h : Head) (k : ℕ) → plain_head h k ≡ true → is_block h ≡ false
+-- and it is no block with lets
+pub plain-other : (h : Head) (k : ℕ) → plain_head h k ≡ true → has_lets h ≡ false
 plain-other kind.Unit k e = refl
 plain-other (kind.Truth b) k e = refl
 plain-other (kind.Int v) k e = refl
 plain-other (kind.Text span) k e = refl
 plain-other (kind.Variable name) k e = refl
-plain-other (kind.Block names) k e = absurd (true≢false (sym e))
+plain-other kind.Block k e = refl
+plain-other (kind.LetBlock names) k e = absurd (true≢false (sym e))
 plain-other kind.If k e = refl
 plain-other (kind.Two op) k e = refl
 plain-other kind.Not k e = refl
@@ -220,17 +222,15 @@ module _ (bytes : List ℕ) (fs : List Function) (arity : ℕ) (seen : List Vari
       → Agrees heads (form place h no_parts) (after own (λ o. before_all o.0 (Ok ([], o.1)))) (after own (λ o. Ok (tree (with_slots [] o.0) none, o.1)))
   leaf-agrees heads at place h met is e (Err fault) m = refl
   leaf-agrees heads at place h met is e (Ok own) m =
-      let same = no-slots bytes fs h 0 seen met own.0 own.1 (plain-other h 0 e) m in
-      let whole = whole-form (length (nodes_in heads lists)) at place h heads no_parts [] [] own.0 refl is (none-added heads) in
-      (tree own.0 none, ap (λ c. Ok (tree c none, own.1)) same, whole)
+      (tree own.0 none, refl, whole-form (length (nodes_in heads lists)) at place h heads no_parts [] [] own.0 refl is (none-added heads))
 
-  silent-agrees : (heads : List Code) (n at place : ℕ) (h : Head) (ps : Parts) (met : Met) (c : Code) → length (nodes_in heads lists) ≡ n → IsAt forms n at (form place h ps) → with_slots [] c ≡ c
+  silent-agrees : (heads : List Code) (n at place : ℕ) (h : Head) (ps : Parts) (met : Met) (c : Code) → length (nodes_in heads lists) ≡ n → IsAt forms n at (form place h ps)
       → (a : Listed) → AgreeParts heads ps a (parts_behind met ps)
       → Agrees heads (form place h ps) (with_last c a) (after (parts_behind met ps) (λ b. Ok (tree (with_slots b.slots c) (in_order b.trees), b.met)))
-  silent-agrees heads n at place h ps met c count is same (Err fault) agree = ap (λ r. after r (λ b. Ok (tree (with_slots b.slots c) (in_order b.trees), b.met))) agree
-  silent-agrees heads n at place h ps met c count is same (Ok own) agree = (
+  silent-agrees heads n at place h ps met c count is (Err fault) agree = ap (λ r. after r (λ b. Ok (tree (with_slots b.slots c) (in_order b.trees), b.met))) agree
+  silent-agrees heads n at place h ps met c count is (Ok own) agree = (
     tree c (in_order agree.0),
-    ap (λ r. after r (λ b. Ok (tree (with_slots b.slots c) (in_order b.trees), b.met))) agree.1 ∙ ap (λ d. Ok (tree d (in_order agree.0), own.1)) same,
+    ap (λ r. after r (λ b. Ok (tree (with_slots b.slots c) (in_order b.trees), b.met))) agree.1,
     whole-form n at place h heads ps own.0 agree.0 c count is agree.2,
   )
 
@@ -250,11 +250,11 @@ module _ (bytes : List ℕ) (fs : List Function) (arity : ℕ) (seen : List Vari
           | inl none_there ↦ form-leaf heads place h ps met n at count is none_there own-plain
           | inr s ↦
               let c = s.0 in
-              let same = no-slots bytes fs h k seen met c met (plain-other h k own-plain) (s.1 seen met k) in
-              let agree = silent-agrees heads n at place h ps met c count is same (heads_met bytes fs seen met (nodes_of_parts ps)) (parts-agree heads ps [] met n at place h count is parted.0) in
-              let listed = heads-append bytes fs seen met (nodes_of_parts ps) (form_node h k ∷ []) ∙ silent-last (heads_met bytes fs seen met (nodes_of_parts ps)) h k c (λ m. s.1 seen m k) in
+              let agree = silent-agrees heads n at place h ps met c count is (heads_met bytes fs seen met (nodes_of_parts ps)) (parts-agree heads ps [] met n at place h count is parted.0) in
+              let few = sizes-in n (size_of_parts ps) (length forms) (at-within forms n at (form place h ps) is) small in
+              let listed = heads-append bytes fs seen met (nodes_of_parts ps) (form_node h k ∷ []) ∙ silent-last (heads_met bytes fs seen met (nodes_of_parts ps)) h k c (λ m. s.1 seen m) in
               let scoped : form_scoped bytes fs arity seen met (form place h ps) ≡ after (parts_behind met ps) (λ b. Ok (tree (with_slots b.slots c) (in_order b.trees), b.met)) =
-              ap (λ r. after r (λ own. after (parts_scoped bytes fs arity (items_of h) (behind [] seen [] own.1) ps) (λ b. Ok (tree (with_slots b.slots own.0) (in_order b.trees), b.met)))) (s.1 seen met (number_of ps))
+              ap (λ r. after r (λ own. after (parts_scoped bytes fs arity (items_of h) (behind [] seen [] own.1) ps) (λ b. Ok (tree (with_slots b.slots own.0) (in_order b.trees), b.met)))) (ap (head_met bytes fs seen met h) (sym (count-is ps few)) ∙ s.1 seen met)
               ∙ ap (λ names. after (parts_scoped bytes fs arity names (behind [] seen [] met) ps) (λ b. Ok (tree (with_slots b.slots c) (in_order b.trees), b.met))) (no-items h (plain-other h k own-plain)) in
               subst (λ r. Agrees heads (form place h ps) r (form_scoped bytes fs arity seen met (form place h ps))) (sym listed)
               (subst (Agrees heads (form place h ps) (with_last c (heads_met bytes fs seen met (nodes_of_parts ps)))) (sym scoped) agree)

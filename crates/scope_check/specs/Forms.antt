@@ -14,15 +14,15 @@ abbrev pub number_of : Parts → ℕ
 number_of no_parts = 0
 number_of (next_part ps f) = number_of ps + 1
 
--- for each item of a block the name of its let, or none; other forms have no items
+-- for each item of a block with lets the name of its let, or none; other forms have no names
 abbrev pub items_of : Head → List (Option Span)
-items_of (head.Block names) = names
+items_of (head.LetBlock names) = names
 items_of _ = []
 
--- whether it is a block with items
-abbrev pub is_block : Head → Bool
-is_block (head.Block names) = true
-is_block _ = false
+-- whether it is a block with lets
+abbrev pub has_lets : Head → Bool
+has_lets (head.LetBlock names) = true
+has_lets _ = false
 
 -- the act of each word
 abbrev pub act_of : ActWord → Code

@@ -15,20 +15,20 @@ use Rattle.stab_parse.specs.FormList.{nodes_of_program}
 use Rattle.stab_parse.specs.Grammar.{Program}
 use Rattle.scope_check.specs.declared.fault.ScopeFault.{ScopeFault}
 use Rattle.scope_check.specs.declared.progress.Progress.{Progress}
-use Rattle.scope_check.specs.Forms.{is_block, items_of}
+use Rattle.scope_check.specs.Forms.{has_lets, items_of}
 use Rattle.scope_check.specs.Placed.{size_of, size_of_parts}
 use Rattle.scope_check.specs.Places.{IsAt, own_numbers, part_lists}
 use Rattle.scope_check.specs.Progress.{IsFaultOf, met_of, seen_of, texts_of}
 use Rattle.scope_check.specs.Scope.{Behind, Defined, Met, behind, form_scoped, function_defined, functions_scoped, in_order, part_met, parts_scoped}
 use Rattle.scope_check.specs.Seen.{params_seen}
 
--- the form with that number is a block, and these are the names of its items
+-- the form with that number is a block with lets, and these are the names of its items
 abbrev pub IsBlock : List FormNode → ℕ → List (Option Span) → Type 0
-IsBlock forms at names = (node : FormNode) × (slice_get forms at ≡ Some node) × (node.head ≡ head.Block names)
+IsBlock forms at names = (node : FormNode) × (slice_get forms at ≡ Some node) × (node.head ≡ head.LetBlock names)
 
--- the form with that number isn't a block
+-- the form with that number isn't a block with lets
 abbrev pub IsOther : List FormNode → ℕ → Type 0
-IsOther forms at = (node : FormNode) × (slice_get forms at ≡ Some node) × (is_block node.head ≡ false)
+IsOther forms at = (node : FormNode) × (slice_get forms at ≡ Some node) × (has_lets node.head ≡ false)
 
 -- the new nodes are the old ones and those of the form's tree, one for each form in it
 abbrev pub Adds : List NodeParts → List NodeParts → Form → Tree → Type 0

@@ -1,5 +1,5 @@
 -- The program that a syntax stands for, or its first fault. It is gone through once, in the order of the text.
-use Rattle.std.specs.Prelude.{ℕ, ◌+◌, ◌-◌, ◌==◌, nat_le, Bool, false, if◌then◌else◌, List, [], ◌∷◌, ◌++◌, length, map, reverse, Option, Some, None, Result, Ok, Err, bytes_eq, codes, slice_get, position}
+use Rattle.std.specs.Prelude.{ℕ, ◌+◌, ◌-◌, ◌==◌, nat_le, Bool, false, if◌then◌else◌, List, [], ◌∷◌, ◌++◌, length, map, replicate, reverse, Option, Some, None, Result, Ok, Err, bytes_eq, codes, slice_get, position}
 use Rattle.std.specs.List.{list_any, position_or_len}
 use Rattle.stab_code.specs.declared.head.Head.{Head as Code}
 use Rattle.stab_code.specs.declared.head.Head.TheVariants as code
@@ -57,7 +57,7 @@ pub record Met : Type 0 where
   pub lets : ℕ
   pub texts : List (List ℕ)
 
--- the parts so far, the last one first: their trees, what is seen behind them, and the slots of the items that they are
+-- the parts so far, the last one first: their trees, what is seen behind them, and the slots of the items that they are in a block with lets
 pub record Behind : Type 0 where
   pub trees : List Tree
   pub seen : List Variable
@@ -104,7 +104,7 @@ let_numbered arity name met =
 
 -- ---- parts
 
--- One part more, which is an item of a block where there is a name or none for it. A let is counted before its own form, and seen
+-- One part more, which is an item of a block with lets where there is a name or none for it. A let is counted before its own form, and seen
 -- behind it.
 abbrev pub part_met : ℕ → Option (Option Span) → Behind → (Met → Result (Tree × Met) ScopeFault) → Result Behind ScopeFault
 part_met arity None b scoped = after (scoped b.met) (λ t. Ok (behind (t.0 ∷ b.trees) b.seen b.slots t.1))
@@ -112,10 +112,10 @@ part_met arity (Some None) b scoped = after (scoped b.met) (λ t. Ok (behind (t.
 part_met arity (Some (Some name)) b scoped =
     after (let_numbered arity name b.met) (λ x. after (scoped x.1) (λ t. Ok (behind (t.0 ∷ b.trees) (x.0 ∷ b.seen) (Some x.0.slot ∷ b.slots) t.1)))
 
--- a block with the slots of its items, of which the last comes first
+-- a block with the slots of its items, of which the last comes first; one without lets has them already
 abbrev pub with_slots : List (Option ℕ) → Code → Code
-with_slots slots (code.Block none_yet) = code.Block (reverse slots)
-with_slots slots h = h
+with_slots (slot ∷ slots) (code.Block none_yet) = code.Block (reverse (slot ∷ slots))
+with_slots _ h = h
 
 -- the functions so far, their bodies, the last one first, and the texts so far
 pub record Defined : Type 0 where
@@ -165,7 +165,7 @@ module _ (bytes : List ℕ) where
 
   -- ---- forms, in a program with these functions
 
-  -- the head of a form with so many parts; the slots of a block are known behind its items
+  -- the head of a form with so many parts; the slots of a block with lets are known behind its items
   abbrev pub head_met : List Function → List Variable → Met → Head → ℕ → Result (Code × Met) ScopeFault
   head_met fs seen met head.Unit parts = Ok (code.Unit, met)
   head_met fs seen met (head.Truth b) parts = Ok (code.Truth b, met)
@@ -173,7 +173,8 @@ module _ (bytes : List ℕ) where
   head_met fs seen met (head.Text span) parts =
       after (text_numbered span (text_at bytes span) met.texts) (λ text. Ok (code.Text (record { 0 = text.0 }), record met { texts = text.1 }))
   head_met fs seen met (head.Variable name) parts = after (slot_found name (slot_of bytes seen name)) (λ slot. Ok (code.Var slot, met))
-  head_met fs seen met (head.Block names) parts = Ok (code.Block [], met)
+  head_met fs seen met head.Block parts = Ok (code.Block (replicate (parts - 1) None), met)
+  head_met fs seen met (head.LetBlock names) parts = Ok (code.Block [], met)
   head_met fs seen met head.If parts = Ok (code.If, met)
   head_met fs seen met (head.Two op) parts = Ok (code.Two op, met)
   head_met fs seen met head.Not parts = Ok (code.Not, met)

@@ -26,7 +26,8 @@ module _ (bytes : List ℕ) where
   -- the head fits so many parts
   abbrev pub Fits : Head → ℕ → Type 0
   Fits (head.Text span) parts = (parts ≡ 0) × IsText (named bytes span)
-  Fits (head.Block names) parts = (0 < length names) × (parts ≡ length names + 1)
+  Fits head.Block parts = 1 < parts
+  Fits (head.LetBlock names) parts = (0 < length names) × (parts ≡ length names + 1)
   Fits head.If parts = parts ≡ 3
   Fits (head.Two op) parts = parts ≡ 2
   Fits head.Pair parts = parts ≡ 2

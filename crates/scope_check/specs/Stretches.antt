@@ -12,12 +12,12 @@ use Rattle.scope_check.specs.declared.seen.Variable.{Variable}
 use Rattle.scope_check.specs.Progress.{IsFaultOf, met_of, seen_of}
 use Rattle.scope_check.specs.Scope.{Met, after, head_met}
 
--- A plain head with so many parts: no block, call, spawn or stable, and a text or variable only without parts. It is the same before
--- and behind them.
+-- A plain head with so many parts: no block with lets, call, spawn or stable, and a text or variable only without parts. It is the same
+-- before and behind them.
 abbrev pub plain_head : Head → ℕ → Bool
 plain_head (head.Text span) parts = parts == 0
 plain_head (head.Variable name) parts = parts == 0
-plain_head (head.Block names) parts = false
+plain_head (head.LetBlock names) parts = false
 plain_head (head.Call name) parts = false
 plain_head (head.Start word name) parts = false
 plain_head _ parts = true
@@ -47,6 +47,11 @@ module _ (bytes : List ℕ) (fs : List Function) where
   heads_met seen met [] = Ok ([], met)
   heads_met seen met (f ∷ forms) =
       after (head_met bytes fs seen met f.head f.parts) (λ own. after (heads_met seen own.1 forms) (λ rest. Ok (own.0 ∷ rest.0, rest.1)))
+
+  -- the head of a form stands behind those that were made before
+  abbrev pub IsHeadAdded : FormNode → Progress → Progress → Type 0
+  IsHeadAdded f old new =
+      (own : Code) × (head_met bytes fs (seen_of old) (met_of old) f.head f.parts ≡ Ok (own, met_of new)) × (new.heads.items ≡ old.heads.items ++ own ∷ []) × (new.seen.items ≡ old.seen.items)
 
   module _ (forms : List FormNode) (end : ℕ) where
     abbrev pub IsStretchMade : Progress → Progress → Type 0

@@ -30,7 +30,7 @@ impl<'a> Plan<'a> {
             return self.stretch(progress, at);
         }
         let form = &self.forms[at];
-        if let Head::Block(names) = &form.head {
+        if let Head::LetBlock(names) = &form.head {
             return self.block(progress, arity, at, names.all());
         }
         let head = self.head(progress, form)?;
@@ -39,7 +39,7 @@ impl<'a> Plan<'a> {
         Ok(())
     }
 
-    /// Makes the heads of the parts of a form that isn't a block.
+    /// Makes the heads of the parts of a form that isn't a block with lets.
     #[cycle(forms)]
     #[inline(never)]
     fn operands(&self, progress: &mut Progress, arity: u32, at: usize) -> Result<(), ScopeFault>
@@ -56,7 +56,7 @@ impl<'a> Plan<'a> {
         Ok(())
     }
 
-    /// Makes the heads of a block and of the forms in it. The names of its items are seen up to its end.
+    /// Makes the heads of a block with lets and of the forms in it. The names of its items are seen up to its end.
     #[cycle(forms)]
     #[inline(never)]
     fn block(

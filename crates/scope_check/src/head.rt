@@ -1,7 +1,7 @@
 //! What a form is, apart from its parts.
-ghost use Rattle.std.specs.Prelude.{◌≡◌, [], false, Ok, IfOk, IfErr, OnOk};
+ghost use Rattle.std.specs.Prelude.{◌≡◌, ◌-◌, [], false, None, Ok, IfOk, IfErr, OnOk, replicate};
 ghost use Rattle.stab_lex.specs.Pieces.{IsText};
-ghost use Rattle.scope_check.specs.Forms.{act_of, is_block};
+ghost use Rattle.scope_check.specs.Forms.{act_of, has_lets};
 ghost use Rattle.scope_check.specs.Names.{named, text_at};
 ghost use Rattle.scope_check.specs.Progress.{HasText, IsFaultOf, KeepsHeadsAndSeen, met_of, seen_of, texts_of};
 ghost use Rattle.scope_check.specs.Scope.{head_met, text_numbered};
@@ -12,7 +12,7 @@ use crate::plan::Plan;
 use crate::progress::Progress;
 use crate::types::type_of;
 use stab_base::TextId;
-use stab_code::Head as Code;
+use stab_code::{Head as Code, Slots};
 use stab_lex::characters;
 use stab_parse::{ActWord, CallWord, FormNode, Head, Span};
 
@@ -34,11 +34,31 @@ impl<'a> Plan<'a> {
         progress.number_text(span, kept)
     }
 
-    /// What a form is that isn't a block, apart from its parts.
+    /// The slots of a block with so many parts of which no item is a let. A block shares them with the one before that has as many.
+    #[inline(never)]
+    pub(crate) fn no_slots(
+        &self,
+        progress: &mut Progress,
+        parts: usize,
+    ) -> Result<Slots, ScopeFault>
+        ensures slots { IfOk result (λ slots. slots ≡ replicate (parts - 1) None) }
+        ensures met { OnOk result (met_of progress.new ≡ met_of progress.old) }
+        ensures others { OnOk result (KeepsHeadsAndSeen progress.old progress.new) }
+        ensures fault { IfErr result (λ fault. fault ≡ ScopeFault.NoMemory) }
+    {
+        let items = parts.saturating_sub(1);
+        if progress.nones.all().len() != items {
+            let nones = Vec::from_elem(self.alloc, None, items)?;
+            progress.nones = Slots::new(self.alloc, nones)?;
+        }
+        Ok(progress.nones.share()?)
+    }
+
+    /// What a form is that isn't a block with lets, apart from its parts.
     #[inline(always)]
     pub(crate) fn head(&self, progress: &mut Progress, form: &FormNode) -> Result<Code, ScopeFault>
         requires text { HasText self.now.bytes.now form.now.head }
-        requires other { is_block form.now.head ≡ false }
+        requires other { has_lets form.now.head ≡ false }
         ensures head { IfOk result (λ head. head_met self.now.bytes.now self.now.functions.now (seen_of progress.old) (met_of progress.old)
             form.now.head form.now.parts ≡ Ok (head, met_of progress.new)) }
         ensures others { OnOk result (KeepsHeadsAndSeen progress.old progress.new) }
@@ -51,7 +71,8 @@ impl<'a> Plan<'a> {
             Head::Int(number) => Ok(Code::Int(*number)),
             Head::Text(span) => Ok(Code::Text(self.text(progress, *span)?)),
             Head::Variable(name) => Ok(Code::Var(progress.slot(self.bytes, *name)?)),
-            Head::Block(_) => unreachable!(),
+            Head::Block => Ok(Code::Block(self.no_slots(progress, form.parts)?)),
+            Head::LetBlock(_) => unreachable!(),
             Head::If => Ok(Code::If),
             Head::Two(op) => Ok(Code::Two(*op)),
             Head::Not => Ok(Code::Not),

@@ -11,6 +11,7 @@ use crate::progress::Progress;
 use crate::seen::Variable;
 use indexmap::IndexSet;
 use stab_base::TextId;
+use stab_code::Slots;
 use stab_parse::{Param, Span};
 use std::alloc::Global;
 
@@ -33,6 +34,7 @@ impl Progress {
             texts: IndexSet::new(alloc),
             seen: Vec::new(alloc),
             lets: 0,
+            nones: Slots::new(alloc, Vec::new(alloc))?,
         })
     }
 

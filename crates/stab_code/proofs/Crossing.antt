@@ -1,4 +1,4 @@
--- Programs cross threads. Each type is shown to by itself, since a search over all of their parts ends at a limit.
+-- Programs cross threads. Functions, heads and nodes are shown to first, since a search over all of their parts ends at a limit.
 use denote.Param.Send.{IsSend, IsSync, sendable}
 use Rattle.std.proofs.Crossing.{crosses}
 use Rattle.stab_code.proofs.ty.TyForm.TheLaws.TheKnot.{send-TyForm, sync-TyForm}

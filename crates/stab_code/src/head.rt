@@ -7,6 +7,7 @@ use crate::ty::Ty;
 use stab_base::{FnId, NoMemory, TextId};
 use std::alloc::Global;
 use std::marker::Model;
+use std::sync::Arc;
 
 /// How deep forms may stand in each other. A form without parts has depth 1.
 pub const MAX_FORM_DEPTH: u32 = 200;
@@ -29,11 +30,11 @@ pub enum Op {
     Rem,
 }
 
-/// For each item of a block, in the order of writing, the slot of its let, or none where it is a form alone.
+/// For each item of a block, in the order of writing, the slot of its let, or none where it is a form alone. Blocks may share them.
 /// Contracts see it as a list.
 #[derive(Debug, Drop)]
 pub struct Slots {
-    slots: Box<Vec<Option<u32>>>,
+    slots: Arc<Vec<Option<u32>>>,
 }
 
 impl Model for Slots {
@@ -49,7 +50,15 @@ impl Slots {
     pub fn new(alloc: Global, slots: Vec<Option<u32>>) -> Result<Slots, NoMemory>
         ensures { IfOk result (λ made. made ≡ slots.items) }
     {
-        let slots = Box::new(alloc, slots)?;
+        let slots = Arc::new(alloc, slots)?;
+        Ok(Slots { slots })
+    }
+
+    /// The same slots, shared: they take no memory of their own.
+    pub fn share(&self) -> Result<Slots, NoMemory>
+        ensures { IfOk result (λ shared. shared ≡ self.now) }
+    {
+        let slots = Arc::try_clone(&self.slots)?;
         Ok(Slots { slots })
     }
 

@@ -9,7 +9,7 @@ use Rattle.stab_parse.specs.declared.frame.Frame.TheVariants as frame
 use Rattle.stab_parse.specs.declared.frame.Level.TheVariants as level
 use Rattle.stab_parse.specs.declared.frame.Phase.{Phase}
 use Rattle.stab_parse.specs.declared.frame.Phase.TheVariants as phase
-use Rattle.stab_parse.specs.declared.frame.Seen.{Seen}
+use Rattle.stab_parse.specs.Seen.{Seen}
 use Rattle.stab_parse.specs.declared.reader.Reader.{Reader}
 use Rattle.stab_parse.specs.declared.symbol.Span.{Span}
 use Rattle.stab_parse.specs.declared.tree.FormNode.{FormNode}
@@ -94,7 +94,7 @@ abbrev pub block_height : Block → ℕ
 block_height b = height_of (form_of_block b)
 
 abbrev pub place_of : RoundBlock → BlockPlace
-place_of (body o xs e q t) = place.Body (name_of_opening o) (params_of xs) (type_of t)
+place_of (body o xs e q t) = place.Body (record { name = name_of_opening o; params = params_of xs; gives = type_of t })
 place_of (block_primary c) = place.Form
 place_of (then_block i e c) = place.Then i.start (expr_height e)
 place_of (else_block i e b l c) = place.Else i.start (both (expr_height e) (block_height b))
@@ -103,7 +103,7 @@ place_of (else_block i e b l c) = place.Else i.start (both (expr_height e) (bloc
 abbrev mutual
   pub at_items : RoundItems → Reader
   at_items (items_in o is c) =
-      pushed (frame.Items o.start (height_of_parts (parts_of_items is)) (names_of is) (count_of (parts_of_items is)) (place_of c)) (with_parts (parts_of_items is) (at_block c))
+      pushed (frame.Items (height_of_parts (parts_of_items is)) o.start (names_of is) (place_of c)) (with_parts (parts_of_items is) (at_block c))
 
   pub at_block : RoundBlock → Reader
   at_block (body o xs e q t) = in_program (program_of o)
@@ -119,7 +119,7 @@ abbrev mutual
   at_expr (group_in o c) = pushed (frame.Group o.start) (at_other c)
   at_expr (second_in o e m c) = pushed (frame.Second o.start (expr_height e)) (with_form (form_of_expr e) (at_other c))
   at_expr (first_arg f o c) = pushed (frame.Args (kept_callee_of f) 0 0) (at_other c)
-  at_expr (later_arg f o a m c) = pushed (frame.Args (kept_callee_of f) (count_of (parts_of_args a)) (height_of_parts (parts_of_args a))) (with_parts (parts_of_args a) (at_other c))
+  at_expr (later_arg f o a m c) = pushed (frame.Args (kept_callee_of f) (height_of_parts (parts_of_args a)) (count_of (parts_of_args a))) (with_parts (parts_of_args a) (at_other c))
   at_expr (one_in w p o c) = pushed (frame.One w p.start) (at_other c)
   at_expr (two_left w p o c) = pushed (frame.TwoLeft w p.start) (at_other c)
   at_expr (two_right w p o e m c) = pushed (frame.TwoRight w p.start (expr_height e)) (with_form (form_of_expr e) (at_other c))

@@ -1,8 +1,8 @@
 pub mod Completeness
-pub mod Defaults
 pub mod Endings
 pub mod Ended
 pub mod FormsKept
+pub mod ItemNames
 pub mod Keeping
 pub mod Kept
 pub mod Machine

@@ -1,12 +1,12 @@
 -- A parser moves as the machine does.
-use Rattle.std.proofs.Common.{◌≡◌, ℕ, ◌≤◌, List, [], ◌∷◌, ◌++◌, max, Option, Some, None, refl, sym, ap, subst, ◌∙◌, arith}
+use Rattle.std.proofs.Common.{◌≡◌, ℕ, ◌-◌, ◌^◌, ◌≤◌, List, [], ◌∷◌, ◌++◌, length, length-append, max, min, Option, refl, sym, ap, subst, ◌∙◌, arith}
 use Rattle.stab_code.specs.declared.head.Op.{Op}
 use Rattle.stab_code.specs.declared.head.Op.TheVariants as op
 use Rattle.stab_parse.specs.declared.frame.BlockPlace.{BlockPlace}
 use Rattle.stab_parse.specs.declared.frame.Frame.{Frame}
 use Rattle.stab_parse.specs.declared.frame.Frame.TheVariants as frame
 use Rattle.stab_parse.specs.declared.frame.Level.TheVariants as level
-use Rattle.stab_parse.specs.declared.frame.Seen.{Seen}
+use Rattle.stab_parse.specs.Seen.{Seen}
 use Rattle.stab_parse.specs.declared.reader.Reader.{Reader}
 use Rattle.stab_parse.specs.declared.symbol.ActWord.{ActWord}
 use Rattle.stab_parse.specs.declared.symbol.ActWord.TheVariants.{Ref}
@@ -15,8 +15,8 @@ use Rattle.stab_parse.specs.declared.symbol.Symbol.{Symbol}
 use Rattle.stab_parse.specs.declared.symbol.Symbol.TheVariants.{Name, Number, Greatest, Text, Truth, WordFn, WordLet, WordIf, WordElse, ActOne, OrOr, AndAnd, Relation, Plus, Minus, Product, OpenParen, CloseParen, OpenBrace, CloseBrace, OpenBracket, CloseBracket, Comma, Semicolon, Colon, Equal}
 use Rattle.stab_parse.specs.declared.tree.Head.TheVariants as head
 use Rattle.stab_parse.specs.FormList.{count_of, param_list_of, params_of}
-use Rattle.stab_parse.specs.Forms.{form, Parts, no_parts, next_part, type_of, name_of, names_of, form_of_block, parts_of_items, form_of_expr, form_of_and, form_of_cmp, form_of_sum, form_of_term, form_of_unary, form_of_other, form_of_primary, form_of_if, first_of_block, first_of_if, first_of_primary, first_of_other, first_of_unary, first_of_term, first_of_sum, first_of_cmp, first_of_and, first_of_expr}
-use Rattle.stab_parse.specs.Grammar.{WrittenType, ParamList, Params, Callee, called, started, Block, block, block_with_last, no_items, next_item, Expr, And, Cmp, Sum, Term, one_unary, times, Unary, number, other, Other, literal, least, negate, not, primary, Primary, text, truth, variable, call, call_with, unit, group, pair, in_block, in_if, act, one_arg, next_arg, If, if_then, if_else, if_else_if, new_chan, act_one, act_two, act_alone, Program}
+use Rattle.stab_parse.specs.Forms.{form, Parts, no_parts, next_part, type_of, name_of, head_of_block, names_of, form_of_block, parts_of_items, form_of_expr, form_of_and, form_of_cmp, form_of_sum, form_of_term, form_of_unary, form_of_other, form_of_primary, form_of_if, first_of_block, first_of_if, first_of_primary, first_of_other, first_of_unary, first_of_term, first_of_sum, first_of_cmp, first_of_and, first_of_expr}
+use Rattle.stab_parse.specs.Grammar.{WrittenType, ParamList, Params, Callee, called, started, Block, block, block_with_last, Items, no_items, next_item, Item, Expr, And, Cmp, Sum, Term, one_unary, times, Unary, number, other, Other, literal, least, negate, not, primary, Primary, text, truth, variable, call, call_with, unit, group, pair, in_block, in_if, act, one_arg, next_arg, If, if_then, if_else, if_else_if, new_chan, act_one, act_two, act_alone, Program}
 use Rattle.stab_parse.proofs.Machine.{Opening, opening, RoundParam, first_param, later_param, RoundType, of_param, of_result, in_chan, in_ref, pair_left, pair_right, of_chan, RoundItems, items_in, RoundBlock, body, block_primary, then_block, else_block, RoundIf, if_primary, after_else, RoundExpr, group_in, second_in, first_arg, later_arg, one_in, two_left, two_right, let_value, item_in, condition, RoundAnd, first_and, after_or, RoundCmp, first_cmp, after_and, RoundSum, first_sum, after_compare, RoundTerm, first_term, after_plus, after_minus, RoundUnary, first_unary, after_times, after_not, RoundOther, no_sign, after_negate, open_items, open_block, open_if, open_expr, open_and, open_cmp, open_sum, open_term, open_unary, open_other, open_type, State, fn_read, fn_named, params_open, param_owed, param_named, params_closed, owes_type, chan_type_read, ref_type_read, has_type, owes, signed, opened, named, call_open, word_read, word_named, alone_read, alone_open, one_read, two_read, chan_read, chan_typed, chan_open, in_items, let_read, let_named, has, then_read, else_read, open_of, unary_at, put, put_other, put_primary, put_if, put_block, sum_with, round_term, cmp_with, round_sum, and_with, round_cmp, expr_with, round_and, params_with, opening_of, Move, fails, goes, opens, close_paren, comma, semicolon, close_brace, open_brace, ends_expr, ends_and, ends_cmp, relate, ends_sum, ends_term, step_done, begin_other, step_owes, step_signed, step_opened, step_call_open, end_block, step_items, step_named, step_then, step_else, step_owes_type, step_has_type, step}
 use Rattle.stab_parse.proofs.Machine as machine
 use Rattle.stab_parse.specs.Frames.{top_of, below_top}
@@ -186,9 +186,21 @@ blocks (block_primary c) b = (settles_primary c (in_block b)).goes_there
 blocks (then_block i e c) b = refl
 blocks (else_block i e b l c) d = (settles_if c (if_else i e b l d)).goes_there
 
-block_done_some : (xs : List (Option Span)) (x : Option Span) (at n d : ℕ) (place : BlockPlace) (s : Seen) (r : Reader) → block_done at (xs ++ x ∷ []) n d place s r ≡ block_in place (seen_at at (moves.deeper (max d s.depth))) (moves.formed (head.Block (xs ++ x ∷ [])) (more n) at (max d s.depth) r)
-block_done_some [] x at n d place s r = refl
-block_done_some (y ∷ xs) x at n d place s r = refl
+block_done_some : (xs : List (Option Span)) (x : Option Span) (at d : ℕ) (place : BlockPlace) (s : Seen) (r : Reader) → block_done at (xs ++ x ∷ []) d place s r ≡ block_in place (seen_at at (moves.deeper (max d s.depth))) (moves.formed (head_of_block (xs ++ x ∷ [])) (more (length (xs ++ x ∷ []))) at (max d s.depth) r)
+block_done_some [] x at d place s r = refl
+block_done_some (y ∷ xs) x at d place s r = refl
+
+-- as many names as items, as far as 64 bits count
+count_items : (is : Items) → count_of (parts_of_items is) ≡ min (length (names_of is)) (2 ^ 64 - 1)
+count_items no_items = refl
+count_items (next_item is i m) = omega (arith, count_items is, length-append (names_of is) (name_of i ∷ []))
+
+-- a block with items and a last form
+block_done_items : (is : Items) (i : Item) (m : Span) (at d : ℕ) (place : BlockPlace) (s : Seen) (r : Reader) → block_done at (names_of (next_item is i m)) d place s r ≡ block_in place (seen_at at (moves.deeper (max d s.depth))) (moves.formed (head_of_block (names_of (next_item is i m))) (more (count_of (parts_of_items (next_item is i m)))) at (max d s.depth) r)
+block_done_items is i m at d place s r =
+    let count : more (length (names_of (next_item is i m))) ≡ more (count_of (parts_of_items (next_item is i m))) = omega (arith, count_items (next_item is i m)) in
+    block_done_some (names_of is) (name_of i) at d place s r
+    ∙ ap (λ n. block_in place (seen_at at (moves.deeper (max d s.depth))) (moves.formed (head_of_block (names_of (next_item is i m))) n at (max d s.depth) r)) count
 
 unit_place_some : (xs : List (Option Span)) (x : Option Span) (at end : ℕ) → unit_place (xs ++ x ∷ []) at end ≡ end
 unit_place_some [] x at end = refl
@@ -261,7 +273,7 @@ agrees_close_brace (two_right w q o x m c) e p = refl
 agrees_close_brace (let_value l x q (items_in o is c)) e p = refl
 agrees_close_brace (item_in (items_in o no_items c)) e p = blocks c (block_with_last o no_items e p)
 agrees_close_brace (item_in (items_in o (next_item is i m) c)) e p =
-    block_done_some (names_of is) (name_of i) o.start (count_of (parts_of_items (next_item is i m))) (height_of_parts (parts_of_items (next_item is i m))) (place_of c) (seen_expr e)
+    block_done_items is i m o.start (height_of_parts (parts_of_items (next_item is i m))) (place_of c) (seen_expr e)
     (with_form (form_of_expr e) (with_parts (parts_of_items (next_item is i m)) (at_block c)))
     ∙ blocks c (block_with_last o (next_item is i m) e p)
 agrees_close_brace (condition i c) e p = refl
@@ -283,8 +295,8 @@ agrees_end_items (items_in o no_items c) p = blocks c (block o no_items p)
 agrees_end_items (items_in o (next_item is i m) c) p =
     let parts : Parts = parts_of_items (next_item is i m) in
     let names : List (Option Span) = names_of is ++ name_of i ∷ [] in
-    ap (λ at. block_done o.start names (count_of parts) (height_of_parts parts) (place_of c) (seen_at at 1) (moves.formed head.Unit 0 at 0 (with_parts parts (at_block c)))) (unit_place_some (names_of is) (name_of i) o.start p.start)
-    ∙ block_done_some (names_of is) (name_of i) o.start (count_of parts) (height_of_parts parts) (place_of c) (seen_at p.start 1) (moves.formed head.Unit 0 p.start 0 (with_parts parts (at_block c)))
+    ap (λ at. block_done o.start names (height_of_parts parts) (place_of c) (seen_at at 1) (moves.formed head.Unit 0 at 0 (with_parts parts (at_block c)))) (unit_place_some (names_of is) (name_of i) o.start p.start)
+    ∙ block_done_items is i m o.start (height_of_parts parts) (place_of c) (seen_at p.start 1) (moves.formed head.Unit 0 p.start 0 (with_parts parts (at_block c)))
     ∙ blocks c (block o (next_item is i m) p)
 
 abbrev ClosesNothing : Symbol → Type 0
@@ -296,13 +308,12 @@ ClosesNothing OpenBrace = ⊥
 ClosesNothing _ = Unit {0}
 
 no_close : (top : Option Frame) (k : Symbol) (p : Span) (s : Seen) (r : Reader) → ClosesNothing k → (moves.behind_top top k p s r).step ≡ Refused
-no_close None k p s r h = refl
-no_close (Some f) CloseParen p s r h = absurd h
-no_close (Some f) Comma p s r h = absurd h
-no_close (Some f) Semicolon p s r h = absurd h
-no_close (Some f) CloseBrace p s r h = absurd h
-no_close (Some f) OpenBrace p s r h = absurd h
-no_close (Some f) k p s r h = refl
+no_close top CloseParen p s r h = absurd h
+no_close top Comma p s r h = absurd h
+no_close top Semicolon p s r h = absurd h
+no_close top CloseBrace p s r h = absurd h
+no_close top OpenBrace p s r h = absurd h
+no_close top k p s r h = refl
 
 agrees_expr : (c : RoundExpr) (e : Expr) (k : Symbol) (p : Span) → Agrees (ends_expr c e k p) (closes k p (behind_expr c e))
 agrees_expr c e CloseParen p = agrees_close_paren c e p

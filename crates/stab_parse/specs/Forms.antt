@@ -1,5 +1,6 @@
 -- What is written means: the forms of a program. A form is its first byte, its head and its parts.
-use Rattle.std.specs.Prelude.{ℕ, ◌^◌, pos, neg_ℤ, List, [], ◌∷◌, ◌++◌, Option, Some, None}
+use Rattle.std.specs.Prelude.{ℕ, ◌^◌, pos, neg_ℤ, if◌then◌else◌, List, [], ◌∷◌, ◌++◌, Option, Some, None, is_some}
+use Rattle.std.specs.List.{list_any}
 use Rattle.stab_code.specs.declared.head.Op.TheVariants as op
 use Rattle.stab_code.specs.Written.{Written}
 use Rattle.stab_code.specs.Written as written
@@ -118,6 +119,10 @@ abbrev pub names_of : Items → List (Option Span)
 names_of no_items = []
 names_of (next_item is i m) = names_of is ++ name_of i ∷ []
 
+-- a block by the names of its items, which it has just where one of them is a let
+abbrev pub head_of_block : List (Option Span) → Head
+head_of_block names = if list_any is_some names then head.LetBlock names else head.Block
+
 -- a call of the name
 abbrev pub head_of_callee : Callee → Head
 head_of_callee (called f) = head.Call f
@@ -126,7 +131,7 @@ head_of_callee (started w p f) = head.Start w f
 -- what `{ items last }` is: the last form alone where there are no items
 abbrev pub block_form : ℕ → Items → Parts → Form → Form
 block_form at no_items parts last = last
-block_form at (next_item is i m) parts last = form at (head.Block (names_of (next_item is i m))) (next_part parts last)
+block_form at (next_item is i m) parts last = form at (head_of_block (names_of (next_item is i m))) (next_part parts last)
 
 -- The forms. Brackets round an expression add nothing; `{}`, a missing last form and a missing else are unit.
 abbrev mutual

@@ -3,6 +3,8 @@ pub mod FormList
 pub mod Forms
 pub mod Frames
 pub mod Grammar
+pub mod ItemNames
 pub mod Moves
+pub mod Seen
 pub mod Symbols
 pub mod Takes

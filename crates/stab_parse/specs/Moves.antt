@@ -13,7 +13,7 @@ use Rattle.stab_parse.specs.declared.frame.Level.{Level}
 use Rattle.stab_parse.specs.declared.frame.Level.TheVariants.{Product, Sum, Relation, And, Or}
 use Rattle.stab_parse.specs.declared.frame.Phase.{Phase}
 use Rattle.stab_parse.specs.declared.frame.Phase.TheVariants as phase
-use Rattle.stab_parse.specs.declared.frame.Seen.{Seen}
+use Rattle.stab_parse.specs.Seen.{Seen}
 use Rattle.stab_parse.specs.declared.parser.Parser.{Parser}
 use Rattle.stab_parse.specs.declared.reader.Reader.{Reader}
 use Rattle.stab_parse.specs.declared.parser.Admission.{Admission}
@@ -27,7 +27,7 @@ use Rattle.stab_parse.specs.declared.tree.FormNode.{FormNode}
 use Rattle.stab_parse.specs.declared.tree.Head.{Head}
 use Rattle.stab_parse.specs.declared.tree.Head.TheVariants as head
 use Rattle.stab_parse.specs.declared.tree.Param.{Param}
-use Rattle.stab_parse.specs.Forms.{basic_of}
+use Rattle.stab_parse.specs.Forms.{basic_of, head_of_block}
 use Rattle.stab_lex.specs.declared.token.Token.{Token}
 use Rattle.stab_parse.specs.declared.fault.ParseFault.{ParseFault}
 use Rattle.stab_parse.specs.declared.fault.ParseFault.TheVariants.{Unexpected, TooNested}
@@ -220,11 +220,16 @@ first_of_call (Started w at f) = at
 abbrev pub call_done : Callee → ℕ → ℕ → Reader → Settled
 call_done c n d r = complete (head_of_call c) n (first_of_call c) d r
 
+-- a step with the frame that was popped, if there was one, and the reader without it
+abbrev pub in_top : (Frame → Seen → Reader → Outcome) → Option Frame → Seen → Reader → Outcome
+in_top step None s r = outcome Refused r
+in_top step (Some f) s r = step f s r
+
 -- the frame that was popped, what is behind the expression, and the reader without the frame
 abbrev pub close_paren : Frame → Seen → Reader → Outcome
 close_paren (frame.Group at) s r = settled_outcome (settle (seen_at at s.depth) r)
 close_paren (frame.Second at left) s r = settled_outcome (complete head.Pair 2 at (both left s.depth) r)
-close_paren (frame.Args c n d) s r = settled_outcome (call_done c (more n) (max d s.depth) r)
+close_paren (frame.Args c d n) s r = settled_outcome (call_done c (more n) (max d s.depth) r)
 close_paren (frame.One w at) s r = settled_outcome (complete (head.Act w) 1 at (alone s.depth) r)
 close_paren (frame.TwoRight w at left) s r = settled_outcome (complete (head.Act w) 2 at (both left s.depth) r)
 close_paren _ s r = outcome Refused r
@@ -234,22 +239,18 @@ owed_in f r = outcome (Goes phase.Owes) (pushed f r)
 
 abbrev pub comma : Frame → Seen → Reader → Outcome
 comma (frame.Group at) s r = owed_in (frame.Second at s.depth) r
-comma (frame.Args c n d) s r = owed_in (frame.Args c (more n) (max d s.depth)) r
+comma (frame.Args c d n) s r = owed_in (frame.Args c (max d s.depth) (more n)) r
 comma (frame.TwoLeft w at) s r = owed_in (frame.TwoRight w at s.depth) r
 comma _ s r = outcome Refused r
 
 -- an item is complete
 abbrev pub item : Option Span → Frame → Seen → Reader → Outcome
-item name (frame.Items at d names n place) s r =
-    outcome (Goes phase.InItems) (pushed (frame.Items at (max d s.depth) (names ++ name ∷ []) (more n) place) r)
+item name (frame.Items d at names place) s r =
+    outcome (Goes phase.InItems) (pushed (frame.Items (max d s.depth) at (names ++ name ∷ []) place) r)
 item name _ s r = outcome Refused r
 
-abbrev pub item_in : Option Span → Option Frame → Seen → Reader → Outcome
-item_in name None s r = outcome Refused r
-item_in name (Some f) s r = item name f s r
-
 abbrev pub semicolon : Frame → Seen → Reader → Outcome
-semicolon (frame.Let x) s r = item_in (Some x) (top_of r.frames) s (popped r)
+semicolon (frame.Let x) s r = in_top (item (Some x)) (top_of r.frames) s (popped r)
 semicolon f s r = item None f s r
 
 -- a function is complete
@@ -259,23 +260,19 @@ function_done x ps t r =
 
 -- a block is complete, where it stands
 abbrev pub block_in : BlockPlace → Seen → Reader → Outcome
-block_in (Body x ps t) s r = function_done x ps t r
+block_in (Body f) s r = function_done f.name f.params f.gives r
 block_in Form s r = settled_outcome (settle s r)
 block_in (Then at d) s r = outcome (Goes (phase.ThenRead at (both d s.depth))) r
 block_in (Else at d) s r = settled_outcome (settle_if at (max d s.depth) r)
 
--- the names of the items of a block that has items
-abbrev pub names_if_any : List (Option Span) → Option (List (Option Span))
-names_if_any [] = None
-names_if_any (x ∷ xs) = Some (x ∷ xs)
-
 -- a block ends with a last form
-abbrev pub block_done : ℕ → List (Option Span) → ℕ → ℕ → BlockPlace → Seen → Reader → Outcome
-block_done at [] n d place s r = block_in place (seen_at at s.depth) r
-block_done at (x ∷ xs) n d place s r = block_in place (seen_at at (deeper (max d s.depth))) (formed (head.Block (x ∷ xs)) (more n) at (max d s.depth) r)
+abbrev pub block_done : ℕ → List (Option Span) → ℕ → BlockPlace → Seen → Reader → Outcome
+block_done at [] d place s r = block_in place (seen_at at s.depth) r
+block_done at (x ∷ xs) d place s r =
+    block_in place (seen_at at (deeper (max d s.depth))) (formed (head_of_block (x ∷ xs)) (more (length (x ∷ xs))) at (max d s.depth) r)
 
 abbrev pub close_brace : Frame → Seen → Reader → Outcome
-close_brace (frame.Items at d names n place) s r = block_done at names n d place s r
+close_brace (frame.Items d at names place) s r = block_done at names d place s r
 close_brace _ s r = outcome Refused r
 
 -- the place of a unit that isn't written: the block's, where it is empty
@@ -284,26 +281,22 @@ unit_place [] at end = at
 unit_place (x ∷ xs) at end = end
 
 abbrev pub end_items : Option Frame → ℕ → Reader → Outcome
-end_items (Some (frame.Items at d names n place)) end r =
-    block_done at names n d place (seen_at (unit_place names at end) 1) (formed head.Unit 0 (unit_place names at end) 0 r)
+end_items (Some (frame.Items d at names place)) end r =
+    block_done at names d place (seen_at (unit_place names at end) 1) (formed head.Unit 0 (unit_place names at end) 0 r)
 end_items _ end r = outcome Refused r
 
-abbrev pub open_brace : Frame → Seen → ℕ → Reader → Outcome
-open_brace (frame.Condition at) s o r = outcome (Opens phase.InItems) (pushed (frame.Items o 0 [] 0 (Then at s.depth)) r)
-open_brace _ s o r = outcome Refused r
+abbrev pub open_brace : ℕ → Frame → Seen → Reader → Outcome
+open_brace o (frame.Condition at) s r = outcome (Opens phase.InItems) (pushed (frame.Items 0 o [] (Then at s.depth)) r)
+open_brace o _ s r = outcome Refused r
 
--- a token behind a whole expression
-abbrev pub behind : Frame → Symbol → Span → Seen → Reader → Outcome
-behind f symbol.CloseParen p s r = close_paren f s r
-behind f symbol.Comma p s r = comma f s r
-behind f symbol.Semicolon p s r = semicolon f s r
-behind f symbol.CloseBrace p s r = close_brace f s r
-behind f symbol.OpenBrace p s r = open_brace f s p.start r
-behind f _ p s r = outcome Refused r
-
+-- a token behind a whole expression, with the frame that was popped
 abbrev pub behind_top : Option Frame → Symbol → Span → Seen → Reader → Outcome
-behind_top None k p s r = outcome Refused r
-behind_top (Some f) k p s r = behind f k p s r
+behind_top top symbol.CloseParen p s r = in_top close_paren top s r
+behind_top top symbol.Comma p s r = in_top comma top s r
+behind_top top symbol.Semicolon p s r = in_top semicolon top s r
+behind_top top symbol.CloseBrace p s r = in_top close_brace top s r
+behind_top top symbol.OpenBrace p s r = in_top (open_brace p.start) top s r
+behind_top top _ p s r = outcome Refused r
 
 abbrev pub closes : Symbol → Span → Settled → Outcome
 closes k p s = behind_top (top_of s.reader.frames) k p s.seen (popped s.reader)
@@ -363,7 +356,7 @@ begins (symbol.Truth b) p r = settled_outcome (complete (head.Truth b) 0 p.start
 begins symbol.Name p r = outcome (Goes (phase.Named p)) r
 begins (symbol.Call w) p r = outcome (Goes (phase.WordRead w p.start)) r
 begins symbol.OpenParen p r = outcome (Opens (phase.Opened p.start)) r
-begins symbol.OpenBrace p r = outcome (Opens phase.InItems) (pushed (frame.Items p.start 0 [] 0 Form) r)
+begins symbol.OpenBrace p r = outcome (Opens phase.InItems) (pushed (frame.Items 0 p.start [] Form) r)
 begins symbol.WordIf p r = owed_in (frame.Condition p.start) r
 begins symbol.WordChan p r = outcome (Goes (phase.ChanRead p.start)) r
 begins (symbol.ActOne w) p r = outcome (Goes (phase.OneRead w p.start)) r
@@ -398,7 +391,7 @@ then_read at d k p r =
     else ends_settled k p (settle_if at (max d 1) (formed head.Unit 0 at 0 r))
 
 abbrev pub else_read : ℕ → ℕ → Symbol → Span → Reader → Outcome
-else_read at d symbol.OpenBrace p r = outcome (Opens phase.InItems) (pushed (frame.Items p.start 0 [] 0 (Else at d)) r)
+else_read at d symbol.OpenBrace p r = outcome (Opens phase.InItems) (pushed (frame.Items 0 p.start [] (Else at d)) r)
 else_read at d symbol.WordIf p r = outcome (Opens phase.Owes) (pushed (frame.Condition p.start) (pushed (frame.ElseIf at d) r))
 else_read at d _ p r = outcome Refused r
 
@@ -416,7 +409,7 @@ param_typed f ps x t symbol.CloseParen r = outcome (Goes (phase.ParamsClosed f (
 param_typed f ps x t _ r = outcome Refused r
 
 abbrev pub result_typed : Span → List Param → Written → Symbol → ℕ → Reader → Outcome
-result_typed f ps t symbol.OpenBrace p r = outcome (Opens phase.InItems) (pushed (frame.Items p 0 [] 0 (Body f ps t)) r)
+result_typed f ps t symbol.OpenBrace p r = outcome (Opens phase.InItems) (pushed (frame.Items 0 p [] (Body (record { name = f; params = ps; gives = t }))) r)
 result_typed f ps t _ p r = outcome Refused r
 
 abbrev pub bracket_typed : Written → Symbol → Reader → Outcome
@@ -517,6 +510,11 @@ move_typed (phase.HasType t) k p r = typed_top t (top_of r.frames) k p.start (po
 move_typed (phase.ChanTyped at t) k p r = paren (phase.ChanOpen at t) k r
 move_typed (phase.ChanOpen at t) k p r = paren_end (head.NewChan t) at k r
 move_typed _ k p r = outcome Refused r
+
+-- the form that was read last, if it was one
+abbrev pub form_read : Phase → Option Seen
+form_read (phase.Has s) = Some s
+form_read _ = None
 
 -- a token in each phase
 abbrev pub move : Phase → Symbol → Span → Reader → Outcome

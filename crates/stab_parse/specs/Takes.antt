@@ -5,7 +5,7 @@ use Rattle.stab_parse.specs.declared.frame.Frame.TheVariants as frame
 use Rattle.stab_parse.specs.declared.frame.Left.{Left}
 use Rattle.stab_parse.specs.declared.frame.Level.{Level}
 use Rattle.stab_parse.specs.declared.frame.Level.TheVariants.{Product, Sum, Relation, And, Or}
-use Rattle.stab_parse.specs.declared.frame.Seen.{Seen}
+use Rattle.stab_parse.specs.Seen.{Seen}
 use Rattle.stab_parse.specs.declared.frame.Taker.{Taker}
 use Rattle.stab_parse.specs.declared.frame.Taker.TheVariants as taker
 use Rattle.stab_parse.specs.declared.reader.Reader.{Reader}

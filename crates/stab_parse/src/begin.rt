@@ -72,11 +72,11 @@ impl Parser {
     /// A block opens.
     pub(crate) fn block(&mut self, at: u32, place: BlockPlace) -> Result<Admission, AllocError>
         ensures ok { IfOk result (λ admission. did admission self.new
-            ≡ outcome (Opens Phase.InItems) (pushed (Frame.Items at 0 [] 0 place) self.old.reader)) }
+            ≡ outcome (Opens Phase.InItems) (pushed (Frame.Items 0 at [] place) self.old.reader)) }
     {
         self.reader
             .frames
-            .push(Frame::Items(at, 0, ItemNames::new(), 0, place))?;
+            .push(Frame::Items(0, at, ItemNames::new(), place))?;
         Ok(self.opens(Phase::InItems))
     }
 

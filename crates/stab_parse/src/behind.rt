@@ -1,10 +1,10 @@
 //! What a token does behind an expression. What isn't done for most tokens isn't inlined, since each would then pay for the
 //! locals of all.
-ghost use Rattle.std.specs.Prelude.{◌≡◌, Option, IfOk};
+ghost use Rattle.std.specs.Prelude.{◌≡◌, ◌++◌, ◌∷◌, [], Option, Some, IfOk};
 ghost use Rattle.stab_parse.specs.Frames.{top_of};
-ghost use Rattle.stab_parse.specs.Moves.{behind, behind_top, block_done, block_in, call_done, close_brace, close_paren, closes, comma, did, end_items, ends, first_of_call, head_of_call, item, item_in, open_brace, operator, owed_in, popped, relation, relation_top, semicolon, settled, whole_and, whole_expr, whole_sum};
+ghost use Rattle.stab_parse.specs.Moves.{Goes, behind_top, block_done, block_in, call_done, close_brace, close_paren, closes, comma, did, end_items, ends, first_of_call, head_of_call, in_top, item, open_brace, operator, outcome, owed_in, popped, pushed, relation, relation_top, semicolon, settled, whole_and, whole_expr, whole_sum};
 
-use crate::frame::{BlockPlace, Callee, Frame, Level, Phase, Seen};
+use crate::frame::{BlockPlace, Callee, Frame, Level, Phase, Seen, SignatureParts};
 use crate::parser::{Admission, Parser};
 use crate::reader::{Reader, deepest, is_operator, one_more, only, takes_right};
 use crate::symbol::{Span, Symbol};
@@ -57,14 +57,11 @@ impl Reader {
         self.join(Level::And, comparison)
     }
 
+    /// An expression is complete, and with it the operators that it ends in.
     #[inline(never)]
-    #[tactic(auto, using(crate::proofs::Settling::stands_alone))]
     fn whole_expr(&mut self, seen: Seen) -> Result<Seen, AllocError>
         ensures ok { IfOk result (λ whole. settled whole self.new ≡ whole_expr seen self.old) }
     {
-        if !is_operator(self.frames.top()) {
-            return Ok(seen);
-        }
         let and = self.whole_and(seen)?;
         self.join(Level::Or, and)
     }
@@ -81,28 +78,26 @@ impl Parser {
     }
 
     #[inline(never)]
-    fn close_paren(&mut self, top: Frame, seen: Seen) -> Result<Admission, AllocError>
-        ensures ok { IfOk result (λ admission. did admission self.new ≡ close_paren top seen self.old.reader) }
+    fn close_paren(&mut self, seen: Seen) -> Result<Admission, AllocError>
+        ensures ok { IfOk result (λ admission. did admission self.new
+            ≡ in_top close_paren (top_of self.old.reader.frames) seen (popped self.old.reader)) }
     {
-        let whole = match top {
-            Frame::Group(at) => self.reader.settle(Seen {
-                first: at,
-                depth: seen.depth,
-            })?,
-            Frame::Second(at, left) => {
+        let whole = match self.reader.frames.pop() {
+            Some(Frame::Group(at)) => self.reader.settle(Seen::new(at, seen.depth()))?,
+            Some(Frame::Second(at, left)) => {
                 self.reader
-                    .complete(Head::Pair, 2, at, deepest(left, seen.depth))?
+                    .complete(Head::Pair, 2, at, deepest(left, seen.depth()))?
             }
-            Frame::Args(callee, before, depth) => {
+            Some(Frame::Args(callee, depth, before)) => {
                 self.reader
-                    .call(callee, one_more(before), depth.max(seen.depth))?
+                    .call(callee, one_more(before), depth.max(seen.depth()))?
             }
-            Frame::One(word, at) => self
+            Some(Frame::One(word, at)) => self
                 .reader
-                .complete(Head::Act(word), 1, at, only(seen.depth))?,
-            Frame::TwoRight(word, at, left) => {
+                .complete(Head::Act(word), 1, at, only(seen.depth()))?,
+            Some(Frame::TwoRight(word, at, left)) => {
                 self.reader
-                    .complete(Head::Act(word), 2, at, deepest(left, seen.depth))?
+                    .complete(Head::Act(word), 2, at, deepest(left, seen.depth()))?
             }
             _ => return Ok(Admission::Refused),
         };
@@ -110,65 +105,67 @@ impl Parser {
     }
 
     #[inline(never)]
-    fn comma(&mut self, top: Frame, seen: Seen) -> Result<Admission, AllocError>
-        ensures ok { IfOk result (λ admission. did admission self.new ≡ comma top seen self.old.reader) }
+    fn comma(&mut self, seen: Seen) -> Result<Admission, AllocError>
+        ensures ok { IfOk result (λ admission. did admission self.new
+            ≡ in_top comma (top_of self.old.reader.frames) seen (popped self.old.reader)) }
     {
-        match top {
-            Frame::Group(at) => self.owed_in(Frame::Second(at, seen.depth)),
-            Frame::Args(callee, before, depth) => {
-                self.owed_in(Frame::Args(callee, one_more(before), depth.max(seen.depth)))
+        match self.reader.frames.pop() {
+            Some(Frame::Group(at)) => self.owed_in(Frame::Second(at, seen.depth())),
+            Some(Frame::Args(callee, depth, before)) => {
+                self.owed_in(Frame::Args(callee, depth.max(seen.depth()), one_more(before)))
             }
-            Frame::TwoLeft(word, at) => self.owed_in(Frame::TwoRight(word, at, seen.depth)),
+            Some(Frame::TwoLeft(word, at)) => self.owed_in(Frame::TwoRight(word, at, seen.depth())),
             _ => Ok(Admission::Refused),
         }
     }
 
-    #[inline(never)]
+    /// An item is complete, in a block with these items before it.
     fn item(
         &mut self,
         alloc: Global,
         name: Option<Span>,
-        top: Frame,
-        seen: Seen,
+        depth: u8,
+        at: u32,
+        before: ItemNames,
+        place: BlockPlace,
     ) -> Result<Admission, AllocError>
-        ensures ok { IfOk result (λ admission. did admission self.new ≡ item name top seen self.old.reader) }
+        ensures ok { IfOk result (λ admission. did admission self.new
+            ≡ outcome (Goes Phase.InItems) (pushed (Frame.Items depth at (before ++ name ∷ []) place) self.old.reader)) }
     {
-        match top {
-            Frame::Items(at, depth, mut names, before, place) => {
-                names.push(alloc, name)?;
-                let depth = depth.max(seen.depth);
-                let items = one_more(before);
-                self.reader
-                    .frames
-                    .push(Frame::Items(at, depth, names, items, place))?;
-                Ok(self.goes(Phase::InItems))
+        let mut names = before;
+        names.push(alloc, name)?;
+        self.reader
+            .frames
+            .push(Frame::Items(depth, at, names, place))?;
+        Ok(self.goes(Phase::InItems))
+    }
+
+    /// A let is complete.
+    #[inline(never)]
+    fn let_item(&mut self, alloc: Global, name: Span, seen: Seen) -> Result<Admission, AllocError>
+        ensures ok { IfOk result (λ admission. did admission self.new
+            ≡ in_top (item (Some name)) (top_of self.old.reader.frames) seen (popped self.old.reader)) }
+    {
+        match self.reader.frames.pop() {
+            Some(Frame::Items(depth, at, names, place)) => {
+                self.item(alloc, Some(name), depth.max(seen.depth()), at, names, place)
             }
             _ => Ok(Admission::Refused),
         }
     }
 
-    fn item_in(
-        &mut self,
-        alloc: Global,
-        name: Option<Span>,
-        seen: Seen,
-    ) -> Result<Admission, AllocError>
+    /// A semicolon behind a whole expression.
+    #[inline(never)]
+    fn semicolon(&mut self, alloc: Global, seen: Seen) -> Result<Admission, AllocError>
         ensures ok { IfOk result (λ admission. did admission self.new
-            ≡ item_in name (top_of self.old.reader.frames) seen (popped self.old.reader)) }
+            ≡ in_top semicolon (top_of self.old.reader.frames) seen (popped self.old.reader)) }
     {
         match self.reader.frames.pop() {
-            Some(top) => self.item(alloc, name, top, seen),
-            None => Ok(Admission::Refused),
-        }
-    }
-
-    #[inline(never)]
-    fn semicolon(&mut self, alloc: Global, top: Frame, seen: Seen) -> Result<Admission, AllocError>
-        ensures ok { IfOk result (λ admission. did admission self.new ≡ semicolon top seen self.old.reader) }
-    {
-        match top {
-            Frame::Let(name) => self.item_in(alloc, Some(name), seen),
-            other => self.item(alloc, None, other, seen),
+            Some(Frame::Items(depth, at, names, place)) => {
+                self.item(alloc, None, depth.max(seen.depth()), at, names, place)
+            }
+            Some(Frame::Let(name)) => self.let_item(alloc, name, seen),
+            _ => Ok(Admission::Refused),
         }
     }
 
@@ -177,7 +174,12 @@ impl Parser {
         ensures ok { IfOk result (λ admission. did admission self.new ≡ block_in place seen self.old.reader) }
     {
         match place {
-            BlockPlace::Body(name, params, gives) => {
+            BlockPlace::Body(signature) => {
+                let SignatureParts {
+                    name,
+                    params,
+                    gives,
+                } = signature.into_parts();
                 let forms_end = self.reader.forms.len();
                 self.reader.functions.push(Function {
                     name,
@@ -192,11 +194,11 @@ impl Parser {
                 Ok(self.goes(Phase::Has(whole)))
             }
             BlockPlace::Then(at, condition) => {
-                let depth = deepest(condition, seen.depth);
+                let depth = deepest(condition, seen.depth());
                 Ok(self.goes(Phase::ThenRead(at, depth)))
             }
             BlockPlace::Else(at, before) => {
-                let whole = self.reader.settle_if(at, before.max(seen.depth))?;
+                let whole = self.reader.settle_if(at, before.max(seen.depth()))?;
                 Ok(self.goes(Phase::Has(whole)))
             }
         }
@@ -206,34 +208,32 @@ impl Parser {
         &mut self,
         at: u32,
         names: ItemNames,
-        items: usize,
         depth: u8,
         place: BlockPlace,
         last: Seen,
     ) -> Result<Admission, AllocError>
         ensures ok { IfOk result (λ admission. did admission self.new
-            ≡ block_done at names items depth place last self.old.reader) }
+            ≡ block_done at names depth place last self.old.reader) }
     {
-        let Some(names) = names.into_lets() else {
-            let seen = Seen {
-                first: at,
-                depth: last.depth,
-            };
+        let items = names.len();
+        if items == 0 {
+            let seen = Seen::new(at, last.depth());
             return self.block_in(place, seen);
-        };
-        let depth = depth.max(last.depth);
-        let seen = self
-            .reader
-            .form(Head::Block(names), one_more(items), at, depth)?;
+        }
+        let depth = depth.max(last.depth());
+        let head = names.into_head();
+        let seen = self.reader.form(head, one_more(items), at, depth)?;
         self.block_in(place, seen)
     }
 
-    fn close_brace(&mut self, top: Frame, seen: Seen) -> Result<Admission, AllocError>
-        ensures ok { IfOk result (λ admission. did admission self.new ≡ close_brace top seen self.old.reader) }
+    #[inline(never)]
+    fn close_brace(&mut self, seen: Seen) -> Result<Admission, AllocError>
+        ensures ok { IfOk result (λ admission. did admission self.new
+            ≡ in_top close_brace (top_of self.old.reader.frames) seen (popped self.old.reader)) }
     {
-        match top {
-            Frame::Items(at, depth, names, items, place) => {
-                self.block_done(at, names, items, depth, place, seen)
+        match self.reader.frames.pop() {
+            Some(Frame::Items(depth, at, names, place)) => {
+                self.block_done(at, names, depth, place, seen)
             }
             _ => Ok(Admission::Refused),
         }
@@ -245,46 +245,28 @@ impl Parser {
             ≡ end_items (top_of self.old.reader.frames) end (popped self.old.reader)) }
     {
         match self.reader.frames.pop() {
-            Some(Frame::Items(at, depth, names, items, place)) => {
-                let unwritten = if names.is_empty() { at } else { end };
+            Some(Frame::Items(depth, at, names, place)) => {
+                let unwritten = if names.len() == 0 { at } else { end };
                 let unit = self.reader.form(Head::Unit, 0, unwritten, 0)?;
-                self.block_done(at, names, items, depth, place, unit)
+                self.block_done(at, names, depth, place, unit)
             }
             _ => Ok(Admission::Refused),
         }
     }
 
-    fn open_brace(&mut self, top: Frame, seen: Seen, at: u32) -> Result<Admission, AllocError>
-        ensures ok { IfOk result (λ admission. did admission self.new ≡ open_brace top seen at self.old.reader) }
+    #[inline(never)]
+    fn open_brace(&mut self, at: u32, seen: Seen) -> Result<Admission, AllocError>
+        ensures ok { IfOk result (λ admission. did admission self.new
+            ≡ in_top (open_brace at) (top_of self.old.reader.frames) seen (popped self.old.reader)) }
     {
-        match top {
-            Frame::Condition(first) => {
-                let place = BlockPlace::Then(first, seen.depth);
+        match self.reader.frames.pop() {
+            Some(Frame::Condition(first)) => {
+                let place = BlockPlace::Then(first, seen.depth());
                 self.reader
                     .frames
-                    .push(Frame::Items(at, 0, ItemNames::new(), 0, place))?;
+                    .push(Frame::Items(0, at, ItemNames::new(), place))?;
                 Ok(self.opens(Phase::InItems))
             }
-            _ => Ok(Admission::Refused),
-        }
-    }
-
-    fn behind(
-        &mut self,
-        alloc: Global,
-        top: Frame,
-        symbol: Symbol,
-        span: Span,
-        seen: Seen,
-    ) -> Result<Admission, AllocError>
-        ensures ok { IfOk result (λ admission. did admission self.new ≡ behind top symbol span seen self.old.reader) }
-    {
-        match symbol {
-            Symbol::CloseParen => self.close_paren(top, seen),
-            Symbol::Comma => self.comma(top, seen),
-            Symbol::Semicolon => self.semicolon(alloc, top, seen),
-            Symbol::CloseBrace => self.close_brace(top, seen),
-            Symbol::OpenBrace => self.open_brace(top, seen, span.start),
             _ => Ok(Admission::Refused),
         }
     }
@@ -299,9 +281,16 @@ impl Parser {
         ensures ok { IfOk result (λ admission. did admission self.new
             ≡ behind_top (top_of self.old.reader.frames) symbol span seen (popped self.old.reader)) }
     {
-        match self.reader.frames.pop() {
-            Some(top) => self.behind(alloc, top, symbol, span, seen),
-            None => Ok(Admission::Refused),
+        match symbol {
+            Symbol::CloseParen => self.close_paren(seen),
+            Symbol::Comma => self.comma(seen),
+            Symbol::Semicolon => self.semicolon(alloc, seen),
+            Symbol::CloseBrace => self.close_brace(seen),
+            Symbol::OpenBrace => self.open_brace(span.start, seen),
+            _ => {
+                let _top = self.reader.frames.pop();
+                Ok(Admission::Refused)
+            }
         }
     }
 
@@ -354,8 +343,9 @@ impl Parser {
         self.operator(Level::Or, Op::Or, left)
     }
 
-    /// A token behind a whole expression.
-    fn closes(
+    /// A token behind an expression that may end in an operator's right side.
+    #[inline(never)]
+    fn closes_operation(
         &mut self,
         alloc: Global,
         symbol: Symbol,
@@ -366,6 +356,23 @@ impl Parser {
     {
         let whole = self.reader.whole_expr(seen)?;
         self.behind_top(alloc, symbol, span, whole)
+    }
+
+    /// A token behind a whole expression.
+    #[tactic(auto, using(crate::proofs::Settling::stands_alone))]
+    fn closes(
+        &mut self,
+        alloc: Global,
+        symbol: Symbol,
+        span: Span,
+        seen: Seen,
+    ) -> Result<Admission, AllocError>
+        ensures ok { IfOk result (λ admission. did admission self.new ≡ closes symbol span (whole_expr seen self.old.reader)) }
+    {
+        if is_operator(self.reader.frames.top()) {
+            return self.closes_operation(alloc, symbol, span, seen);
+        }
+        self.behind_top(alloc, symbol, span, seen)
     }
 
     /// A token behind a term.

@@ -1,5 +1,5 @@
 //! What is owed while a program is read: a frame for each thing that stands round the place.
-ghost use Rattle.std.specs.Prelude.{◌≡◌, ◌∷◌, [], OnOk};
+ghost use Rattle.std.specs.Prelude.{◌≡◌, ◌∷◌, [], IfOk, OnOk};
 ghost use Rattle.std.specs.Option.{option_copied};
 ghost use Rattle.stab_parse.specs.Frames.{open_by, open_in, top_of, below_top};
 
@@ -9,11 +9,54 @@ use stab_code::Op;
 use std::alloc::{AllocError, Global};
 use std::marker::Model;
 
-/// A form that was read: the first byte of what is written for it, with the brackets round it, and its depth.
+/// One more than the greatest place.
+const PLACES: u64 = 1 << 32;
+
+/// A form that was read: the first byte of what is written for it, with the brackets round it, and its depth. Both are kept in one word,
+/// so that they are handed on at once. Contracts see the two numbers.
 #[derive(Clone, Copy)]
 pub struct Seen {
-    pub first: u32,
-    pub depth: u8,
+    word: u64,
+}
+
+impl Model for Seen {
+    ghost use Rattle.std.specs.Prelude.{◌<◌, ◌^◌};
+    ghost use Rattle.std.proofs.Common.{ap, arith};
+    ghost use Rattle.stab_parse.specs.Seen.{Seen as Parts, seen_in, word_of};
+
+    ghost Value = { Parts };
+
+    ghost view = { λ seen. seen_in seen.word };
+
+    ghost invariant = { λ seen. seen.word < 2 ^ 40 };
+
+    ghost inverse = { λ seen. record { word = word_of seen } };
+
+    ghost inverse_ok = { λ seen h. ap (λ word. record { word = word }) (omega arith) };
+}
+
+impl Seen {
+    #[inline(always)]
+    pub(crate) fn new(first: u32, depth: u8) -> Seen
+        ensures { result ≡ record { first = first; depth = depth } }
+    {
+        let word = depth as u64 * PLACES + first as u64;
+        Seen { word }
+    }
+
+    #[inline(always)]
+    pub(crate) fn first(self) -> u32
+        ensures { result ≡ self.first }
+    {
+        (self.word % PLACES) as u32
+    }
+
+    #[inline(always)]
+    pub(crate) fn depth(self) -> u8
+        ensures { result ≡ self.depth }
+    {
+        (self.word / PLACES) as u8
+    }
 }
 
 /// How tightly an operator binds.
@@ -48,11 +91,53 @@ pub enum Callee {
     Started(CallWord, u32, Span),
 }
 
+/// What a function is before its body.
+#[derive(Drop)]
+pub struct SignatureParts {
+    pub name: Span,
+    pub params: Params,
+    pub gives: ParsedType,
+}
+
+/// What a function is before its body, in a box, so that all frames are small. Contracts see its parts.
+#[derive(Drop)]
+pub struct Signature {
+    parts: Box<SignatureParts>,
+}
+
+impl Model for Signature {
+    ghost use Rattle.std.specs.Coded.{codes};
+    ghost use Rattle.stab_code.specs.WrittenCode.{coded_written};
+    ghost use Rattle.stab_parse.specs.declared.frame.SignatureParts.{SignatureParts};
+
+    ghost Value = { SignatureParts };
+
+    ghost coded = { Prim.hlevel (codes, coded_written) };
+
+    ghost view = { λ signature. signature.parts.value };
+}
+
+impl Signature {
+    pub(crate) fn new(alloc: Global, parts: SignatureParts) -> Result<Signature, AllocError>
+        ensures ok { IfOk result (λ made. made ≡ parts) }
+    {
+        let parts = Box::new(alloc, parts)?;
+        Ok(Signature { parts })
+    }
+
+    pub(crate) fn into_parts(self) -> SignatureParts
+        ensures { result ≡ self }
+    {
+        let Signature { parts } = self;
+        Box::into_inner(parts)
+    }
+}
+
 /// What a block is to what stands round it.
 #[derive(Drop)]
 pub enum BlockPlace {
-    /// The body of a function, with its name, its parameters and what it gives.
-    Body(Span, Params, ParsedType),
+    /// The body of a function.
+    Body(Signature),
     Form,
     /// Behind a condition: the place of the `if`, and the depth of the condition.
     Then(u32, u8),
@@ -75,14 +160,14 @@ pub enum Frame {
     Group(u32),
     Second(u32, u8),
     /// The arguments of a call, and how many there were.
-    Args(Callee, usize, u8),
+    Args(Callee, u8, usize),
     One(ActWord, u32),
     TwoLeft(ActWord, u32),
     TwoRight(ActWord, u32, u8),
     /// The form of a let, by its name, over the frame of its block.
     Let(Span),
-    /// The items of a block: their names, and how many there were.
-    Items(u32, u8, ItemNames, usize, BlockPlace),
+    /// The items of a block, by their names.
+    Items(u8, u32, ItemNames, BlockPlace),
     Condition(u32),
     ElseIf(u32, u8),
     /// An operator with what stands left of it.

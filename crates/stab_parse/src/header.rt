@@ -4,7 +4,7 @@ ghost use Rattle.stab_parse.specs.Forms.{basic_of};
 ghost use Rattle.stab_parse.specs.Frames.{top_of};
 ghost use Rattle.stab_parse.specs.Moves.{between, did, fn_named, fn_read, owes_type, param_named, param_owed, params_closed, params_open, popped, param_typed, result_typed, bracket_typed, left_typed, right_typed, chan_typed, typed, typed_top};
 
-use crate::frame::{BlockPlace, Frame, Phase};
+use crate::frame::{BlockPlace, Frame, Phase, Signature, SignatureParts};
 use crate::parser::{Admission, Parser};
 use crate::symbol::{ActWord, BasicType, Span, Symbol};
 use crate::tree::{Param, Params, ParsedType};
@@ -180,6 +180,7 @@ impl Parser {
 
     fn result_typed(
         &mut self,
+        alloc: Global,
         function: Span,
         params: Params,
         ty: ParsedType,
@@ -191,7 +192,12 @@ impl Parser {
     {
         match symbol {
             Symbol::OpenBrace => {
-                let place = BlockPlace::Body(function, params, ty);
+                let parts = SignatureParts {
+                    name: function,
+                    params,
+                    gives: ty,
+                };
+                let place = BlockPlace::Body(Signature::new(alloc, parts)?);
                 self.block(at, place)
             }
             _ => Ok(Admission::Refused),
@@ -257,7 +263,7 @@ impl Parser {
                 self.param_typed(function, before, name, ty, symbol)
             }
             Frame::ResultType(function, params) => {
-                self.result_typed(function, params, ty, symbol, at)
+                self.result_typed(alloc, function, params, ty, symbol, at)
             }
             Frame::ChanType => self.bracket_typed(ty.chan(alloc)?, symbol),
             Frame::RefType => self.bracket_typed(ty.reference(alloc)?, symbol),

@@ -164,7 +164,7 @@ impl Reader {
         let depth = above(depth);
         self.note_depth(at, depth);
         self.forms.push(FormNode { head, parts })?;
-        Ok(Seen { first: at, depth })
+        Ok(Seen::new(at, depth))
     }
 
     /// An operator has both sides.
@@ -175,8 +175,8 @@ impl Reader {
         self.form(
             Head::Two(op),
             2,
-            left.first,
-            deepest(left.depth, right.depth),
+            left.first(),
+            deepest(left.depth(), right.depth()),
         )
     }
 
@@ -186,8 +186,8 @@ impl Reader {
         ensures ok { IfOk result (λ whole. settled whole self.new ≡ taken taker seen self.old) }
     {
         match taker {
-            Taker::Not(at) => self.form(Head::Not, 1, at, only(seen.depth)),
-            Taker::Negate(at) => self.form(Head::Neg, 1, at, only(seen.depth)),
+            Taker::Not(at) => self.form(Head::Not, 1, at, only(seen.depth())),
+            Taker::Negate(at) => self.form(Head::Neg, 1, at, only(seen.depth())),
             Taker::Product(left) => self.two(left.op, left.seen, seen),
         }
     }
@@ -253,10 +253,7 @@ impl Reader {
     {
         if let Frame::ElseIf(first, before) = top {
             let seen = self.form(Head::If, 3, at, depth)?;
-            return Ok(Some(Seen {
-                first,
-                depth: before.max(seen.depth),
-            }));
+            return Ok(Some(Seen::new(first, before.max(seen.depth()))));
         }
         self.frames.push(top)?;
         Ok(None)
@@ -284,8 +281,8 @@ impl Reader {
         let mut place = at;
         let mut parts = depth;
         while let Some(outer) = self.else_top(place, parts)? {
-            place = outer.first;
-            parts = outer.depth;
+            place = outer.first();
+            parts = outer.depth();
         }
         self.complete(Head::If, 3, place, parts)
     }

@@ -1,10 +1,10 @@
 //! What a token does in each phase.
 ghost use Rattle.std.specs.Prelude.{◌≡◌, ◌≤◌, ◌⊎◌, IfOk, IfErr, OnOk, Ok, Err};
-ghost use Rattle.stab_parse.specs.Moves.{advance, did, move, move_typed, open_at};
+ghost use Rattle.stab_parse.specs.Moves.{advance, did, form_read, move, move_typed, open_at};
 ghost use Rattle.stab_parse.specs.Symbols.{IsSmall};
 
 use crate::fault::ParseFault;
-use crate::frame::Phase;
+use crate::frame::{Phase, Seen};
 use crate::parser::{Admission, Parser};
 use crate::symbol::{Span, Symbol, kind_symbol, token_span};
 use stab_lex::Token;
@@ -15,6 +15,17 @@ use std::mem;
 const MAX_OPEN: usize = 200;
 
 impl Phase {
+    /// The form that was read last, if it was one.
+    #[inline(always)]
+    fn form_read(&self) -> Option<Seen>
+        ensures { result ≡ form_read self.now }
+    {
+        match self {
+            Phase::Has(seen) => Some(*seen),
+            _ => None,
+        }
+    }
+
     /// How much the phase has open beside the frames.
     fn open(&self) -> usize
         ensures value { result ≡ open_at self.now }
@@ -63,7 +74,10 @@ impl Parser {
             Phase::InItems => self.in_items(symbol, span),
             Phase::LetRead => self.let_read(symbol, span),
             Phase::LetNamed(name) => self.let_named(name, symbol),
-            Phase::Has(seen) => self.ends(alloc, symbol, span, seen),
+            Phase::Has(_) => match self.phase.form_read() {
+                Some(seen) => self.ends(alloc, symbol, span, seen),
+                None => Ok(Admission::Refused),
+            },
             Phase::ThenRead(at, depth) => self.then_read(alloc, at, depth, symbol, span),
             Phase::ElseRead(at, depth) => self.else_read(at, depth, symbol, span),
             _ => self.step_typed(alloc, symbol, span),

@@ -1,13 +1,15 @@
 //! The syntax of a program, as a flat list of forms.
 ghost use Rattle.stab_code.specs.Written.{chan_type, ref_type, pair_type};
 ghost use Rattle.stab_code.specs.WrittenType.{written_by};
-ghost use Rattle.std.specs.Prelude.{◌≡◌, IfOk, ◌++◌, ◌∷◌, [], length, reverse, OnOk, IsTrue, ◌↔◌};
-ghost use Rattle.stab_parse.specs.Moves.{names_if_any};
+ghost use Rattle.std.specs.Prelude.{◌≡◌, IfOk, ◌++◌, ◌∷◌, [], None, Some, length, replicate, reverse, OnOk};
+ghost use Rattle.stab_parse.specs.Forms.{head_of_block};
+ghost use Rattle.stab_parse.specs.ItemNames.{HasLet, names_kept};
 
 use crate::symbol::{ActWord, CallWord, Span};
 use stab_code::{Op, TyForm};
 use std::alloc::{AllocError, Global};
 use std::marker::Model;
+use std::mem;
 
 /// The names of a block's items in the order of writing, none for an item without `let`. Contracts see them as a list.
 #[derive(Drop)]
@@ -25,11 +27,16 @@ impl Model for Lets {
 }
 
 impl Lets {
-    fn new(alloc: Global) -> Result<Lets, AllocError>
-        ensures ok { IfOk result (λ lets. lets ≡ []) }
+    /// The names of so many items without `let`, and one more.
+    fn behind(alloc: Global, items: usize, name: Span) -> Result<Lets, AllocError>
+        ensures ok { IfOk result (λ lets. lets ≡ replicate items None ++ Some name ∷ []) }
     {
-        let names = Box::new(alloc, Vec::new(alloc))?;
-        Ok(Lets { names })
+        let names = Vec::from_elem(alloc, None, items)?;
+        let mut lets = Lets {
+            names: Box::new(alloc, names)?,
+        };
+        lets.push(Some(name))?;
+        Ok(lets)
     }
 
     fn push(&mut self, name: Option<Span>) -> Result<(), AllocError>
@@ -47,55 +54,93 @@ impl Lets {
     }
 }
 
-/// The names of the items that a block has so far. A block without items takes no memory. Contracts see them as a list.
+/// Items of a block: how many they are, or their names, none for an item without `let`.
+#[derive(Drop)]
+pub enum Kept {
+    Forms(usize),
+    Names(Lets),
+}
+
+/// The names of the items that a block has so far. They take no memory before the first let. Contracts see them as a list.
 #[derive(Drop)]
 pub struct ItemNames {
-    lets: Option<Lets>,
+    kept: Kept,
 }
 
 impl Model for ItemNames {
-    ghost use Rattle.std.specs.Prelude.{◌≡◌, [], List, Option, Some};
+    ghost use Rattle.std.specs.Prelude.{List, Option};
     ghost use Rattle.stab_parse.specs.declared.symbol.Span.{Span};
-    ghost use Rattle.std.specs.Option.{option_map_or};
+    ghost use Rattle.stab_parse.specs.ItemNames.{HasLet, names_kept};
 
     ghost Value = { List (Option Span) };
 
-    ghost view = { λ names. option_map_or (λ lets. lets) names.lets [] };
+    ghost view = { λ names. names_kept names.kept };
 
-    ghost invariant = { λ names. ¬ (names.lets ≡ Some []) };
+    ghost invariant = { λ names. HasLet names.kept };
+}
+
+impl Kept {
+    /// One item more.
+    #[inline(always)]
+    fn with(self, alloc: Global, name: Option<Span>) -> Result<Kept, AllocError>
+        requires { HasLet self }
+        ensures names { IfOk result (λ kept. names_kept kept ≡ names_kept self ++ name ∷ []) }
+        ensures has_let { IfOk result HasLet }
+    {
+        match (self, name) {
+            (Kept::Forms(items), None) => match items.checked_add(1) {
+                Some(items) => Ok(Kept::Forms(items)),
+                None => Err(AllocError),
+            },
+            (Kept::Forms(items), Some(name)) => {
+                Ok(Kept::Names(Lets::behind(alloc, items, name)?))
+            }
+            (Kept::Names(mut lets), name) => {
+                lets.push(name)?;
+                Ok(Kept::Names(lets))
+            }
+        }
+    }
 }
 
 impl ItemNames {
     pub(crate) fn new() -> ItemNames
         ensures { result ≡ [] }
     {
-        ItemNames { lets: None }
+        ItemNames {
+            kept: Kept::Forms(0),
+        }
     }
 
+    #[inline(always)]
     pub(crate) fn push(&mut self, alloc: Global, name: Option<Span>) -> Result<(), AllocError>
         ensures ok { OnOk result (self.new ≡ self.old ++ name ∷ []) }
     {
-        let mut lets = match self.lets.take() {
-            Some(lets) => lets,
-            None => Lets::new(alloc)?,
-        };
-        lets.push(name)?;
-        self.lets = Some(lets);
+        let kept = mem::replace(&mut self.kept, Kept::Forms(0));
+        self.kept = kept.with(alloc, name)?;
         Ok(())
     }
 
-    pub(crate) fn is_empty(&self) -> bool
-        ensures { IsTrue result ↔ (self.now ≡ []) }
+    /// How many items there are.
+    pub(crate) fn len(&self) -> usize
+        ensures { result ≡ length self.now }
     {
-        self.lets.is_none()
+        match &self.kept {
+            Kept::Forms(items) => *items,
+            Kept::Names(lets) => lets.all().len(),
+        }
     }
 
-    /// The names, where there are items.
-    pub(crate) fn into_lets(self) -> Option<Lets>
-        ensures { result ≡ names_if_any self }
+    /// The head of the block that has these items.
+    #[tactic(auto, using(crate::proofs::ItemNames::no_let))]
+    pub(crate) fn into_head(self) -> Head
+        ensures { result ≡ head_of_block self }
     {
-        let ItemNames { lets } = self;
-        lets
+        let ItemNames { kept } = self;
+        match kept {
+            Kept::Forms(_) => Head::Block,
+            Kept::Names(lets) => Head::LetBlock(lets),
+        }
     }
 }
 
@@ -165,8 +210,10 @@ pub enum Head {
     /// A text, with both its quotes.
     Text(Span),
     Variable(Span),
-    /// A block with items: their forms and then its last form are its parts.
-    Block(Lets),
+    /// A block with items of which none is a let: their forms and then its last form are its parts.
+    Block,
+    /// A block with a let among its items, by their names.
+    LetBlock(Lets),
     /// The condition, and the two branches.
     If,
     Two(Op),

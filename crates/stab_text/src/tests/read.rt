@@ -3,7 +3,7 @@
 use crate::read_program;
 use stab_code::Program;
 use stab_lex::lex;
-use stab_parse::{FormNode, Head, Lets, ParseFault, Span, Tree, parse};
+use stab_parse::{FormNode, Head, ParseFault, Span, Tree, parse};
 use std::alloc::{AllocError, Global};
 use std::process::Abort;
 use std::test::Fail;
@@ -63,7 +63,11 @@ fn head_text(alloc: Global, text: &str, form: &FormNode) -> Result<String, Alloc
         Head::Truth(truth) => format!(in alloc; "{truth}"),
         Head::Int(n) => format!(in alloc; "{n}"),
         Head::Text(span) | Head::Variable(span) => String::from_str(alloc, spelled(text, *span)),
-        Head::Block(lets) => block_text(alloc, text, lets),
+        Head::LetBlock(lets) => block_text(alloc, text, lets.all()),
+        Head::Block => {
+            let names = Vec::from_elem(alloc, None, parts.saturating_sub(1))?;
+            block_text(alloc, text, names.as_slice())
+        }
         Head::If => String::from_str(alloc, "if"),
         Head::Two(op) => format!(in alloc; "{op:?}"),
         Head::Not => String::from_str(alloc, "Not"),
@@ -82,9 +86,10 @@ fn head_text(alloc: Global, text: &str, form: &FormNode) -> Result<String, Alloc
     }
 }
 
-fn block_text(alloc: Global, text: &str, lets: &Lets) -> Result<String, AllocError> {
+/// A block, by the names of its items.
+fn block_text(alloc: Global, text: &str, names: &[Option<Span>]) -> Result<String, AllocError> {
     let mut line = String::from_str(alloc, "block")?;
-    for item in lets.all() {
+    for item in names {
         line.push(':')?;
         match item {
             Some(name) => line.push_str(spelled(text, *name))?,

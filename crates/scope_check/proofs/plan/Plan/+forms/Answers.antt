@@ -1,16 +1,15 @@
-use Rattle.std.proofs.Common.{rules, ◌≡◌, ◌<◌, ap, length, sym, ◌∙◌, arith, get_or, refl, slice_get, Some, ◌++◌, ◌∷◌, []}
+use Rattle.std.proofs.Common.{rules, ◌≡◌, ◌<◌, ap, length, sym, ◌∙◌, arith, get_or, refl, slice_get, Some, ◌++◌, ◌∷◌, [], reverse}
 use Rattle.std.proofs.Math.Seq.{take-length}
-use Rattle.std.specs.Prelude.{None, false}
+use Rattle.std.specs.Prelude.{None}
 use Rattle.std.proofs.lemmas.List.{reverse-reverse}
 use Rattle.std.proofs.lemmas.Option.{slice_get-get_or, slice_get_within}
 use Rattle.std.proofs.lemmas.Result.{err_from_is_err_and}
 use Rattle.stab_code.specs.declared.head.Head.TheVariants as code
 use Rattle.stab_code.specs.Nodes.{id}
 use Rattle.stab_parse.specs.declared.tree.Head.TheVariants as kind
-use Rattle.scope_check.specs.Forms.{is_block, items_of}
-use Rattle.scope_check.specs.Progress.{met_of, seen_of}
+use Rattle.scope_check.specs.Forms.{items_of}
 use Rattle.scope_check.specs.Places.{part_lists}
-use Rattle.scope_check.proofs.Made.{HeadMet, block-met, form-head-fault, form-made, form-parts-fault, no-item, no-slots, on-err, on-ok, part-form, part-let, part-none, part-none-fault, seen-on, so-far-all, so-far-fault, so-far-next, so-far-none}
+use Rattle.scope_check.proofs.Made.{HeadMet, block-met, form-head-fault, form-made, form-parts-fault, no-item, on-err, on-ok, part-form, part-let, part-none, part-none-fault, seen-on, so-far-all, so-far-fault, so-far-next, so-far-none, slots-known}
 use Rattle.scope_check.proofs.Places.{parts-below, parts-there}
 use Rattle.scope_check.proofs.PlainForms.{length-plain_from, plain-there, stretch-fault, stretch-made}
 use Rattle.scope_check.proofs.plan.Plan.+forms.Goals as goal
@@ -51,7 +50,7 @@ pub form-block-requires : goal.form-block-requires
 form-block-requires t c =
     let plan = c.args.self.now in
     let found = slice_get-get_or plan.forms.now c.args.at c.index-self-at.result c.requires.there in
-    (omega (arith, c.decreases), (c.requires.texts, ((get_or plan.forms.now c.args.at c.index-self-at.result, found, c.in-Block.is ∙ ap kind.Block (sym c.all.ensures)), c.requires.few)))
+    (omega (arith, c.decreases), (c.requires.texts, ((get_or plan.forms.now c.args.at c.index-self-at.result, found, c.in-LetBlock.is ∙ ap kind.LetBlock (sym c.all.ensures)), c.requires.few)))
 
 pub form-operands-requires : goal.form-operands-requires
 form-operands-requires t c =
@@ -76,10 +75,8 @@ form-returns-clause-ok t c =
     let found = slice_get-get_or plan.forms.now c.args.at c.index-self-at.result c.requires.there in
     let head : HeadMet plan.bytes.now plan.functions.now c.args.arity plan.forms.now plan.fewer node c.args.progress.now c.head.new.progress c.in_ok-head.head =
     record { met = c.in_ok-head.ensures.head; heads = c.in_ok-head.ensures.others.0; seen = c.in_ok-head.ensures.others.1 } in
-    let other : is_block node.head ≡ false = search rules in
-    let same = no-slots plan.bytes.now plan.functions.now node.head node.parts (seen_of c.args.progress.now) (met_of c.args.progress.now) c.in_ok-head.head (met_of c.head.new.progress) other c.in_ok-head.ensures.head in
     form-made plan.bytes.now plan.functions.now c.args.arity plan.forms.now plan.fewer c.args.at c.args.progress.now c.head.new.progress node found c.in_ok-head.head head
-    c.operands.new.progress [] c.push.new.self.items c.in_ok-operands.ensures.ok (c.in_ok-push.ensures.items ∙ ap (λ h. c.operands.new.progress.heads.items ++ h ∷ []) (sym same))
+    c.operands.new.progress [] c.push.new.self.items c.in_ok-operands.ensures.ok c.in_ok-push.ensures.items
 
 pub operands-of-part-items-requires : goal.operands-of-part-items-requires
 operands-of-part-items-requires t c = parts-there c.args.self.now.forms.now c.args.self.now.parts c.args.at c.args.self.now.laid (slice_get_within c.args.self.now.forms.now c.args.at c.requires.other.0 c.requires.other.1)
@@ -156,7 +153,7 @@ block-returns-clause-ok t c =
     let last = c.block_parts.new.progress in
     let slots = c.in_ok-slots.slots.items in
     form-made plan.bytes.now plan.functions.now c.args.arity plan.forms.now plan.fewer c.args.at old old block.0 block.1 (code.Block []) head
-    last slots c.push.new.self.items c.in_ok-slots.ensures.ok (c.in_ok-push.ensures.items ∙ ap (λ s. last.heads.items ++ code.Block s ∷ []) (c.in_ok-new.ensures ∙ sym (reverse-reverse slots)))
+    last slots c.push.new.self.items c.in_ok-slots.ensures.ok (c.in_ok-push.ensures.items ∙ ap (λ s. last.heads.items ++ code.Block s ∷ []) (c.in_ok-new.ensures ∙ sym (reverse-reverse slots)) ∙ ap (λ h. last.heads.items ++ h ∷ []) (sym (slots-known (reverse slots))))
 
 pub block_parts-of-part-items-requires : goal.block_parts-of-part-items-requires
 block_parts-of-part-items-requires t c = parts-there c.args.self.now.forms.now c.args.self.now.parts c.args.at c.args.self.now.laid (slice_get_within c.args.self.now.forms.now c.args.at c.requires.block.0 c.requires.block.1)
