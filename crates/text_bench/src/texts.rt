@@ -13,15 +13,18 @@ pub enum Kind {
     Packed,
     /// One function, with pairs and blocks in each other.
     Nested,
+    /// Functions, with pairs and blocks in each other, of which each block has a let.
+    Lets,
     /// Functions with many variables.
     Names,
 }
 
-pub const KINDS: [Kind; 5] = [
+pub const KINDS: [Kind; 6] = [
     Kind::Functions,
     Kind::Sums,
     Kind::Packed,
     Kind::Nested,
+    Kind::Lets,
     Kind::Names,
 ];
 
@@ -33,6 +36,7 @@ impl Kind {
             Kind::Sums => "sums",
             Kind::Packed => "packed",
             Kind::Nested => "nested",
+            Kind::Lets => "lets",
             Kind::Names => "names",
         }
     }
@@ -52,14 +56,14 @@ impl Kind {
 
     fn start(self) -> &'static str {
         match self {
-            Kind::Functions | Kind::Names => "",
+            Kind::Functions | Kind::Lets | Kind::Names => "",
             Kind::Sums | Kind::Packed | Kind::Nested => "fn main(): unit {\n",
         }
     }
 
     fn end(self) -> &'static str {
         match self {
-            Kind::Functions | Kind::Names => "fn main(): unit {}\n",
+            Kind::Functions | Kind::Lets | Kind::Names => "fn main(): unit {}\n",
             Kind::Sums | Kind::Packed | Kind::Nested => "}\n",
         }
     }
@@ -70,6 +74,7 @@ impl Kind {
             Kind::Sums => sum(text, i),
             Kind::Packed => packed(text),
             Kind::Nested => nest(text, i),
+            Kind::Lets => lets(text, i),
             Kind::Names => names(text, i),
         }
     }
@@ -120,6 +125,18 @@ fn nest(text: &mut String, i: u32) -> Result<(), AllocError> {
         text.push_str("})")?;
     }
     text.push_str(");\n")
+}
+
+fn lets(text: &mut String, i: u32) -> Result<(), AllocError> {
+    write!(text, "fn f{i}(): unit {{\n    print(")?;
+    for _ in 0..50 {
+        write!(text, "({i}, {{let a = 1; ")?;
+    }
+    text.push_str("()")?;
+    for _ in 0..50 {
+        text.push_str("})")?;
+    }
+    text.push_str(");\n}\n")
 }
 
 fn names(text: &mut String, i: u32) -> Result<(), AllocError> {
