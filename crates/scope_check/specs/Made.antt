@@ -23,8 +23,8 @@ use Rattle.scope_check.specs.Scope.{Behind, Defined, Met, behind, form_scoped, f
 use Rattle.scope_check.specs.Seen.{params_seen}
 
 -- the form with that number is a block with lets, and these are the names of its items
-abbrev pub IsBlock : List FormNode → ℕ → List (Option Span) → Type 0
-IsBlock forms at names = (node : FormNode) × (slice_get forms at ≡ Some node) × (node.head ≡ head.LetBlock names)
+abbrev pub IsLetBlock : List FormNode → ℕ → List (Option Span) → Type 0
+IsLetBlock forms at names = (node : FormNode) × (slice_get forms at ≡ Some node) × (node.head ≡ head.LetBlock names)
 
 -- the form with that number isn't a block with lets
 abbrev pub IsOther : List FormNode → ℕ → Type 0

@@ -57,7 +57,7 @@ pub record Met : Type 0 where
   pub lets : ℕ
   pub texts : List (List ℕ)
 
--- the parts so far, the last one first: their trees, what is seen behind them, and the slots of the items that they are in a block with lets
+-- the parts so far, the last one first: their trees, what is seen behind them, and the slots of those that are items of a block with lets
 pub record Behind : Type 0 where
   pub trees : List Tree
   pub seen : List Variable

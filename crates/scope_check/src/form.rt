@@ -1,6 +1,6 @@
 //! Forms in forms.
 ghost use Rattle.std.specs.Prelude.{◌≡◌, ◌<◌, ◌≤◌, [], IfOk, IfErr, OnOk, length, slice_get, take};
-ghost use Rattle.scope_check.specs.Made.{ArePartsMade, IsBlock, IsFormFault, IsFormMade, IsOther, IsPartFault, IsPartMade, IsPartsFault};
+ghost use Rattle.scope_check.specs.Made.{ArePartsMade, IsLetBlock, IsFormFault, IsFormMade, IsOther, IsPartFault, IsPartMade, IsPartsFault};
 ghost use Rattle.scope_check.specs.Progress.{HaveTexts};
 
 use crate::fault::ScopeFault;
@@ -67,7 +67,7 @@ impl<'a> Plan<'a> {
         names: &[Option<Span>],
     ) -> Result<(), ScopeFault>
         requires texts { HaveTexts self.now.bytes.now self.now.forms.now }
-        requires block { IsBlock self.now.forms.now at names.now }
+        requires block { IsLetBlock self.now.forms.now at names.now }
         requires few { arity ≤ 8 }
         ensures ok { OnOk result (IsFormMade self.now.bytes.now self.now.functions.now arity self.now.forms.now at progress.old progress.new) }
         ensures seen { OnOk result (progress.new.seen.items ≡ progress.old.seen.items) }
@@ -81,7 +81,7 @@ impl<'a> Plan<'a> {
         Ok(())
     }
 
-    /// Makes the heads of a block's parts, and gives the slots of those that are its items.
+    /// Makes the heads of the parts of a block with lets, and gives the slots of those that are its items.
     #[cycle(forms)]
     fn block_parts(
         &self,
@@ -91,7 +91,7 @@ impl<'a> Plan<'a> {
         names: &[Option<Span>],
     ) -> Result<Vec<Option<u32>>, ScopeFault>
         requires texts { HaveTexts self.now.bytes.now self.now.forms.now }
-        requires block { IsBlock self.now.forms.now at names.now }
+        requires block { IsLetBlock self.now.forms.now at names.now }
         requires few { arity ≤ 8 }
         ensures ok { IfOk result (λ slots. ArePartsMade self.now.bytes.now self.now.functions.now arity self.now.forms.now at
             progress.old progress.new slots.items) }
@@ -148,7 +148,7 @@ impl<'a> Plan<'a> {
     }
 }
 
-/// For an item of a block the name of its let, or none; the form behind the items is none of them.
+/// For an item of a block with lets the name of its let, or none; the form behind the items is none of them.
 fn item_at(names: &[Option<Span>], i: usize) -> Option<Option<Span>>
     ensures { result ≡ slice_get names.now i }
 {

@@ -7,8 +7,7 @@ use indexmap::IndexSet;
 use stab_code::{Head, Slots};
 
 /// What was made so far of a program, the heads of its nodes and its texts, and of a function: how many lets it has, and the
-/// variables that are seen, the innermost last. The slots of the block before of which no item was a let are kept, since the next one
-/// may share them.
+/// variables that are seen, the innermost last. The slots of the last block without lets are kept, since the next one may share them.
 #[derive(Drop)]
 pub struct Progress {
     pub heads: Vec<Head>,

@@ -54,7 +54,7 @@ impl Slots {
         Ok(Slots { slots })
     }
 
-    /// The same slots, shared: they take no memory of their own.
+    /// The same slots, shared: they take no memory of their own. That there is no memory is said where they can't be shared by one more.
     pub fn share(&self) -> Result<Slots, NoMemory>
         ensures { IfOk result (λ shared. shared ≡ self.now) }
     {

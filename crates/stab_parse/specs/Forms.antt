@@ -119,7 +119,7 @@ abbrev pub names_of : Items → List (Option Span)
 names_of no_items = []
 names_of (next_item is i m) = names_of is ++ name_of i ∷ []
 
--- a block by the names of its items, which it has just where one of them is a let
+-- the head of a block whose items have these names: it keeps them just where one of the items is a let
 abbrev pub head_of_block : List (Option Span) → Head
 head_of_block names = if list_any is_some names then head.LetBlock names else head.Block
 

@@ -343,7 +343,7 @@ impl Parser {
         self.operator(Level::Or, Op::Or, left)
     }
 
-    /// A token behind an expression that may end in an operator's right side.
+    /// A token behind an expression that ends in an operator's right side.
     #[inline(never)]
     fn closes_operation(
         &mut self,

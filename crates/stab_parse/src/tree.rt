@@ -54,7 +54,7 @@ impl Lets {
     }
 }
 
-/// Items of a block: how many they are, or their names, none for an item without `let`.
+/// The items of a block: how many they are while none is a let, else their names, none for an item without `let`.
 #[derive(Drop)]
 pub enum Kept {
     Forms(usize),

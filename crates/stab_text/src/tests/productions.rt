@@ -100,6 +100,7 @@ const CHAINS: &str = "\
 const BLOCKS: &str = "\
 1; -> 1 unit block:_
 1; 2 -> 1 2 block:_
+1; let x = 2; x -> 1 2 x block:_:x
 let x = 1; x -> 1 x block:x
 {let x = 1; print(x); {}} -> 1 x Print/1 unit block:x:_
 {{1}; {2;}} -> 1 2 unit block:_ block:_
