@@ -1,5 +1,6 @@
 //! Values, journals and containers.
 
+mod flat;
 mod graphs;
 mod growing;
 mod histories;

@@ -6,8 +6,7 @@ use Rattle.stab_code.specs.declared.head.Head.{Head as Code}
 use Rattle.stab_code.specs.declared.node_id.NodeId.{NodeId}
 use Rattle.stab_code.specs.Layout.{nodes_of as tree_nodes, nodes_of_all, own_node, own_nodes, size_of as tree_size, size_of_all}
 use Rattle.stab_code.proofs.LaidOut.{length-nodes_of_all}
-use Rattle.stab_code.specs.Nodes.{NodeParts, id, node_of}
-use Rattle.stab_code.specs.Stored.{nodes_in}
+use Rattle.stab_code.specs.Nodes.{NodeParts, id, node_of, nodes_in}
 use Rattle.stab_code.specs.Trees.{Tree, Trees, tree, none, more}
 use Rattle.stab_parse.specs.declared.tree.Head.{Head}
 use Rattle.stab_parse.specs.Forms.{Form, form, Parts, next_part}

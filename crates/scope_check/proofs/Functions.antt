@@ -3,9 +3,8 @@ use Rattle.std.proofs.Common.{◌≡◌, inl, inr, ℕ, ◌+◌, ◌-◌, ◌<�
 use Rattle.std.specs.Prelude.{Ok, Err}
 use Rattle.std.proofs.lemmas.Bool.Decides.{eqb_tells}
 use Rattle.stab_code.specs.Layout.{nodes_of as tree_nodes, nodes_of_all, own_node, size_of as tree_size, size_of_all}
-use Rattle.stab_code.specs.Nodes.{id}
+use Rattle.stab_code.specs.Nodes.{id, nodes_in}
 use Rattle.stab_code.specs.Program.{FunctionParts, function_of}
-use Rattle.stab_code.specs.Stored.{nodes_in}
 use Rattle.stab_code.specs.Trees.{Tree}
 use Rattle.stab_code.specs.Written.{Written}
 use Rattle.stab_code.proofs.LaidOut.{length-nodes_of_all, own_node-last}

@@ -10,8 +10,7 @@ use Rattle.stab_code.specs.declared.head.Head.TheVariants as code
 use Rattle.stab_code.specs.declared.node_id.NodeId.{NodeId}
 use Rattle.stab_code.specs.Layout.{nodes_of as tree_nodes, nodes_of_all}
 use Rattle.stab_code.proofs.LaidOut.{length-nodes_of_all}
-use Rattle.stab_code.specs.Nodes.{node_of}
-use Rattle.stab_code.specs.Stored.{nodes_in}
+use Rattle.stab_code.specs.Nodes.{node_of, nodes_in}
 use Rattle.stab_code.specs.Trees.{Tree, tree}
 use Rattle.stab_parse.specs.declared.symbol.Span.{Span}
 use Rattle.stab_parse.specs.declared.tree.FormNode.{FormNode}

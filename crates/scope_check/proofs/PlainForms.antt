@@ -6,7 +6,7 @@ use Rattle.std.proofs.lemmas.List.{take-append-le}
 use Rattle.std.proofs.Math.Seq.{drop-append_seam, take-length}
 use Rattle.std.proofs.lemmas.Option.{slice_get-get_or, slice_get_within}
 use Rattle.stab_code.specs.declared.head.Head.{Head as Code}
-use Rattle.stab_code.specs.Stored.{nodes_in}
+use Rattle.stab_code.specs.Nodes.{nodes_in}
 use Rattle.stab_code.proofs.Lists.{slice_get-left, slice_get-right}
 use Rattle.stab_parse.specs.declared.tree.FormNode.{FormNode}
 use Rattle.stab_parse.specs.declared.tree.Function.{Function}

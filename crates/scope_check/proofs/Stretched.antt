@@ -7,8 +7,7 @@ use Rattle.std.proofs.lemmas.Bool.Decides.{eqb_tells}
 use Rattle.stab_code.specs.declared.head.Head.{Head as Code}
 use Rattle.stab_code.specs.declared.head.Head.TheVariants as code
 use Rattle.stab_code.specs.declared.node_id.NodeId.{NodeId}
-use Rattle.stab_code.specs.Stored.{nodes_in}
-use Rattle.stab_code.specs.Nodes.{NodeParts}
+use Rattle.stab_code.specs.Nodes.{NodeParts, nodes_in}
 use Rattle.stab_code.specs.Trees.{Tree, tree, none}
 use Rattle.stab_parse.specs.declared.tree.FormNode.{FormNode}
 use Rattle.stab_parse.specs.declared.tree.Function.{Function}

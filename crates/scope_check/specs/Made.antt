@@ -1,9 +1,8 @@
 -- What the steps through a program's bodies come to: each says of every form at the place what the definition gives for it.
 use Rattle.std.specs.Prelude.{◌≡◌, ℕ, ◌-◌, false, List, [], ◌∷◌, ◌++◌, length, reverse, slice_get, Option, Some, Result, Ok}
 use Rattle.stab_code.specs.Layout.{nodes_of, nodes_of_all, own_nodes, size_of as tree_size, size_of_all}
-use Rattle.stab_code.specs.Nodes.{NodeParts}
+use Rattle.stab_code.specs.Nodes.{NodeParts, nodes_in}
 use Rattle.stab_code.specs.Program.{FunctionParts}
-use Rattle.stab_code.specs.Stored.{nodes_in}
 use Rattle.stab_code.specs.Trees.{Tree}
 use Rattle.stab_parse.specs.declared.symbol.Span.{Span}
 use Rattle.stab_parse.specs.declared.tree.FormNode.{FormNode}

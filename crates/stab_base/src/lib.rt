@@ -4,12 +4,14 @@
 mod fault;
 mod numbers;
 mod print;
+mod same;
 mod shape;
 mod texts;
 mod value;
 
 pub use fault::Fault;
 pub use numbers::{ChanId, FnId, Generation, NoMemory, RefId, Seq, TextId, ThreadId};
+pub use same::{Same, all_same};
 pub use shape::{MAX_DEPTH, MAX_LEAVES, Shape};
 pub use texts::Texts;
 pub use value::{PairFault, Value};

@@ -3,6 +3,6 @@ pub mod Crossing
 pub mod InOrder
 pub mod LaidOut
 pub mod Lists
-pub mod Storing
+pub mod Stored
 pub mod Trees
 pub mod ValidLemmas

@@ -1,17 +1,12 @@
 -- Lists by their places.
-use Rattle.std.proofs.Common.{◌≡◌, ◌⊎◌, inl, inr, ℕ, zero, suc, ◌+◌, ◌<◌, List, [], ◌∷◌, ◌++◌, length, slice_get, Some, refl, ap, subst, arith}
+use Rattle.std.proofs.Common.{◌≡◌, ℕ, zero, suc, ◌+◌, ◌<◌, List, [], ◌∷◌, ◌++◌, length, slice_get, Some, refl, ap, subst, arith}
 use Rattle.std.specs.List.{All}
-use Rattle.std.proofs.lemmas.List.{same_lists}
 use Rattle.std.proofs.lemmas.List.Elements.{All-cons, All-head, All-nil, All-tail}
-use Rattle.std.proofs.lemmas.Option.{get_or_from_slice_get, slice_get-get_or, slice_get_within}
+use Rattle.std.proofs.lemmas.Option.{get_or_from_slice_get, slice_get_within}
 
 -- what holds of each item holds of the one that was found
 pub All-at : {X : Type 0} (P : X → Type 0) (xs : List X) (k : ℕ) (x : X) → All P xs → slice_get xs k ≡ Some x → P x
 All-at P xs k x all found = subst P (get_or_from_slice_get xs k x x found) (all k x (slice_get_within xs k x found))
-
--- lists with the same entry at each place
-pub same_entries : {A : Type 0} (xs ys : List A) → length xs ≡ length ys → ((k : ℕ) → k < length xs → slice_get xs k ≡ slice_get ys k) → xs ≡ ys
-same_entries xs ys e same = same_lists xs ys e (λ k d h. let l : slice_get xs k ≡ Some _ = slice_get-get_or xs k d h in let r = slice_get-get_or ys k d (omega arith) in cc (l, r, same k h))
 
 pub slice_get-left : {A : Type 0} (xs ys : List A) (i : ℕ) → i < length xs → slice_get (xs ++ ys) i ≡ slice_get xs i
 slice_get-left [] ys i h = absurd (omega arith)
@@ -22,13 +17,6 @@ pub slice_get-right : {A : Type 0} (xs ys : List A) (i j : ℕ) → i ≡ length
 slice_get-right [] ys i j e = ap (slice_get ys) (omega arith)
 slice_get-right (x ∷ xs) ys zero j e = absurd (omega arith)
 slice_get-right (x ∷ xs) ys (suc i) j e = slice_get-right xs ys i j (omega arith)
-
--- what was found in two lists, one behind the other, is in the first or in the second
-pub found-append : {A : Type 0} (xs ys : List A) (k : ℕ) (x : A) → slice_get (xs ++ ys) k ≡ Some x → (slice_get xs k ≡ Some x) ⊎ ((j : ℕ) × (k ≡ length xs + j) × (slice_get ys j ≡ Some x))
-found-append [] ys k x found = inr (k, omega arith, found)
-found-append (y ∷ xs) ys zero x found = inl found
-found-append (y ∷ xs) ys (suc k) x found =
-    elim (found-append xs ys k x found) [ inl inside ↦ inl inside | inr behind ↦ let at = behind.1 in inr (behind.0, omega arith, behind.2) ]
 
 -- what holds of all of two lists, one behind the other, holds of all of each
 pub All-left : {A : Type 0} (P : A → Type 0) (xs ys : List A) → All P (xs ++ ys) → All P xs

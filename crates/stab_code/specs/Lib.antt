@@ -5,7 +5,6 @@ pub mod Layout
 pub mod Limits
 pub mod Nodes
 pub mod Program
-pub mod Stored
 pub mod Syntax
 pub mod Trees
 pub mod Valid

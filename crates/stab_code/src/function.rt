@@ -3,8 +3,8 @@ ghost use Rattle.std.specs.Prelude.{◌≡◌, ◌≤◌};
 ghost use Rattle.stab_code.specs.Program.{arity_of, function_of};
 
 use crate::node_id::NodeId;
-use crate::same::{Same, all_same};
 use crate::ty::Ty;
+use stab_base::{Same, all_same};
 use std::marker::Model;
 
 /// A function of a program. Contracts see it as its written types, its number of slots and its body.

@@ -2,9 +2,8 @@
 ghost use Rattle.std.specs.Prelude.{◌≡◌, ◌↔◌, IfOk, IsTrue};
 ghost use Rattle.stab_code.specs.Heads.{strict_parts};
 
-use crate::same::{Same, all_same};
 use crate::ty::Ty;
-use stab_base::{FnId, NoMemory, TextId};
+use stab_base::{FnId, NoMemory, Same, TextId, all_same};
 use std::alloc::Global;
 use std::marker::Model;
 use std::sync::Arc;
@@ -121,12 +120,6 @@ impl Head {
             Head::Block(_) | Head::If | Head::Two(Op::Or | Op::And) => 1,
             _ => parts,
         }
-    }
-}
-
-impl Same for Option<u32> {
-    fn same(&self, other: &Option<u32>) -> bool {
-        self == other
     }
 }
 

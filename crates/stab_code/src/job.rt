@@ -4,8 +4,7 @@ ghost use Rattle.std.specs.Arc.{arc_value};
 ghost use Rattle.stab_code.specs.JobParts.{IsWithinLimits, job_of};
 
 use crate::program::Program;
-use crate::same::{Same, all_same};
-use stab_base::NoMemory;
+use stab_base::{NoMemory, Same, all_same};
 use std::alloc::Global;
 use std::marker::Model;
 use std::sync::Arc;
@@ -114,11 +113,5 @@ impl Job {
             && self.quantum == other.quantum
             && all_same(&self.script, &other.script)
             && self.program.same(&other.program)
-    }
-}
-
-impl Same for i64 {
-    fn same(&self, other: &i64) -> bool {
-        self == other
     }
 }

@@ -9,9 +9,7 @@ mod laws;
 mod node;
 mod node_id;
 mod nodes;
-mod part_lists;
 mod program;
-mod same;
 mod samples;
 mod ty;
 
@@ -25,8 +23,7 @@ pub use laws::{
 };
 pub use node::Node;
 pub use node_id::NodeId;
-pub use nodes::Nodes;
-pub use part_lists::PartLists;
+pub use nodes::{Nodes, PartLists};
 pub use program::Program;
 pub use ty::{Ty, TyForm};
 

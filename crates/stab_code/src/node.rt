@@ -5,7 +5,7 @@ ghost use Rattle.stab_code.specs.Nodes.{node_of};
 
 use crate::head::Head;
 use crate::node_id::NodeId;
-use crate::same::{Same, all_same};
+use stab_base::{Same, all_same};
 use std::marker::Model;
 
 /// A form of a program: its head, and its parts from left to right as numbers of earlier nodes. Contracts see

@@ -1,5 +1,5 @@
 //! The numbers of nodes.
-use crate::same::Same;
+use stab_base::Same;
 
 /// A node of a program, numbered from 0.
 #[derive(Clone, Copy, PartialEq, Eq, PartialOrd, Ord, Hash, Debug)]

@@ -1,16 +1,17 @@
 //! The nodes of a program, and how they are kept.
 ghost use Rattle.std.specs.Prelude.{◌≡◌, ◌↔◌, ◌++◌, ◌∷◌, ◌+◌, ◌<◌, ◌≤◌, ◌^◌, [], Some, IfOk, IsTrue, MatchResult, length, slice_get};
-ghost use Rattle.stab_code.specs.Nodes.{node_of};
-ghost use Rattle.stab_code.specs.Stored.{nodes_in};
+ghost use Rattle.stab_code.specs.Nodes.{node_of, nodes_in};
 
 use crate::head::Head;
 use crate::node::Node;
 use crate::node_id::NodeId;
-use crate::part_lists::PartLists;
-use crate::same::{Same, all_same};
-use stab_base::NoMemory;
+use flat_lists::FlatLists;
+use stab_base::{NoMemory, Same, all_same};
 use std::alloc::Global;
 use std::marker::Model;
+
+/// The parts of forms by their numbers, each part the number of a node.
+pub type PartLists = FlatLists<NodeId>;
 
 /// A list of nodes, made of their heads and lists of parts, or by adding one behind the others. Contracts see it as the list.
 #[derive(Debug, Drop)]
@@ -21,15 +22,13 @@ pub struct Nodes {
 
 impl Model for Nodes {
     ghost use Rattle.std.specs.Prelude.{◌≡◌, List, length};
-    ghost use Rattle.stab_code.specs.Nodes.{NodeParts};
+    ghost use Rattle.stab_code.specs.Nodes.{NodeParts, nodes_in};
     ghost use Rattle.std.specs.Coded.{codes};
     ghost use Rattle.stab_code.specs.contracts.head.Head as whole_head;
 
     ghost Value = { List NodeParts };
 
     ghost coded = { Prim.hlevel (codes, whole_head.the_row.coded) };
-
-    ghost use Rattle.stab_code.specs.Stored.{nodes_in};
 
     ghost view = { λ nodes. nodes_in nodes.heads.items nodes.parts };
 

@@ -8,8 +8,7 @@ use crate::function::Function;
 use crate::node::Node;
 use crate::node_id::NodeId;
 use crate::nodes::Nodes;
-use crate::same::{Same, all_same};
-use stab_base::{FnId, Texts};
+use stab_base::{FnId, Same, Texts, all_same};
 use std::marker::Model;
 
 /// A program that can be run. Contracts see it as its functions, its nodes, its texts and the number of

@@ -2,8 +2,7 @@
 ghost use Rattle.std.specs.Prelude.{◌≡◌, ◌↔◌, IfOk, IsTrue};
 ghost use Rattle.stab_code.specs.WrittenType.{written_by};
 
-use crate::same::Same;
-use stab_base::NoMemory;
+use stab_base::{NoMemory, Same};
 use std::alloc::Global;
 use std::marker::Model;
 

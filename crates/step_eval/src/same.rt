@@ -6,22 +6,7 @@ ghost use Rattle.step_eval.specs.View.{here_of, round_of};
 use crate::env::Env;
 use crate::frame::Frame;
 use crate::machine::{Focus, Machine};
-use stab_base::Value;
-
-/// Whether two lists of values are equal.
-fn all_same(left: &[Value], right: &[Value]) -> bool
-    ensures { IsTrue result ↔ (left.now ≡ right.now) }
-{
-    if left.len() != right.len() {
-        return false;
-    }
-    for i in 0..left.len() {
-        if !left[i].same(&right[i]) {
-            return false;
-        }
-    }
-    true
-}
+use stab_base::all_same;
 
 impl Env {
     fn same(&self, other: &Env) -> bool

@@ -1,7 +1,6 @@
 -- What one event more changes.
 use Rattle.std.proofs.Common.{◌≡◌, ◌⊎◌, inl, inr, ℕ, ℤ, zero, suc, ◌+◌, cond, List, [], ◌∷◌, ◌++◌, length, refl, sym, ap, subst, ◌∙◌, arith, append_assoc, append-nil}
 use Rattle.std.specs.Prelude.{IfSome, Some, None, slice_get}
-use Rattle.stab_code.proofs.Lists.{found-append}
 use Rattle.stab_journal.specs.declared.event.Event.{Event}
 use Rattle.stab_journal.specs.declared.event.Numbered.{Numbered}
 use Rattle.stab_journal.specs.Due.{released, released_from, released_by}
@@ -34,6 +33,13 @@ some_is e = cc
 only_one : (n x : ℤ) (j : ℕ) → slice_get (n ∷ []) j ≡ Some x → (j ≡ 0) × (n ≡ x)
 only_one n x zero is = (refl, some_is is)
 only_one n x (suc j) is = absurd (let none : None ≡ Some x = is in cc)
+
+-- what was found in two lists, one behind the other, is in the first or in the second
+found-append : {A : Type 0} (xs ys : List A) (k : ℕ) (x : A) → slice_get (xs ++ ys) k ≡ Some x → (slice_get xs k ≡ Some x) ⊎ ((j : ℕ) × (k ≡ length xs + j) × (slice_get ys j ≡ Some x))
+found-append [] ys k x found = inr (k, omega arith, found)
+found-append (y ∷ xs) ys zero x found = inl found
+found-append (y ∷ xs) ys (suc k) x found =
+    elim (found-append xs ys k x found) [ inl inside ↦ inl inside | inr behind ↦ let at = behind.1 in inr (behind.0, omega arith, behind.2) ]
 
 one_of : (script ps : List ℤ) (n : ℤ) → ((i : ℕ) → IfSome (slice_get ps i) (λ m. m ≡ script_at script i)) → n ≡ script_at script (length ps) → (i : ℕ) (x : ℤ)
     → (slice_get ps i ≡ Some x) ⊎ ((j : ℕ) × (i ≡ length ps + j) × (slice_get (n ∷ []) j ≡ Some x)) → x ≡ script_at script i

@@ -3,7 +3,7 @@
 use super::read::program_of;
 use stab_base::FnId;
 use stab_code::{
-    Head, Job, MAX_FUEL, MAX_QUANTUM, MAX_SCRIPT, NodeId, Nodes, Op, PartLists, Program, Slots,
+    Head, Job, MAX_FUEL, MAX_QUANTUM, MAX_SCRIPT, NodeId, Nodes, Op, Program, Slots,
 };
 use std::alloc::Global;
 use std::process::Abort;
@@ -90,19 +90,6 @@ fn reads_calls_and_lets_back(rt: HostRuntime) -> Result<(), Fail> {
     let found = function_text(rt.alloc(), &program, 0)?;
     let expected = "[Ty { form: Int }] Int 3 NodeId(7) Some(1) Some(NodeId(7))";
     assert_eq!(rt; found.as_str(), expected);
-    Ok(())
-}
-
-#[test]
-fn keeps_lists_of_parts(rt: HostRuntime) -> Result<(), Fail> {
-    let mut lists = PartLists::with_capacity(rt.alloc(), 3, 3)?;
-    lists.push(&[NodeId(4), NodeId(2)])?;
-    lists.push(&[])?;
-    lists.push(&[NodeId(7)])?;
-    assert_eq!(rt; lists.len(), 3);
-    assert_eq!(rt; lists.of(0), [NodeId(4), NodeId(2)].as_slice());
-    assert!(rt; lists.of(1).is_empty());
-    assert_eq!(rt; lists.of(2), [NodeId(7)].as_slice());
     Ok(())
 }
 

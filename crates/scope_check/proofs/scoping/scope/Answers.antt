@@ -2,7 +2,7 @@ use Rattle.std.proofs.Common.{◌<◌, ◌^◌, length, ap, sym, subst, ◌∙�
 use Rattle.stab_code.proofs.LaidOut.{length-nodes_of_all}
 use Rattle.scope_check.specs.Scope.{in_order}
 use Rattle.stab_code.specs.Program.{program_of}
-use Rattle.stab_code.specs.Stored.{nodes_in}
+use Rattle.stab_code.specs.Nodes.{nodes_in}
 use Rattle.stab_code.specs.Valid.{IsValid}
 use Rattle.stab_parse.specs.FormList.{nodes_of_program}
 use Rattle.scope_check.specs.Progress.{AreWithin, HaveTexts, texts_of}

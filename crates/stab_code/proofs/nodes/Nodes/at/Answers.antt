@@ -1,7 +1,7 @@
 -- A node is the head and the parts of its number.
 use Rattle.std.proofs.Common.{◌<◌, length, Some, ap, sym, ◌∙◌, arith}
 use Rattle.std.proofs.lemmas.Option.{slice_get-get_or}
-use Rattle.stab_code.proofs.Storing.{count_of_nodes, node_at}
+use Rattle.stab_code.proofs.Stored.{count_of_nodes, node_at}
 use Rattle.stab_code.proofs.nodes.Nodes.at.Goals as goal
 
 pub index-requires : goal.index-requires

@@ -1,7 +1,7 @@
 -- There is a head for each node.
 use Rattle.std.proofs.Common.{◌≤◌, ap, arith, length, sym}
 use Rattle.std.proofs.lemmas.Option.{slice_get_past}
-use Rattle.stab_code.proofs.Storing.{count_of_nodes}
+use Rattle.stab_code.proofs.Stored.{count_of_nodes}
 use Rattle.stab_code.proofs.nodes.Nodes.get.Goals as goal
 
 pub at-requires : goal.at-requires

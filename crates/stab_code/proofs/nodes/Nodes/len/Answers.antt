@@ -1,6 +1,6 @@
 -- There is a head for each node.
 use Rattle.std.proofs.Common.{ap, arith, length}
-use Rattle.stab_code.proofs.Storing.{count_of_nodes}
+use Rattle.stab_code.proofs.Stored.{count_of_nodes}
 use Rattle.stab_code.proofs.nodes.Nodes.len.Goals as goal
 
 pub returns : goal.returns

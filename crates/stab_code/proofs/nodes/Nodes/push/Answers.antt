@@ -1,5 +1,5 @@
 -- The head and its parts stand behind the others.
-use Rattle.stab_code.proofs.Storing.{node_pushed}
+use Rattle.stab_code.proofs.Stored.{node_pushed}
 use Rattle.stab_code.proofs.nodes.Nodes.push.Goals as goal
 
 pub returns : goal.returns

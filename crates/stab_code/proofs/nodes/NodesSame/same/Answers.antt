@@ -1,6 +1,6 @@
 -- Nodes are the same where their heads and their parts are, and only there.
 use Rattle.std.proofs.Common.{◌≡◌, sym, ◌∙◌}
-use Rattle.stab_code.proofs.Storing.{stored_nodes}
+use Rattle.stab_code.proofs.Stored.{stored_nodes}
 use Rattle.stab_code.proofs.nodes.NodesSame.same.Goals as goal
 
 pub returns-then-all_same : goal.returns-then-all_same

@@ -1,10 +1,10 @@
 -- Lists are the same where they are stored so, and only there.
 use Rattle.std.proofs.Common.{◌≡◌, sym, ◌∙◌, rules}
-use Rattle.stab_code.proofs.Storing.{stored_lists}
-use Rattle.stab_code.proofs.part_lists.PartListsSame.same.Goals as goal
+use Rattle.flat_lists.proofs.Storing.{stored_lists}
+use Rattle.flat_lists.proofs.lists.FlatListsSame.same.Goals as goal
 
 pub returns-then-eq : goal.returns-then-eq
-returns-then-eq c =
+returns-then-eq g c =
     let ends : c.self.inside.ends.items ≡ c.other.inside.ends.items = search rules in (
       λ eq. sym c.self.view_is ∙ rw (ends, sym c.deref.ensures.value ∙ c.all_same.ensures.0 eq ∙ c.deref-then-eq.ensures.value) c.other.view_is,
       λ same.
@@ -13,7 +13,7 @@ returns-then-eq c =
     )
 
 pub returns-else-eq : goal.returns-else-eq
-returns-else-eq c = (
+returns-else-eq g c = (
   λ eq. absurd (cc),
   λ same. let stored = stored_lists _ _ _ _ c.self.invariant c.other.invariant (c.self.view_is ∙ same ∙ sym c.other.view_is) in search rules,
 )

@@ -1,5 +1,5 @@
 use Rattle.std.proofs.Common.{◌≡◌, ℕ, ◌<◌, get_or}
-use Rattle.stab_code.proofs.same.all_same.Given as goal
+use Rattle.stab_base.proofs.same.all_same.Given as goal
 
 -- the lists agree below the index
 abbrev pub invariant-loop-i : goal.invariant-loop-i

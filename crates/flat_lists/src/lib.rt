@@ -1,0 +1,6 @@
+//! Numbered lists whose items stand in one list in memory.
+#![tactic(auto)]
+
+mod lists;
+
+pub use lists::FlatLists;
