@@ -6,3 +6,8 @@ use Rattle.scope_check.specs.Scope.{after}
 pub IfOk-after : {A B : Type 0} (m : Result A ScopeFault) (f : A → Result B ScopeFault) (Q : A → Type 0) (P : B → Type 0) → IfOk m Q → ((a : A) → Q a → IfOk (f a) P) → IfOk (after m f) P
 IfOk-after (Ok a) f Q P q then = then a q
 IfOk-after (Err e) f Q P q then = tt
+
+-- a second step whose result has this, whatever the first gives
+pub any-step : {A B : Type 0} (m : Result A ScopeFault) (f : A → Result B ScopeFault) (P : B → Type 0) → ((a : A) → IfOk (f a) P) → IfOk (after m f) P
+any-step (Ok a) f P then = then a
+any-step (Err e) f P then = tt

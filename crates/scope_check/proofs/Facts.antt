@@ -89,7 +89,7 @@ text-below : (o : Option TextId) (a b : ℕ) → a ≤ b → IfSome o (λ t. t.0
 text-below None a b h t = tt
 text-below (Some x) a b h t = omega arith
 
-none-there : {A : Type 0} (xs : List A) (k : ℕ) → slice_get xs k ≡ None → length xs ≤ k
+pub none-there : {A : Type 0} (xs : List A) (k : ℕ) → slice_get xs k ≡ None → length xs ≤ k
 none-there [] k e = omega arith
 none-there (x ∷ xs) zero e = absurd cc
 none-there (x ∷ xs) (suc k) e = let h = none-there xs k e in omega arith

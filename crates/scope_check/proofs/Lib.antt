@@ -1,5 +1,6 @@
 pub mod Added
 pub mod After
+pub mod BlockLets
 pub mod Characters
 pub mod Declared
 pub mod Facts

@@ -15,7 +15,7 @@ use Rattle.scope_check.specs.Names.{named}
 use Rattle.scope_check.specs.Sound.{operands, Fits, IsSound, AreSound, IsSoundProgram}
 
 -- a block has a part for each item
-number-items : (is : Items) → number_of (parts_of_items is) ≡ length (names_of is)
+pub number-items : (is : Items) → number_of (parts_of_items is) ≡ length (names_of is)
 number-items no_items = refl
 number-items (next_item is i m) = omega (arith, number-items is, length-append (names_of is) (name_of i ∷ []))
 

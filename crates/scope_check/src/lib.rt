@@ -18,6 +18,6 @@ mod stretches;
 mod types;
 
 pub use fault::ScopeFault;
-pub use laws::{programs_are_valid, texts_are_characters};
+pub use laws::{blocks_have_their_lets, programs_are_valid, texts_are_characters};
 pub use scoping::scope;
 pub use seen::Variable;
