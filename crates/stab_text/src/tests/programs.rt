@@ -2,9 +2,7 @@
 
 use super::read::program_of;
 use stab_base::FnId;
-use stab_code::{
-    Head, Job, MAX_FUEL, MAX_QUANTUM, MAX_SCRIPT, NodeId, Nodes, Op, Program, Slots,
-};
+use stab_code::{Head, Job, MAX_FUEL, MAX_QUANTUM, MAX_SCRIPT, NodeId, Nodes, Op, Program, Slots};
 use std::alloc::Global;
 use std::process::Abort;
 use std::sync::Arc;
