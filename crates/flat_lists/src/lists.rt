@@ -1,14 +1,13 @@
 //! Lists that stand one behind the other.
-ghost use Rattle.std.specs.Prelude.{◌≡◌, ◌↔◌, ◌++◌, ◌∷◌, ◌+◌, ◌<◌, [], Some, IfOk, IsTrue, MatchResult, length, slice_get};
+ghost use Rattle.std.specs.Prelude.{◌≡◌, ◌++◌, ◌∷◌, ◌+◌, ◌<◌, ◌≤◌, ◌^◌, [], Some, IfOk, MatchResult, length, slice_get};
 ghost use Rattle.flat_lists.specs.Stored.{start_of};
 
 use stab_base::{NoMemory, Same, all_same};
 use std::alloc::Global;
 use std::marker::Model;
 
-/// Numbered lists, each added behind the others. All their items stand in one list, so a list takes no more than its items and
-/// the place where it ends, which has 32 bits: more than 4,294,967,295 items of all lists are refused. Contracts see a list of
-/// lists.
+/// Numbered lists, each added behind the others. All their items stand in one list, so beside the spare room of two vectors a list
+/// takes its items and the place where it ends, which has 32 bits. Contracts see a list of lists.
 #[derive(Debug, Drop)]
 pub struct FlatLists<T> {
     ends: Vec<u32>,
@@ -37,7 +36,7 @@ impl<T> FlatLists<T> {
         }
     }
 
-    /// No lists yet, with room for so many, and for as many items of all lists.
+    /// No lists yet, with room for `lists` of them, and for `items` items in all.
     pub fn with_capacity(
         alloc: Global,
         lists: usize,
@@ -68,8 +67,11 @@ impl<T> FlatLists<T> {
     }
 }
 
+/// There are no more items than have numbers.
+const MOST: usize = 4_294_967_295;
+
 impl<T: Copy> FlatLists<T> {
-    /// Adds a list behind the others. After a refusal they are as before.
+    /// Adds a list behind the others. `NoMemory` comes also where all lists together would have more than 4,294,967,295 items.
     pub fn push(&mut self, list: &[T]) -> Result<(), NoMemory>
         ensures { MatchResult result (λ _. self.new ≡ self.old ++ list.now ∷ []) (λ _. self.new ≡ self.old) }
     {
@@ -82,14 +84,17 @@ impl<T: Copy> FlatLists<T> {
 }
 
 /// Where a list of so many items ends behind so many.
+#[inline(always)]
 fn end_behind(before: usize, items: usize) -> Result<u32, NoMemory>
-    ensures { IfOk result (λ end. end ≡ before + items) }
+    ensures { MatchResult result (λ end. end ≡ before + items) (λ _. 2 ^ 32 ≤ before + items) }
 {
-    let end = before.checked_add(items).ok_or(NoMemory)?;
-    u32::try_from(end).map_err(|_| NoMemory)
+    if before > MOST || items > MOST - before {
+        return Err(NoMemory);
+    }
+    Ok((before + items) as u32)
 }
 
-/// Adds items behind the others, one by one since most lists have two at most.
+/// Adds items behind the others, one by one, which is quicker for lists of one or two.
 fn append<T: Copy>(items: &mut Vec<T>, more: &[T]) -> Result<(), NoMemory>
     ensures { MatchResult result (λ _. items.new.items ≡ items.old.items ++ more.now) (λ _. items.new.items ≡ items.old.items) }
 {

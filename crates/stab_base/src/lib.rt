@@ -1,4 +1,4 @@
-//! The numbers, the values and the faults that every other part speaks of.
+//! The numbers, the values and the faults that every other part speaks of, and how values are compared.
 #![tactic(auto)]
 
 mod fault;

@@ -3,7 +3,8 @@ ghost use Rattle.std.specs.Prelude.{◌≡◌, ◌↔◌, IsTrue};
 
 use crate::value::Value;
 
-/// Values that can be compared without memory.
+/// What lists and containers are compared by: equality of the values that contracts see, which takes no memory. A type that is
+/// compared alone has a `same` of its own.
 pub trait Same {
     /// Whether two values are equal.
     fn same(&self, other: &Self) -> bool

@@ -1,7 +1,7 @@
 //! What the definitions say of a few forms. The calls do nothing.
 ghost use Rattle.std.specs.Prelude.{◌≡◌, ◌≢◌, ℕ, ◌+◌, ◌-◌, ◌<◌, ◌^◌, ◌∷◌, [], pos, length};
-ghost use Rattle.stab_code.specs.declared.head.Head.TheVariants.{Unit, Int, Var, If, Neg, Pair};
-ghost use Rattle.stab_code.specs.Forms.{form_of_1, form_of_2, form_of_3, leaf, let_block};
+ghost use Rattle.stab_code.specs.declared.head.Head.TheVariants.{Unit, Int, Var, If, Pair};
+ghost use Rattle.stab_code.specs.Forms.{form_of_2, form_of_3, leaf, let_block};
 ghost use Rattle.stab_code.specs.Program.{FunctionParts, ProgramParts, body_of};
 ghost use Rattle.stab_code.specs.Syntax.{depth_of, lets_of, named_in, open_in};
 ghost use Rattle.stab_code.specs.Trees.{Tree};

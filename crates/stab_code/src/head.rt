@@ -1,5 +1,5 @@
 //! What a form is, apart from its parts.
-ghost use Rattle.std.specs.Prelude.{◌≡◌, ◌↔◌, IfOk, IsTrue};
+ghost use Rattle.std.specs.Prelude.{◌≡◌, IfOk};
 ghost use Rattle.stab_code.specs.Heads.{strict_parts};
 
 use crate::ty::Ty;

@@ -1,5 +1,5 @@
 //! What each valid program has, node by node and function by function. The calls do nothing.
-ghost use Rattle.std.specs.Prelude.{◌≡◌, ℕ, ◌+◌, ◌<◌, ◌≤◌, ◌^◌, ◌==◌, ◌++◌, ◌∷◌, [], List, Option, Some, None, length, map, slice_get};
+ghost use Rattle.std.specs.Prelude.{◌≡◌, ℕ, ◌+◌, ◌<◌, ◌≤◌, ◌==◌, ◌++◌, [], List, Option, Some, length, map, slice_get};
 ghost use Rattle.std.specs.List.{All, count_by, flat_map};
 ghost use Rattle.stab_base.specs.declared.numbers.FnId.{FnId};
 ghost use Rattle.stab_base.specs.declared.numbers.TextId.{TextId};
@@ -69,7 +69,7 @@ pub fn trees_in_order()
     ensures bodies { (p : ProgramParts) (ts : Trees) → p.nodes ≡ nodes_of_all 0 ts → bodies_of p ≡ own_nodes 0 ts → trees_at p (bodies_of p) ≡ ts }
 {}
 
-/// Of a valid program a block has a form for each of its items, of which there is one, and one behind them; the
+/// Of a valid program a block has a form for each of its items, of which there is at least one, and one behind them; the
 /// function that a node names is there and takes as many arguments as the node has parts; the text is there.
 pub fn heads_fit()
     ensures items { (p : ProgramParts) → IsValid p → (n : ℕ) (node : NodeParts) → slice_get p.nodes n ≡ Some node

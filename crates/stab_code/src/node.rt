@@ -1,11 +1,10 @@
-//! Nodes, and how they are kept: the parts of all nodes stand in one list.
-ghost use Rattle.std.specs.Prelude.{◌≡◌, ◌↔◌, ◌++◌, ◌∷◌, [], IfOk, OnErr, IsTrue, length, slice_get};
+//! A node as it is read: its head and its parts.
+ghost use Rattle.std.specs.Prelude.{◌≡◌, length, slice_get};
 ghost use Rattle.stab_code.specs.Heads.{strict_parts};
 ghost use Rattle.stab_code.specs.Nodes.{node_of};
 
 use crate::head::Head;
 use crate::node_id::NodeId;
-use stab_base::{Same, all_same};
 use std::marker::Model;
 
 /// A form of a program: its head, and its parts from left to right as numbers of earlier nodes. Contracts see
@@ -61,11 +60,5 @@ impl<'a> Node<'a> {
         ensures { result ≡ strict_parts self.now.head (length self.now.parts) }
     {
         self.head.strict(self.parts.len())
-    }
-}
-
-impl<'a> Same for Node<'a> {
-    fn same(&self, other: &Node<'a>) -> bool {
-        self.head.same(other.head) && all_same(self.parts, other.parts)
     }
 }

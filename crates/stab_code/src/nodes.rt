@@ -1,5 +1,5 @@
 //! The nodes of a program, and how they are kept.
-ghost use Rattle.std.specs.Prelude.{◌≡◌, ◌↔◌, ◌++◌, ◌∷◌, ◌+◌, ◌<◌, ◌≤◌, ◌^◌, [], Some, IfOk, IsTrue, MatchResult, length, slice_get};
+ghost use Rattle.std.specs.Prelude.{◌≡◌, ◌++◌, ◌∷◌, ◌<◌, [], Some, IfOk, MatchResult, length, slice_get};
 ghost use Rattle.stab_code.specs.Nodes.{node_of, nodes_in};
 
 use crate::head::Head;
@@ -10,7 +10,7 @@ use stab_base::{NoMemory, Same, all_same};
 use std::alloc::Global;
 use std::marker::Model;
 
-/// The parts of forms by their numbers, each part the number of a node.
+/// The parts of each form, by the form's number; each part is the number of a node.
 pub type PartLists = FlatLists<NodeId>;
 
 /// A list of nodes, made of their heads and lists of parts, or by adding one behind the others. Contracts see it as the list.
@@ -46,7 +46,7 @@ impl Nodes {
         }
     }
 
-    /// No nodes yet, with room for so many, and for as many parts of all nodes.
+    /// No nodes yet, with room for `nodes` of them, and for `parts` parts in all.
     pub fn with_capacity(alloc: Global, nodes: usize, parts: usize) -> Result<Nodes, NoMemory>
         ensures { IfOk result (λ made. made ≡ []) }
     {
@@ -70,7 +70,7 @@ impl Nodes {
         self.heads.len()
     }
 
-    /// Adds a node behind the others. After a refusal they are as before.
+    /// Adds a node behind the others. `NoMemory` comes also where all nodes together would have more than 4,294,967,295 parts.
     #[inline(always)]
     pub fn push(&mut self, head: Head, parts: &[NodeId]) -> Result<(), NoMemory>
         ensures { MatchResult result (λ _. self.new ≡ self.old ++ node_of head parts.now ∷ []) (λ _. self.new ≡ self.old) }

@@ -40,8 +40,12 @@ fn tells_lists_apart(rt: HostRuntime) -> Result<(), Fail> {
     let mut cut_elsewhere = FlatLists::new(rt.alloc());
     cut_elsewhere.push(&[1])?;
     cut_elsewhere.push(&[2, 3])?;
+    let mut other_item = FlatLists::new(rt.alloc());
+    other_item.push(&[1, 2])?;
+    other_item.push(&[4])?;
     assert!(rt; cut.same(&cut));
     assert!(rt; !cut.same(&cut_elsewhere));
+    assert!(rt; !cut.same(&other_item));
     Ok(())
 }
 
