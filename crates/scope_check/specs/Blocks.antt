@@ -5,7 +5,7 @@ use Rattle.stab_code.specs.Trees.{Tree, tree}
 use Rattle.stab_parse.specs.declared.symbol.Span.{Span}
 use Rattle.scope_check.specs.Scope.{in_order}
 
--- the tree of a block whose items have these names: an item has a slot just where it is a let, and each item and the last form have a tree
+-- the tree of a block whose items have these names: an item has a slot just where it is a let, and there is one part more than items
 pub record IsBlockOf (names : List (Option Span)) (t : Tree) : Type 0 where
   pub slots : List (Option ℕ)
   pub trees : List Tree

@@ -1,5 +1,5 @@
 //! What the definition of a text's program comes to. The calls do nothing.
-ghost use Rattle.std.specs.Prelude.{◌≡◌, ℕ, ◌≤◌, List, length, IfOk, encode_utf8_all};
+ghost use Rattle.std.specs.Prelude.{◌≡◌, ℕ, ◌+◌, ◌≤◌, List, length, Option, IfOk, encode_utf8_all};
 ghost use Rattle.stab_code.specs.Valid.{IsValid};
 ghost use Rattle.stab_lex.specs.declared.token.Token.{Token};
 ghost use Rattle.stab_lex.specs.Limits.{max_text};
@@ -7,11 +7,13 @@ ghost use Rattle.stab_lex.specs.Pieces.{IsTextOf};
 ghost use Rattle.stab_lex.specs.Readings.{Reads};
 ghost use Rattle.stab_parse.specs.declared.symbol.Span.{Span};
 ghost use Rattle.stab_parse.specs.declared.tree.Function.{Function};
+ghost use Rattle.stab_parse.specs.declared.tree.Head.TheVariants.{LetBlock};
 ghost use Rattle.stab_parse.specs.Faults.{IsParsed};
-ghost use Rattle.stab_parse.specs.Forms.{Form, block_form, names_of, parts_of_items};
+ghost use Rattle.stab_parse.specs.Forms.{Form, form, Parts, block_form, head_of_block, names_of, parts_of_items};
 ghost use Rattle.stab_parse.specs.Grammar.{Item, Items, Program, next_item};
 ghost use Rattle.scope_check.specs.declared.seen.Variable.{Variable};
 ghost use Rattle.scope_check.specs.Blocks.{IsBlockOf};
+ghost use Rattle.scope_check.specs.Forms.{number_of};
 ghost use Rattle.scope_check.specs.Names.{named, text_at};
 ghost use Rattle.scope_check.specs.Scope.{Met, form_scoped, program_scoped};
 
@@ -26,9 +28,11 @@ pub fn texts_are_characters()
     ensures { (bytes : List ℕ) (span : Span) (cs : List ℕ) → IsTextOf (named bytes span) cs → text_at bytes span ≡ encode_utf8_all cs }
 {}
 
-/// A block with items becomes a `Block` of the program, with lets among them or without. An item of it has a slot just where it is written as a
-/// let, and it has a tree for each item and one for its last form.
+/// A block without lets means what it would with its names kept. Where a block with items has no fault, it becomes a `Block` of the program, with
+/// lets among them or without. An item of it has a slot just where it is written as a let, and it has one part more than items.
 pub fn blocks_have_their_lets()
-    ensures { (bytes : List ℕ) (fs : List Function) (arity : ℕ) (seen : List Variable) (met : Met) (at : ℕ) (is : Items) (i : Item) (m : Span) (last : Form)
+    ensures kept { (bytes : List ℕ) (fs : List Function) (arity : ℕ) (seen : List Variable) (met : Met) (at : ℕ) (names : List (Option Span)) (parts : Parts) → number_of parts ≡ length names + 1
+        → form_scoped bytes fs arity seen met (form at (head_of_block names) parts) ≡ form_scoped bytes fs arity seen met (form at (LetBlock names) parts) }
+    ensures lets { (bytes : List ℕ) (fs : List Function) (arity : ℕ) (seen : List Variable) (met : Met) (at : ℕ) (is : Items) (i : Item) (m : Span) (last : Form)
         → IfOk (form_scoped bytes fs arity seen met (block_form at (next_item is i m) (parts_of_items (next_item is i m)) last)) (λ t. IsBlockOf (names_of (next_item is i m)) t.0) }
 {}

@@ -1,4 +1,4 @@
--- What is written means: the forms of a program. A form is its first byte, its head and its parts.
+-- What the written program means, as forms. A form is its first byte, its head and its parts.
 use Rattle.std.specs.Prelude.{ℕ, ◌^◌, pos, neg_ℤ, if◌then◌else◌, List, [], ◌∷◌, ◌++◌, Option, Some, None, is_some}
 use Rattle.std.specs.List.{list_any}
 use Rattle.stab_code.specs.declared.head.Op.TheVariants as op
