@@ -1,13 +1,7 @@
 -- How values are printed.
-use Rattle.std.specs.Prelude.{ℕ, ◌<◌, List, [], ◌++◌, true, false, length, codes, decimal, slice_get, unwrap_or}
+use Rattle.std.specs.Prelude.{ℕ, List, [], ◌++◌, true, false, codes, decimal, slice_get, unwrap_or}
 use Rattle.std.specs.Fmt.{signed_decimal}
 use Rattle.stab_base.specs.Datum.{Datum, unit, truth, int, text, chan, reference, pair}
-
--- every text that the value names is among the texts
-abbrev pub HasTexts : List (List ℕ) → Datum → Type 0
-HasTexts texts (text t) = t < length texts
-HasTexts texts (pair a b) = HasTexts texts a × HasTexts texts b
-HasTexts texts _ = Unit {0}
 
 -- what a value prints, given the characters of each text
 abbrev pub printed : List (List ℕ) → Datum → List ℕ
