@@ -1,7 +1,8 @@
 -- Where stretches begin, and the forms in them.
-use Rattle.std.proofs.Common.{◌≡◌, inl, inr, ℕ, zero, suc, ◌+◌, ◌-◌, ◌<◌, ◌≤◌, ◌^◌, Bool, List, [], ◌∷◌, ◌++◌, length, take, drop, get_or, slice_get, Some, refl, sym, ap, subst, ◌∙◌, arith, length-append}
-use Rattle.std.specs.Prelude.{Ok, true, false, reverse, if◌then◌else◌}
+use Rattle.std.proofs.Common.{◌≡◌, inl, inr, ℕ, zero, suc, ◌+◌, ◌-◌, ◌<◌, ◌≤◌, ◌^◌, List, [], ◌∷◌, ◌++◌, length, take, drop, get_or, slice_get, Some, refl, sym, ap, subst, ◌∙◌, arith, length-append}
+use Rattle.std.specs.Prelude.{Ok, true, false, reverse}
 use Rattle.std.specs.List.{AllByRecursion, slice_range}
+use Rattle.std.proofs.lemmas.Bool.{cases_lt}
 use Rattle.std.proofs.lemmas.List.{take-append-le}
 use Rattle.std.proofs.Math.Seq.{drop-append_seam, take-length}
 use Rattle.std.proofs.lemmas.Option.{slice_get-get_or, slice_get_within}
@@ -18,7 +19,7 @@ use Rattle.scope_check.specs.Made.{IsFormFault, IsFormMade, nodes_now, scoped_no
 use Rattle.scope_check.specs.Places.{IsAt, part_lists}
 use Rattle.scope_check.specs.Progress.{IsFaultOf, met_of, seen_of}
 use Rattle.scope_check.specs.Scope.{Met, head_met}
-use Rattle.scope_check.specs.Stretches.{ArePlain, IsStretchFault, IsStretchMade, heads_met, plain, plain_from, stretch}
+use Rattle.scope_check.specs.Stretches.{ArePlain, ArePlainFrom, IsPlainFrom, IsStretchFault, IsStretchMade, heads_met, plain, stretch}
 use Rattle.scope_check.proofs.Added.{length-nodes_in}
 use Rattle.scope_check.proofs.Places.{at-within, length-part_lists, some-size}
 use Rattle.scope_check.proofs.Sizes.{length-nodes_of}
@@ -26,46 +27,40 @@ use Rattle.scope_check.proofs.Stretched.{Agrees, form-agrees, heads-fault, heads
 
 -- ---- where stretches begin
 
-step-low : (b : Bool) (r first n : ℕ) → r ≤ first → r ≤ n → r ≤ (if b then first else n + 1)
-step-low true r first n h k = h
-step-low false r first n h k = omega arith
+-- a plain form goes on, and behind another one begins anew
+pub from-plain : (forms : List FormNode) (i n : ℕ) (f : FormNode) → IsPlainFrom forms i n → slice_get forms i ≡ Some f → plain f ≡ true → IsPlainFrom forms (i + 1) n
+from-plain forms i n f is there own first = (
+  λ h j g low high found. elim (cases_lt j i) [
+    | inl before ↦ (is first).0 h j g low before found
+    | inr behind ↦
+        let here : i ≡ j = omega arith in
+        let same : f ≡ g = let e = sym there ∙ ap (slice_get forms) here ∙ found in cc in
+        ap plain (sym same) ∙ own
+  ],
+  λ are. (is first).1 (λ j g low high found. are j g low (omega arith) found),
+)
 
-low : (n first r : ℕ) (forms : List FormNode) (at s : ℕ) → r ≤ first → r ≤ n → slice_get (plain_from n first forms) at ≡ Some s → r ≤ s
-low n first r [] at s h k found = absurd cc
-low n first r (f ∷ forms) zero s h k found =
-    let same : (if plain f then first else n + 1) ≡ s = cc in
-    subst (λ m. r ≤ m) same (step-low (plain f) r first n h k)
-low n first r (f ∷ forms) (suc at) s h k found =
-    low (n + 1) (if plain f then first else n + 1) r forms at s (step-low (plain f) r first n h k) (omega arith) found
+pub from-other : (forms : List FormNode) (i : ℕ) (f : FormNode) → slice_get forms i ≡ Some f → plain f ≡ false → IsPlainFrom forms (i + 1) (i + 1)
+from-other forms i f there own first = (
+  (λ h j g low high found. absurd (omega arith)),
+  (λ are. elim (cases_lt i first) [
+    | inl behind ↦ omega arith
+    | inr before ↦ let wrong = are i f before (omega arith) there in absurd cc
+  ]),
+)
 
--- a form that isn't plain stands before all that follow it
-not-plain : (b : Bool) (n first : ℕ) (forms : List FormNode) (at s : ℕ) → slice_get ((if b then first else n + 1) ∷ plain_from (n + 1) (if b then first else n + 1) forms) at ≡ Some s → s ≤ n → b ≡ true
-not-plain true n first forms at s found h = refl
-not-plain false n first forms zero s found h = let same : n + 1 ≡ s = cc in absurd (omega arith)
-not-plain false n first forms (suc at) s found h =
-    let l = low (n + 1) (n + 1) (n + 1) forms at s (omega arith) (omega arith) found in absurd (omega arith)
+pub marked-next : (forms : List FormNode) (numbers : List ℕ) (n : ℕ) → ArePlainFrom forms numbers → IsPlainFrom forms (length numbers + 1) n → ArePlainFrom forms (numbers ++ n ∷ [])
+marked-next forms numbers n are is at number found = elim (cases_lt at (length numbers)) [
+  | inl before ↦ are at number (sym (slice_get-left numbers (n ∷ []) at before) ∙ found)
+  | inr behind ↦
+      let last : at ≡ length numbers + 0 = omega (arith, slice_get_within (numbers ++ n ∷ []) at number found, length-append numbers (n ∷ []), behind) in
+      let same : n ≡ number = let e = sym (slice_get-right numbers (n ∷ []) at 0 last) ∙ found in cc in
+      subst (λ own. IsPlainFrom forms (at + 1) own) same (subst (λ end. IsPlainFrom forms (end + 1) n) (omega (arith, last)) is)
+]
 
-plain-behind : (n first : ℕ) (forms : List FormNode) (at s i : ℕ) (g : FormNode) → slice_get (plain_from n first forms) at ≡ Some s → s ≤ n + i → i ≤ at → slice_get forms i ≡ Some g → plain g ≡ true
-plain-behind n first [] at s i g found h k there = absurd cc
-plain-behind n first (f ∷ forms) at s zero g found h k there =
-    let same : f ≡ g = cc in
-    subst (λ x. plain x ≡ true) same (not-plain (plain f) n first forms at s found (omega arith))
-plain-behind n first (f ∷ forms) zero s (suc i) g found h k there = absurd (omega arith)
-plain-behind n first (f ∷ forms) (suc at) s (suc i) g found h k there =
-    plain-behind (n + 1) (if plain f then first else n + 1) forms at s i g found (omega arith) (omega arith) there
-
-plain-stretch : (forms : List FormNode) (numbers : List ℕ) (at s first : ℕ) → numbers ≡ plain_from 0 0 forms → slice_get numbers at ≡ Some s → s ≤ first → ArePlain forms first at
-plain-stretch forms numbers at s first e found h i g low_enough k there =
-    plain-behind 0 0 forms at s i g (ap (λ l. slice_get l at) (sym e) ∙ found) (omega arith) k there
-
-pub length-plain_from : (n first : ℕ) (forms : List FormNode) → length (plain_from n first forms) ≡ length forms
-length-plain_from n first [] = refl
-length-plain_from n first (f ∷ forms) = ap suc (length-plain_from (n + 1) (if plain f then first else n + 1) forms)
-
-pub plain-there : (forms : List FormNode) (numbers : List ℕ) (at own first d : ℕ) → numbers ≡ plain_from 0 0 forms → at < length forms → own ≡ get_or numbers at d → own ≤ first → ArePlain forms first at
-plain-there forms numbers at own first d e there own_is h =
-    let inside : at < length numbers = omega (arith, there, ap length e, length-plain_from 0 0 forms) in
-    plain-stretch forms numbers at own first e (slice_get-get_or numbers at d inside ∙ ap Some (sym own_is)) h
+pub plain-there : (forms : List FormNode) (numbers : List ℕ) (at own first d : ℕ) → length numbers ≡ length forms → ArePlainFrom forms numbers → at < length forms → own ≡ get_or numbers at d → own ≤ first → ArePlain forms first (at + 1)
+plain-there forms numbers at own first d marked are there own_is h =
+    (are at own (slice_get-get_or numbers at d (omega (arith, marked, there)) ∙ ap Some (sym own_is)) first).0 h
 
 -- ---- the forms in a form are a stretch
 
@@ -81,7 +76,7 @@ module _ (forms : List FormNode) (first at : ℕ) (f : Form) (is : IsAt forms fi
       ap (take ((at + 1) - first)) (ap (λ l. drop first l) is.forms_are ∙ ap (λ n. drop n (is.before ++ (nodes_of f ++ is.after))) (sym is.first_is) ∙ drop-append_seam is.before (nodes_of f ++ is.after))
       ∙ ap (λ n. take n (nodes_of f ++ is.after)) count ∙ take-append-le (length (nodes_of f)) (nodes_of f) is.after (omega arith) ∙ take-length (nodes_of f)
 
-  all-plain : ArePlain forms first at → AllByRecursion (λ g. plain g ≡ true) (nodes_of f)
+  all-plain : ArePlain forms first (at + 1) → AllByRecursion (λ g. plain g ≡ true) (nodes_of f)
   all-plain are = all-found (λ g. plain g ≡ true) (nodes_of f) (λ i g found.
       let first_is = is.first_is in
       let own_is = is.own_is in
@@ -127,7 +122,7 @@ range-parted xs first i end x h k found =
 
 -- ---- what a stretch makes is what the definition gives
 
-module _ (bytes : List ℕ) (fs : List Function) (arity : ℕ) (forms : List FormNode) (small : length forms < 2 ^ 32) (at : ℕ) (old : Progress) (are : ArePlain forms (length old.heads.items) at) where
+module _ (bytes : List ℕ) (fs : List Function) (arity : ℕ) (forms : List FormNode) (small : length forms < 2 ^ 32) (at : ℕ) (old : Progress) (are : ArePlain forms (length old.heads.items) (at + 1)) where
   -- as many heads as nodes, where a form stands behind them
   heads-there : (f : Form) → IsAt forms (length (nodes_now forms old)) at f → length (nodes_now forms old) ≡ length old.heads.items
   heads-there f is =

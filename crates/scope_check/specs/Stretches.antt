@@ -1,5 +1,5 @@
 -- Stretches of forms that are gone through in the order of the list.
-use Rattle.std.specs.Prelude.{◌≡◌, ℕ, ◌+◌, ◌≤◌, ◌==◌, Bool, true, false, if◌then◌else◌, List, [], ◌∷◌, ◌++◌, length, slice_get, Some, Result, Ok}
+use Rattle.std.specs.Prelude.{◌≡◌, ℕ, ◌+◌, ◌<◌, ◌≤◌, ◌==◌, ◌↔◌, Bool, true, false, List, [], ◌∷◌, ◌++◌, length, slice_get, Some, Result, Ok}
 use Rattle.std.specs.List.{slice_range}
 use Rattle.stab_code.specs.declared.head.Head.{Head as Code}
 use Rattle.stab_parse.specs.declared.tree.FormNode.{FormNode}
@@ -25,17 +25,17 @@ plain_head _ parts = true
 abbrev pub plain : FormNode → Bool
 plain f = plain_head f.head f.parts
 
--- the forms from one number up to another and with it are plain
+-- the forms from one number on are plain, as far as before an end
 abbrev pub ArePlain : List FormNode → ℕ → ℕ → Type 0
-ArePlain forms first at = (i : ℕ) (f : FormNode) → first ≤ i → i ≤ at → slice_get forms i ≡ Some f → plain f ≡ true
+ArePlain forms first end = (i : ℕ) (f : FormNode) → first ≤ i → i < end → slice_get forms i ≡ Some f → plain f ≡ true
 
--- for each form, of which the first has number n, the least number from which on all up to it and with it are plain, where that number is
--- first for those that stand before them
-abbrev pub plain_from : ℕ → ℕ → List FormNode → List ℕ
-plain_from n first [] = []
-plain_from n first (f ∷ forms) =
-    let own = if plain f then first else n + 1 in
-    own ∷ plain_from (n + 1) own forms
+-- the least number from which on all forms before an end are plain: it is at most `first` exactly where those from `first` on are
+abbrev pub IsPlainFrom : List FormNode → ℕ → ℕ → Type 0
+IsPlainFrom forms end number = (first : ℕ) → (number ≤ first) ↔ ArePlain forms first end
+
+-- each number in a list is the least from which on all forms as far as its own place, and the one there, are plain
+abbrev pub ArePlainFrom : List FormNode → List ℕ → Type 0
+ArePlainFrom forms numbers = (at number : ℕ) → slice_get numbers at ≡ Some number → IsPlainFrom forms (at + 1) number
 
 -- the forms behind those whose heads were made, as far as before a number
 abbrev pub stretch : List FormNode → ℕ → Progress → List FormNode

@@ -5,7 +5,7 @@ ghost use Rattle.scope_check.specs.Limits.{max_functions};
 ghost use Rattle.scope_check.specs.Places.{part_lists};
 ghost use Rattle.scope_check.specs.Progress.{AreWithin};
 ghost use Rattle.scope_check.specs.Scope.{callee_of, function_named, has_arity, main_of, names_of};
-ghost use Rattle.scope_check.specs.Stretches.{plain_from as plain_numbers};
+ghost use Rattle.scope_check.specs.Stretches.{ArePlainFrom};
 
 use crate::fault::ScopeFault;
 use crate::names::{unknown, written};
@@ -31,7 +31,8 @@ pub struct Plan<'a> {
     ghost small: { length bytes.now ≤ max_text },
     ghost fewer: { length forms.now < 2 ^ 32 },
     ghost laid: { parts ≡ part_lists 0 [] forms.now },
-    ghost plain: { plain_from.items ≡ plain_numbers 0 0 forms.now },
+    ghost marked: { length plain_from.items ≡ length forms.now },
+    ghost plain: { ArePlainFrom forms.now plain_from.items },
 }
 
 impl<'a> Plan<'a> {

@@ -3,7 +3,7 @@ ghost use Rattle.std.specs.Prelude.{◌≡◌, ◌+◌, ◌<◌, ◌^◌, false,
 ghost use Rattle.scope_check.specs.Forms.{has_lets};
 ghost use Rattle.scope_check.specs.Progress.{HasText, HaveTexts, IsFaultOf, met_of, seen_of};
 ghost use Rattle.scope_check.specs.Scope.{head_met};
-ghost use Rattle.scope_check.specs.Stretches.{ArePlain, IsHeadAdded, IsStretchFault, IsStretchMade, plain, plain_from as plain_numbers};
+ghost use Rattle.scope_check.specs.Stretches.{ArePlain, ArePlainFrom, IsHeadAdded, IsStretchFault, IsStretchMade, plain};
 
 use crate::fault::ScopeFault;
 use crate::plan::Plan;
@@ -31,7 +31,8 @@ fn is_plain(form: &FormNode) -> bool
 /// isn't plain itself.
 pub(crate) fn plain_from(alloc: Global, forms: &[FormNode]) -> Result<Vec<u32>, ScopeFault>
     requires { length forms.now < 2 ^ 32 }
-    ensures numbers { IfOk result (λ numbers. numbers.items ≡ plain_numbers 0 0 forms.now) }
+    ensures length { IfOk result (λ numbers. length numbers.items ≡ length forms.now) }
+    ensures numbers { IfOk result (λ numbers. ArePlainFrom forms.now numbers.items) }
     ensures fault { IfErr result (λ fault. fault ≡ ScopeFault.NoMemory) }
 {
     let mut numbers = Vec::with_capacity(alloc, forms.len())?;
@@ -80,7 +81,7 @@ impl<'a> Plan<'a> {
     pub(crate) fn stretch(&self, progress: &mut Progress, at: usize) -> Result<(), ScopeFault>
         requires texts { HaveTexts self.now.bytes.now self.now.forms.now }
         requires there { at < length self.now.forms.now }
-        requires plain { ArePlain self.now.forms.now (length progress.old.heads.items) at }
+        requires plain { ArePlain self.now.forms.now (length progress.old.heads.items) (at + 1) }
         ensures ok { OnOk result (IsStretchMade self.now.bytes.now self.now.functions.now self.now.forms.now (at + 1) progress.old progress.new) }
         ensures seen { OnOk result (progress.new.seen.items ≡ progress.old.seen.items) }
         ensures fault { IfErr result (IsStretchFault self.now.bytes.now self.now.functions.now self.now.forms.now (at + 1) progress.old) }

@@ -28,6 +28,7 @@ invariant_of-plan c =
       small = c.requires.small;
       fewer = subst (λ l. length l < 2 ^ 32) (sym forms_is) (few-read c.args.bytes.now c.args.tree.now c.requires);
       laid = c.in_ok-parts.ensures.lists;
+      marked = c.in_ok-plain_from.ensures.length;
       plain = c.in_ok-plain_from.ensures.numbers;
     }
 

@@ -1,6 +1,10 @@
-use Rattle.std.proofs.Common.{◌≡◌, ◌++◌, drop}
-use Rattle.scope_check.specs.Stretches.{plain_from as plain_numbers}
+use Rattle.std.proofs.Common.{◌≡◌, length}
+use Rattle.scope_check.specs.Stretches.{ArePlainFrom, IsPlainFrom}
 use Rattle.scope_check.proofs.stretches.plain_from.Given as goal
 
 abbrev pub invariant-loop-i : goal.invariant-loop-i
-invariant-loop-i l = plain_numbers 0 0 l.forms ≡ l.numbers.items ++ plain_numbers l.i l.first (drop l.i l.forms)
+invariant-loop-i l = record {
+  count : length l.numbers.items ≡ l.i;
+  marked : ArePlainFrom l.forms l.numbers.items;
+  next : IsPlainFrom l.forms l.i l.first;
+}

@@ -11,7 +11,7 @@ use Rattle.scope_check.specs.Forms.{items_of}
 use Rattle.scope_check.specs.Places.{part_lists}
 use Rattle.scope_check.proofs.Made.{HeadMet, block-met, form-head-fault, form-made, form-parts-fault, no-item, on-err, on-ok, part-form, part-let, part-none, part-none-fault, seen-on, so-far-all, so-far-fault, so-far-next, so-far-none, slots-known}
 use Rattle.scope_check.proofs.Places.{parts-below, parts-there}
-use Rattle.scope_check.proofs.PlainForms.{length-plain_from, plain-there, stretch-fault, stretch-made}
+use Rattle.scope_check.proofs.PlainForms.{plain-there, stretch-fault, stretch-made}
 use Rattle.scope_check.proofs.plan.Plan.+forms.Goals as goal
 
 pub form-returns-in_err-head-clause-fault : goal.form-returns-in_err-head-clause-fault
@@ -25,24 +25,24 @@ form-returns-in_err-head-clause-fault t c =
 pub form-index-requires : goal.form-index-requires
 form-index-requires t c =
     let plan = c.args.self.now in
-    omega (arith, c.requires.there, ap length plan.plain, length-plain_from 0 0 plan.forms.now)
+    omega (arith, c.requires.there, plan.marked)
 
 pub form-stretch-requires-clause-plain : goal.form-stretch-requires-clause-plain
 form-stretch-requires-clause-plain t c =
     let plan = c.args.self.now in
-    plain-there plan.forms.now plan.plain_from.items c.args.at c.index.result.now (length c.args.progress.now.heads.items) c.index.result.now plan.plain c.requires.there c.index.ensures (omega (arith, c.if-index-len.true, c.len.ensures))
+    plain-there plan.forms.now plan.plain_from.items c.args.at c.index.result.now (length c.args.progress.now.heads.items) c.index.result.now plan.marked plan.plain c.requires.there c.index.ensures (omega (arith, c.if-index-len.true, c.len.ensures))
 
 pub form-returns-then-index-len-clause-ok : goal.form-returns-then-index-len-clause-ok
 form-returns-then-index-len-clause-ok t c =
     let plan = c.args.self.now in
-    let are = plain-there plan.forms.now plan.plain_from.items c.args.at c.index.result.now (length c.args.progress.now.heads.items) c.index.result.now plan.plain c.requires.there c.index.ensures (omega (arith, c.if-index-len.true, c.len.ensures)) in
+    let are = plain-there plan.forms.now plan.plain_from.items c.args.at c.index.result.now (length c.args.progress.now.heads.items) c.index.result.now plan.marked plan.plain c.requires.there c.index.ensures (omega (arith, c.if-index-len.true, c.len.ensures)) in
     on-ok c.stretch.result c.stretch.ensures.ok c.stretch.ensures.seen (λ made seen.
     stretch-made plan.bytes.now plan.functions.now c.args.arity plan.forms.now plan.fewer c.args.at c.args.progress.now are c.stretch.new.progress made)
 
 pub form-returns-then-index-len-clause-fault : goal.form-returns-then-index-len-clause-fault
 form-returns-then-index-len-clause-fault t c =
     let plan = c.args.self.now in
-    let are = plain-there plan.forms.now plan.plain_from.items c.args.at c.index.result.now (length c.args.progress.now.heads.items) c.index.result.now plan.plain c.requires.there c.index.ensures (omega (arith, c.if-index-len.true, c.len.ensures)) in
+    let are = plain-there plan.forms.now plan.plain_from.items c.args.at c.index.result.now (length c.args.progress.now.heads.items) c.index.result.now plan.marked plan.plain c.requires.there c.index.ensures (omega (arith, c.if-index-len.true, c.len.ensures)) in
     on-err c.stretch.result c.stretch.ensures.fault (λ fault broken.
     stretch-fault plan.bytes.now plan.functions.now c.args.arity plan.forms.now plan.fewer c.args.at c.args.progress.now are fault broken)
 
