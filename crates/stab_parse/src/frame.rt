@@ -216,7 +216,7 @@ pub enum Phase {
 #[derive(Drop)]
 pub struct Stack {
     frames: Vec<Frame>,
-    open: usize,
+    depth: usize,
 }
 
 impl Model for Stack {
@@ -233,7 +233,7 @@ impl Model for Stack {
 
     ghost view = { λ s. reverse s.frames.items };
 
-    ghost invariant = { λ s. s.open ≡ open_in (reverse s.frames.items) };
+    ghost invariant = { λ s. s.depth ≡ open_in (reverse s.frames.items) };
 }
 
 impl Stack {
@@ -242,7 +242,7 @@ impl Stack {
     {
         Stack {
             frames: Vec::new(alloc),
-            open: 0,
+            depth: 0,
         }
     }
 
@@ -250,7 +250,7 @@ impl Stack {
     pub(crate) fn open(&self) -> usize
         ensures { result ≡ open_in self.now }
     {
-        self.open
+        self.depth
     }
 
     #[inline(always)]
@@ -261,7 +261,7 @@ impl Stack {
         self.frames.reserve(1)?;
         self.frames.push_reserved(frame);
         let _at_most = self.frames.len();
-        self.open += more;
+        self.depth += more;
         Ok(())
     }
 
@@ -277,7 +277,7 @@ impl Stack {
         ensures below { self.new ≡ below_top self.old }
     {
         let frame = self.frames.pop()?;
-        self.open -= opens(&frame);
+        self.depth -= opens(&frame);
         Some(frame)
     }
 }
