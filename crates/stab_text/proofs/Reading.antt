@@ -1,14 +1,11 @@
 -- A text has one syntax at most, so one program or one fault.
-use Rattle.std.proofs.Common.{◌≡◌, ℕ, List, ◌⊎◌, inl, inr, refl, sym, ap, subst, ◌∙◌}
+use Rattle.std.proofs.Common.{◌≡◌, ℕ, List, ◌⊎◌, inl, inr, refl, ap, subst, ◌∙◌}
 use Rattle.std.specs.Prelude.{Result, Ok, Err}
 use Rattle.stab_code.specs.Program.{ProgramParts}
-use Rattle.stab_lex.specs.declared.token.LexFault.{LexFault}
-use Rattle.stab_lex.specs.declared.token.Token.{Token}
-use Rattle.stab_lex.specs.Readings.{Reads, HasFault as LexHasFault}
 use Rattle.stab_lex.proofs.Unique.{one_reading, one_fault as one_lex_fault, not_both as not_both_lex}
 use Rattle.stab_lex.proofs.Total.{reading_or_fault}
 use Rattle.stab_parse.specs.declared.fault.ParseFault.{ParseFault}
-use Rattle.stab_parse.specs.Faults.{IsParsed, HasFault as ParseHasFault}
+use Rattle.stab_parse.specs.Faults.{HasFault as ParseHasFault}
 use Rattle.stab_parse.specs.Grammar.{Program, IsProgram}
 use Rattle.stab_parse.proofs.Reading.{one_program as one_syntax}
 use Rattle.stab_parse.proofs.Verdicts.{one_fault as one_parse_fault, not_both as not_both_parse, program_or_fault as syntax_or_fault}
@@ -16,7 +13,7 @@ use Rattle.scope_check.specs.declared.fault.ScopeFault.{ScopeFault}
 use Rattle.scope_check.specs.Scope.{program_scoped}
 use Rattle.stab_text.specs.declared.fault.TextFault.{TextFault}
 use Rattle.stab_text.specs.declared.fault.TextFault.TheVariants.{Lex, Parse, Scope}
-use Rattle.stab_text.specs.Text.{HasFault, HasParseFault, HasScopeFault, IsSyntaxOf, IsTextOf}
+use Rattle.stab_text.specs.Text.{HasFault, HasParseFault, IsSyntaxOf, IsTextOf}
 
 same_ok : (p q : ProgramParts) (r : Result ProgramParts ScopeFault) → r ≡ Ok p → r ≡ Ok q → p ≡ q
 same_ok p q r a b = cc

@@ -18,7 +18,6 @@ pub fn read_program(alloc: Global, bytes: &[u8]) -> Result<Program, TextFault>
     ensures program { IfOk result (IsTextOf bytes.now) }
     ensures fault { IfErr result (λ fault. IsNoMemory fault ⊎ HasFault bytes.now fault) }
 {
-    let tokens = lex(alloc, bytes)?;
-    let tree = parse(alloc, &tokens, bytes)?;
+    let tree = parse(alloc, &lex(alloc, bytes)?, bytes)?;
     Ok(scope(alloc, &tree, bytes)?)
 }
