@@ -20,6 +20,9 @@ const MAX_TEXT: usize = 1_048_576;
 /// How many readings of a text are timed.
 const TIMED: u32 = 5;
 
+/// A block somewhat smaller than 32 MiB, the largest from which the GNU C library learns how much memory to keep.
+const LARGE_BLOCK: usize = 33_488_896;
+
 /// How many tokens and forms a text has, and how many functions. A text that is refused has no functions, and no forms and no
 /// tokens where it is refused for them.
 #[derive(Clone, Copy)]
@@ -80,6 +83,15 @@ pub fn counted(alloc: Global, text: &str) -> io::Result<Counts> {
     Ok(counts)
 }
 
+/// Reads a text that stands in a large block, so that what is timed afterwards is read in memory that the process has: once a block was
+/// given back, the GNU C library (mallopt(3), on `M_MMAP_THRESHOLD`) keeps up to twice its size for the next ones.
+pub fn keep_memory<R: AllocGlobal + CpuClock>(rt: &R) -> io::Result<()> {
+    let mut text = String::with_capacity(rt.alloc(), LARGE_BLOCK)?;
+    text.push_str("fn main(): unit {}")?;
+    once(rt, text.as_str())?;
+    Ok(())
+}
+
 /// The least time of each phase in five readings, before which one isn't timed.
 pub fn timed<R: AllocGlobal + CpuClock>(rt: &R, text: &str) -> io::Result<Took> {
     let mut least = Took {
@@ -111,6 +123,7 @@ fn once<R: AllocGlobal + CpuClock>(rt: &R, text: &str) -> io::Result<Took> {
     let start = rt.thread_cpu_time()?;
     let tree = tree(rt.alloc(), &tokens, bytes)?;
     took.parse = nanos(rt, start)?;
+    drop(tokens);
     let Some(tree) = tree else {
         return Ok(took);
     };

@@ -1,6 +1,6 @@
 //! What is printed.
 
-use crate::phases::{Counts, Took, counted, timed};
+use crate::phases::{Counts, Took, counted, keep_memory, timed};
 use crate::tenths::Tenths;
 use crate::texts::{HOSTILE, Hostile, KINDS, Kind};
 use std::io;
@@ -11,6 +11,22 @@ use std::time::CpuClock;
 struct Slowest {
     kind: Kind,
     took: u64,
+}
+
+/// How long a text is, and how long each phase took.
+#[derive(Clone, Copy)]
+struct Sample {
+    bytes: usize,
+    took: Took,
+}
+
+impl Sample {
+    /// How many times as long one takes that is ten times as long, in bytes, as this one.
+    fn growth(self, longer: Sample) -> Tenths {
+        let of_longer = longer.took.all().saturating_mul(self.bytes as u64);
+        let of_shorter = self.took.all().saturating_mul(longer.bytes as u64);
+        Tenths::quotient(of_longer.saturating_mul(10), of_shorter)
+    }
 }
 
 const FEW: usize = 3_500;
@@ -46,6 +62,7 @@ pub fn print_times<R: AllocGlobal + CpuClock + Print>(
     rt: &R,
     only: Option<&str>,
 ) -> io::Result<()> {
+    keep_memory(rt)?;
     for kind in KINDS {
         if is_asked(only, kind.name()) {
             print_programs(rt, kind)?;
@@ -94,22 +111,24 @@ fn print_program<R: AllocGlobal + CpuClock + Print>(
     rt: &R,
     kind: Kind,
     size: usize,
-    shorter: Option<Took>,
-) -> io::Result<Took> {
+    shorter: Option<Sample>,
+) -> io::Result<Sample> {
     let text = kind.program(rt.alloc(), size)?;
-    let took = timed(rt, text.as_str())?;
-    print_phases(rt, kind.name(), text.len(), took)?;
+    let sample = Sample {
+        bytes: text.len(),
+        took: timed(rt, text.as_str())?,
+    };
+    print_phases(rt, kind.name(), sample)?;
     if let Some(shorter) = shorter {
-        let lex = Tenths::quotient(took.lex, shorter.lex);
-        let parse = Tenths::quotient(took.parse, shorter.parse);
-        let scope = Tenths::quotient(took.scope, shorter.scope);
-        print!(rt; "; by the shorter one lex {lex}, parse {parse}, scope {scope}")?;
+        let growth = shorter.growth(sample);
+        print!(rt; "; ten times as long takes {growth} times as long")?;
     }
     println!(rt;)?;
-    Ok(took)
+    Ok(sample)
 }
 
-fn print_phases<R: Print>(rt: &R, name: &str, bytes: usize, took: Took) -> io::Result<()> {
+fn print_phases<R: Print>(rt: &R, name: &str, sample: Sample) -> io::Result<()> {
+    let Sample { bytes, took } = sample;
     let lex = Tenths::quotient(took.lex, bytes as u64);
     let parse = Tenths::quotient(took.parse, bytes as u64);
     let scope = Tenths::quotient(took.scope, bytes as u64);
