@@ -21,7 +21,7 @@ use Rattle.stab_parse.proofs.Machine.{Opening, opening, RoundParam, first_param,
 use Rattle.stab_parse.proofs.Machine as machine
 use Rattle.stab_parse.specs.Frames.{top_of, below_top}
 use Rattle.stab_parse.specs.Moves as moves
-use Rattle.stab_parse.specs.Moves.{Refused, Goes, Opens, pushed, popped, both, alone, more, seen_at, settled, Settled, settle, settle_on, settle_if, settle_if_on, join_top, join, whole_sum, whole_and, whole_expr, Outcome, outcome, settled_outcome, complete, block_in, block_done, unit_place, ends, closes, ends_settled, move}
+use Rattle.stab_parse.specs.Moves.{Refused, Goes, Opens, pushed, popped, both, alone, more, seen_at, settled, Settled, settle, settle_on, settle_if, settle_if_on, join_top, join, whole_sum, whole_and, whole_expr, Outcome, outcome, settled_outcome, complete, block_in, block_done, ends, closes, ends_settled, move}
 use Rattle.stab_parse.proofs.Kept.{height_of_parts, with_form, with_parts, seen_of, kept_callee_of, before_of, name_of_opening, program_of, in_program, expr_height, block_height, place_of, at_items, at_block, at_if, at_expr, at_and, at_cmp, at_sum, at_term, at_unary, at_other, at_type, phase_of, reader_of}
 
 -- ---- what stands on top of the frames of a place
@@ -202,10 +202,6 @@ block_done_items is i m at d place s r =
     block_done_some (names_of is) (name_of i) at d place s r
     ∙ ap (λ n. block_in place (seen_at at (moves.deeper (max d s.depth))) (moves.formed (head_of_block (names_of (next_item is i m))) n at (max d s.depth) r)) count
 
-unit_place_some : (xs : List (Option Span)) (x : Option Span) (at end : ℕ) → unit_place (xs ++ x ∷ []) at end ≡ end
-unit_place_some [] x at end = refl
-unit_place_some (y ∷ xs) x at end = refl
-
 -- ---- a step behind a form
 
 abbrev pub Agrees : Move → Outcome → Type 0
@@ -290,13 +286,12 @@ agrees_open_brace (let_value l x q (items_in o is c)) e p = refl
 agrees_open_brace (item_in (items_in o is c)) e p = refl
 agrees_open_brace (condition i c) e p = refl
 
-agrees_end_items : (c : RoundItems) (p : Span) → Agrees (end_block c p) (moves.end_items (top_of (at_items c).frames) p.start (popped (at_items c)))
+agrees_end_items : (c : RoundItems) (p : Span) → Agrees (end_block c p) (moves.end_items (top_of (at_items c).frames) (popped (at_items c)))
 agrees_end_items (items_in o no_items c) p = blocks c (block o no_items p)
 agrees_end_items (items_in o (next_item is i m) c) p =
     let parts : Parts = parts_of_items (next_item is i m) in
     let names : List (Option Span) = names_of is ++ name_of i ∷ [] in
-    ap (λ at. block_done o.start names (height_of_parts parts) (place_of c) (seen_at at 1) (moves.formed head.Unit 0 at 0 (with_parts parts (at_block c)))) (unit_place_some (names_of is) (name_of i) o.start p.start)
-    ∙ block_done_items is i m o.start (height_of_parts parts) (place_of c) (seen_at p.start 1) (moves.formed head.Unit 0 p.start 0 (with_parts parts (at_block c)))
+    block_done_items is i m o.start (height_of_parts parts) (place_of c) (seen_at o.start 1) (moves.formed head.Unit 0 o.start 0 (with_parts parts (at_block c)))
     ∙ blocks c (block o (next_item is i m) p)
 
 abbrev ClosesNothing : Symbol → Type 0

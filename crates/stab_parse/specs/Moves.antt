@@ -275,15 +275,10 @@ abbrev pub close_brace : Frame → Seen → Reader → Outcome
 close_brace (frame.Items d at names place) s r = block_done at names d place s r
 close_brace _ s r = outcome Refused r
 
--- the place of a unit that isn't written: the block's, where it is empty
-abbrev pub unit_place : List (Option Span) → ℕ → ℕ → ℕ
-unit_place [] at end = at
-unit_place (x ∷ xs) at end = end
-
-abbrev pub end_items : Option Frame → ℕ → Reader → Outcome
-end_items (Some (frame.Items d at names place)) end r =
-    block_done at names d place (seen_at (unit_place names at end) 1) (formed head.Unit 0 (unit_place names at end) 0 r)
-end_items _ end r = outcome Refused r
+-- a block ends behind its items; where its unit stands, which isn't written, makes no difference, since it is never too deep
+abbrev pub end_items : Option Frame → Reader → Outcome
+end_items (Some (frame.Items d at names place)) r = block_done at names d place (seen_at at 1) (formed head.Unit 0 at 0 r)
+end_items _ r = outcome Refused r
 
 abbrev pub open_brace : ℕ → Frame → Seen → Reader → Outcome
 open_brace o (frame.Condition at) s r = outcome (Opens phase.InItems) (pushed (frame.Items 0 o [] (Then at s.depth)) r)
@@ -380,7 +375,7 @@ call_open c k p r = if is_close_paren k then settled_outcome (call_done c 0 0 r)
 abbrev pub in_items : Symbol → Span → Reader → Outcome
 in_items k p r =
     if is_let k then outcome (Goes phase.LetRead) r
-    else (if is_close_brace k then end_items (top_of r.frames) p.start (popped r) else begins k p r)
+    else (if is_close_brace k then end_items (top_of r.frames) (popped r) else begins k p r)
 
 abbrev pub named : Span → Symbol → Span → Reader → Outcome
 named x k p r = if is_open_paren k then outcome (Opens (phase.CallOpen (Called x))) r else ends_settled k p (complete (head.Variable x) 0 x.start 0 r)

@@ -176,7 +176,7 @@ impl Parser {
             return Ok(self.goes(Phase::LetRead));
         }
         if closes_brace(symbol) {
-            return self.end_items(span.start);
+            return self.end_items();
         }
         self.begins(symbol, span)
     }

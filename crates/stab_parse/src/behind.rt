@@ -239,15 +239,14 @@ impl Parser {
         }
     }
 
-    /// A block ends behind its items, by the place of its last bracket.
-    pub(crate) fn end_items(&mut self, end: u32) -> Result<Admission, AllocError>
+    /// A block ends behind its items. Its unit, which isn't written, is never too deep, so it doesn't matter where it stands.
+    pub(crate) fn end_items(&mut self) -> Result<Admission, AllocError>
         ensures ok { IfOk result (λ admission. did admission self.new
-            ≡ end_items (top_of self.old.reader.frames) end (popped self.old.reader)) }
+            ≡ end_items (top_of self.old.reader.frames) (popped self.old.reader)) }
     {
         match self.reader.frames.pop() {
             Some(Frame::Items(depth, at, names, place)) => {
-                let unwritten = if names.len() == 0 { at } else { end };
-                let unit = self.reader.form(Head::Unit, 0, unwritten, 0)?;
+                let unit = self.reader.form(Head::Unit, 0, at, 0)?;
                 self.block_done(at, names, depth, place, unit)
             }
             _ => Ok(Admission::Refused),
