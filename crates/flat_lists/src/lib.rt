@@ -1,4 +1,4 @@
-//! Numbered lists whose items stand in one list in memory.
+//! Numbered lists whose items are in one list in memory.
 #![tactic(auto)]
 
 mod lists;

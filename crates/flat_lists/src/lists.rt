@@ -1,4 +1,4 @@
-//! Lists that stand one behind the other.
+//! Lists that are kept one after the other.
 ghost use Rattle.std.specs.Prelude.{◌≡◌, ◌++◌, ◌∷◌, ◌+◌, ◌<◌, ◌≤◌, ◌^◌, [], Some, IfOk, MatchResult, length, slice_get};
 ghost use Rattle.flat_lists.specs.Stored.{start_of};
 
@@ -6,7 +6,7 @@ use stab_base::{NoMemory, Same, all_same};
 use std::alloc::Global;
 use std::marker::Model;
 
-/// Numbered lists, each added behind the others. All their items stand in one list, so beside the spare room of two vectors a list
+/// Numbered lists, each added after the others. All their items are in one list, so beside the spare room of two vectors a list
 /// takes its items and the place where it ends, which has 32 bits. Contracts see a list of lists.
 #[derive(Debug, Drop)]
 pub struct FlatLists<T> {
@@ -71,7 +71,7 @@ impl<T> FlatLists<T> {
 const MOST: usize = 4_294_967_295;
 
 impl<T: Copy> FlatLists<T> {
-    /// Adds a list behind the others. `NoMemory` comes also where all lists together would have more than 4,294,967,295 items.
+    /// Adds a list after the others. `NoMemory` comes also where all lists together would have more than 4,294,967,295 items.
     pub fn push(&mut self, list: &[T]) -> Result<(), NoMemory>
         ensures { MatchResult result (λ _. self.new ≡ self.old ++ list.now ∷ []) (λ _. self.new ≡ self.old) }
     {
@@ -83,7 +83,7 @@ impl<T: Copy> FlatLists<T> {
     }
 }
 
-/// Where a list of so many items ends behind so many.
+/// `before + items`, if it fits 32 bits.
 #[inline(always)]
 fn end_behind(before: usize, items: usize) -> Result<u32, NoMemory>
     ensures { MatchResult result (λ end. end ≡ before + items) (λ _. 2 ^ 32 ≤ before + items) }
@@ -94,7 +94,7 @@ fn end_behind(before: usize, items: usize) -> Result<u32, NoMemory>
     Ok((before + items) as u32)
 }
 
-/// Adds items behind the others, one by one, which is quicker for lists of one or two.
+/// Adds items after the others, one by one, which is quicker for lists of one or two.
 fn append<T: Copy>(items: &mut Vec<T>, more: &[T]) -> Result<(), NoMemory>
     ensures { MatchResult result (λ _. items.new.items ≡ items.old.items ++ more.now) (λ _. items.new.items ≡ items.old.items) }
 {

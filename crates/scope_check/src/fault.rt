@@ -14,14 +14,14 @@ pub enum ScopeFault {
     /// The name of a function that an earlier one has, or of a parameter that an earlier one of the function has: its place
     /// and length.
     Twice(u32, u32),
-    /// A name that isn't seen where it stands: its place and length.
+    /// A name that isn't in scope: its place and length.
     Unknown(u32, u32),
     /// The name of a function that takes another number of arguments.
     Arity(u32),
     /// The 1,001st function, the ninth parameter of one, the 201st let of one, or the 1,001st text that no earlier one is
     /// equal to.
     TooMany(u32),
-    /// There was no memory for the answer.
+    /// Out of memory.
     NoMemory,
 }
 

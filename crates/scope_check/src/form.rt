@@ -10,7 +10,7 @@ use stab_code::{Head as Code, Slots};
 use stab_parse::{Head, Span};
 
 impl<'a> Plan<'a> {
-    /// Makes the heads of a form and of those in it, in a function that takes so many arguments.
+    /// Makes the heads of a form and of those in it, in a function that takes this many arguments.
     #[cycle(forms)]
     #[inline(always)]
     pub(crate) fn form(
@@ -111,7 +111,7 @@ impl<'a> Plan<'a> {
         Ok(slots)
     }
 
-    /// Makes the heads of one part more. An item that is a let is counted before its form, and seen behind it.
+    /// Makes the heads of one part more. An item that is a let is counted before its form, and seen after it.
     #[cycle(forms)]
     fn part(
         &self,
@@ -148,7 +148,7 @@ impl<'a> Plan<'a> {
     }
 }
 
-/// For an item of a block with lets the name of its let, or none; the form behind the items is none of them.
+/// For an item of a block with lets the name of its let, or none; the form after the items is none of them.
 fn item_at(names: &[Option<Span>], i: usize) -> Option<Option<Span>>
     ensures { result ≡ slice_get names.now i }
 {

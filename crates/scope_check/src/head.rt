@@ -34,7 +34,7 @@ impl<'a> Plan<'a> {
         progress.number_text(span, kept)
     }
 
-    /// The slots of a block with so many parts of which no item is a let. A block shares them with the last such block before it, where
+    /// The slots of a block with this many parts, none a let. A block shares them with the last such block before it, where
     /// that has as many.
     #[inline(never)]
     pub(crate) fn no_slots(

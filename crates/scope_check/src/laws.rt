@@ -1,4 +1,4 @@
-//! What the definition of a text's program comes to. The calls do nothing.
+//! What follows from the definition of a text's program. The calls do nothing.
 ghost use Rattle.std.specs.Prelude.{◌≡◌, ℕ, ◌+◌, ◌≤◌, List, length, Option, IfOk, encode_utf8_all};
 ghost use Rattle.stab_code.specs.Valid.{IsValid};
 ghost use Rattle.stab_lex.specs.declared.token.Token.{Token};

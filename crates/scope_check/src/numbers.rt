@@ -22,7 +22,7 @@ const MAX_LETS: usize = 200;
 const MAX_TEXTS: usize = 1000;
 
 impl Progress {
-    /// Nothing yet, with room for so many heads.
+    /// Nothing yet, with room for this many heads.
     pub(crate) fn with_room(alloc: Global, heads: usize) -> Result<Progress, ScopeFault>
         ensures heads { IfOk result (λ progress. progress.heads.items ≡ []) }
         ensures texts { IfOk result (λ progress. texts_of progress ≡ []) }
@@ -90,7 +90,7 @@ impl Progress {
         Ok(TextId(number as u32))
     }
 
-    /// The variable of one let more, in a function that takes so many arguments.
+    /// The variable of one let more, in a function that takes this many arguments.
     pub(crate) fn number_let(&mut self, arity: u32, name: Span) -> Result<Variable, ScopeFault>
         requires { arity ≤ 8 }
         ensures variable { IfOk result (λ variable. let_numbered arity name (met_of self.old) ≡ Ok (variable, met_of self.new)) }

@@ -1,4 +1,4 @@
-//! Where the parts of each form stand.
+//! The places of the parts of each form.
 ghost use Rattle.std.specs.Prelude.{◌≡◌, ◌<◌, ◌^◌, [], length, IfOk, IfErr};
 ghost use Rattle.scope_check.specs.Places.{part_lists as parts_of_each};
 
@@ -7,7 +7,7 @@ use stab_code::{NodeId, PartLists};
 use stab_parse::FormNode;
 use std::alloc::Global;
 
-/// The parts of the forms of a list, in which each form stands directly behind its parts, as numbers in that list.
+/// The parts of the forms of a list, in which each form comes directly after its parts, as numbers in that list.
 pub(crate) fn part_lists(alloc: Global, forms: &[FormNode]) -> Result<PartLists, ScopeFault>
     requires { length forms.now < 2 ^ 32 }
     ensures lists { IfOk result (λ lists. lists ≡ parts_of_each 0 [] forms.now) }

@@ -63,7 +63,7 @@ impl<'a> Plan<'a> {
         Ok(FnId(n as u32))
     }
 
-    /// The number of the function with this name, which takes so many arguments.
+    /// The number of the function with this name, which takes this many arguments.
     #[inline(never)]
     pub(crate) fn callee(&self, name: Span, arguments: usize) -> Result<FnId, ScopeFault>
         ensures callee { IfOk result (λ f. callee_of self.now.bytes.now self.now.functions.now name arguments ≡ Ok f.0) }

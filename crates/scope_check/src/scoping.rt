@@ -17,7 +17,7 @@ use stab_parse::Tree;
 use std::alloc::Global;
 
 /// The program that the syntax of a text stands for: the functions with their written types, slots and texts, and one node for
-/// each form, function after function, each directly behind the nodes of its parts. The bytes are those that the syntax was
+/// each form, function after function, each directly after the nodes of its parts. The bytes are those that the syntax was
 /// read from: at most 1,048,576.
 pub fn scope(alloc: Global, tree: &Tree, bytes: &[u8]) -> Result<Program, ScopeFault>
     requires { IsReadFrom bytes.now tree.now }

@@ -13,7 +13,7 @@ use stab_parse::{FormNode, Head};
 use std::alloc::Global;
 
 /// Whether a form is plain: no block with lets, call, spawn or stable, and a text or variable only without parts. Its head is then
-/// the same before and behind its parts.
+/// the same before and after its parts.
 fn is_plain(form: &FormNode) -> bool
     ensures { result ≡ plain form.now }
 {
@@ -47,7 +47,7 @@ pub(crate) fn plain_from(alloc: Global, forms: &[FormNode]) -> Result<Vec<u32>, 
 }
 
 impl<'a> Plan<'a> {
-    /// Makes the head of a block without lets behind those that were made.
+    /// Makes the head of a block without lets after those that were made.
     #[inline(never)]
     fn add_block(&self, progress: &mut Progress, form: &FormNode) -> Result<(), ScopeFault>
         requires { form.now.head ≡ Head.Block }
@@ -59,7 +59,7 @@ impl<'a> Plan<'a> {
         Ok(())
     }
 
-    /// Makes the head of a form that isn't a block with lets behind those that were made.
+    /// Makes the head of a form that isn't a block with lets after those that were made.
     #[inline(always)]
     fn add(&self, progress: &mut Progress, form: &FormNode) -> Result<(), ScopeFault>
         requires text { HasText self.now.bytes.now form.now.head }
@@ -76,7 +76,7 @@ impl<'a> Plan<'a> {
         Ok(())
     }
 
-    /// Makes the heads of the forms up to one and with it, behind those that were made. All of them are plain.
+    /// Makes the heads of the forms up to one and with it, after those that were made. All of them are plain.
     #[inline(never)]
     pub(crate) fn stretch(&self, progress: &mut Progress, at: usize) -> Result<(), ScopeFault>
         requires texts { HaveTexts self.now.bytes.now self.now.forms.now }

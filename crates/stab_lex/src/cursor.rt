@@ -29,7 +29,7 @@ impl<'a> Cursor<'a> {
         Cursor { rest: text, at: 0 }
     }
 
-    /// How many bytes stand before the place.
+    /// How many bytes come before the place.
     pub(crate) fn at(&self) -> u32
         ensures { result ≡ self.now.at }
     {
@@ -50,7 +50,7 @@ impl<'a> Cursor<'a> {
         self.rest.chars().next()
     }
 
-    /// Goes on behind the next character.
+    /// Goes past the next character.
     pub(crate) fn bump(&mut self) -> Option<char>
         ensures { MatchOption result ((self.old.rest ≡ []) × (self.new ≡ self.old))
             (λ c. Leads (c ∷ []) self.old self.new) }

@@ -30,7 +30,7 @@ pub fn reading_or_fault()
         ⊎ ((fault : LexFault) × HasFault bytes fault) }
 {}
 
-/// The tokens that bytes are read as stand in them one behind the other.
+/// The tokens of a text come one after the other in its bytes.
 pub fn tokens_in_order()
     ensures order { (bytes : List ℕ) (tokens : List Token) → Reads bytes tokens
         → InOrder 0 tokens (length bytes) }

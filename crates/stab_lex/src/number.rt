@@ -27,7 +27,7 @@ pub(crate) fn number(cursor: &mut Cursor, first: char) -> Result<Kind, LexFault>
     Ok(Kind::Number(value))
 }
 
-// Goes on behind the digits, and gives their value, or the greatest that 64 bits hold.
+// Goes past the digits and returns their value, or the greatest that 64 bits hold.
 fn digits(cursor: &mut Cursor) -> u64
     ensures { (digits : List ℕ) × Leads digits cursor.old cursor.new × Pass is_ascii_digit digits
         × Stops is_ascii_digit cursor.new.rest × (result ≡ min (decimal digits) (2 ^ 64 - 1)) }

@@ -39,7 +39,7 @@ fn goes_on(cursor: &mut Cursor, quote: u32) -> Result<bool, LexFault>
     }
 }
 
-// Reads the character behind a backslash.
+// Reads the character after a backslash.
 fn escaped(cursor: &mut Cursor, quote: u32, backslash: u32) -> Result<bool, LexFault>
     ensures more { IfOk result (λ more. IsTrue more × ((c : ℕ) × Leads (c ∷ []) cursor.old cursor.new
         × IsTrue (is_escaped c))) }

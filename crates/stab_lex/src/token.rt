@@ -18,13 +18,13 @@ pub enum LexFault {
     /// The bytes aren't UTF-8: the length of the longest prefix that is UTF-8.
     NotUtf8(u32),
     /// A character that begins no token, or a backslash in a text before a character that it
-    /// can't stand before.
+    /// can't come before.
     BadChar(u32),
     /// The first digit of a number above 9223372036854775808.
     BigNumber(u32),
     /// The opening quote of a text that its line doesn't close.
     OpenText(u32),
-    /// There was no memory for the answer.
+    /// Out of memory.
     NoMemory,
 }
 

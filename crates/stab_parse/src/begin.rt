@@ -1,4 +1,4 @@
-//! What a token does where a form may begin, and behind the first token of a form.
+//! What a token does where a form may begin, and after the first token of a form.
 ghost use Rattle.std.specs.Prelude.{◌≡◌, ◌<◌, ◌^◌, [], neg_ℤ, pos, IfOk};
 ghost use Rattle.stab_parse.specs.Moves.{Opens, begins, call_open, complete, did, else_read, in_items, is_close_brace, is_close_paren, is_else, is_let, is_open_paren, let_named, let_read, named, negative_of, opened, outcome, pushed, settled_outcome, signed, then_read};
 ghost use Rattle.stab_parse.specs.Symbols.{IsSmall};
@@ -46,7 +46,7 @@ fn minus(value: u64) -> i64
     -(value as i64)
 }
 
-/// The number that a token is behind a minus.
+/// The number that a token is after a minus.
 fn negative(symbol: Symbol) -> Option<i64>
     requires { IsSmall symbol }
     ensures { result ≡ negative_of symbol }
@@ -109,7 +109,7 @@ impl Parser {
         }
     }
 
-    /// A token behind a minus.
+    /// A token after a minus.
     #[inline(never)]
     pub(crate) fn signed(
         &mut self,
@@ -129,7 +129,7 @@ impl Parser {
         }
     }
 
-    /// A token behind a bracket that begins a form.
+    /// A token after a bracket that begins a form.
     #[inline(never)]
     pub(crate) fn opened(
         &mut self,
@@ -147,7 +147,7 @@ impl Parser {
         self.begins(symbol, span)
     }
 
-    /// A token behind the bracket of a call.
+    /// A token after the bracket of a call.
     #[inline(never)]
     pub(crate) fn call_open(
         &mut self,
@@ -181,7 +181,7 @@ impl Parser {
         self.begins(symbol, span)
     }
 
-    /// A token behind a name.
+    /// A token after a name.
     #[inline(never)]
     pub(crate) fn named(
         &mut self,
@@ -201,7 +201,7 @@ impl Parser {
         self.ends(alloc, symbol, span, seen)
     }
 
-    /// A token behind the block that follows a condition.
+    /// A token after the block that follows a condition.
     #[inline(never)]
     pub(crate) fn then_read(
         &mut self,
@@ -221,7 +221,7 @@ impl Parser {
         self.ends(alloc, symbol, span, seen)
     }
 
-    /// A token behind an `else`.
+    /// A token after an `else`.
     #[inline(never)]
     pub(crate) fn else_read(
         &mut self,

@@ -1,5 +1,5 @@
-//! What a token does behind an expression. What isn't done for most tokens isn't inlined, since each would then pay for the
-//! locals of all.
+//! What a token does after an expression. Rare cases aren't inlined, so that the common path keeps a small stack
+//! frame.
 ghost use Rattle.std.specs.Prelude.{◌≡◌, ◌++◌, ◌∷◌, [], Option, Some, IfOk};
 ghost use Rattle.stab_parse.specs.Frames.{top_of};
 ghost use Rattle.stab_parse.specs.Moves.{Goes, behind_top, block_done, block_in, call_done, close_brace, close_paren, closes, comma, did, end_items, ends, first_of_call, head_of_call, in_top, item, open_brace, operator, outcome, owed_in, popped, pushed, relation, relation_top, semicolon, settled, whole_and, whole_expr, whole_sum};
@@ -154,7 +154,7 @@ impl Parser {
         }
     }
 
-    /// A semicolon behind a whole expression.
+    /// A semicolon after a whole expression.
     #[inline(never)]
     fn semicolon(&mut self, alloc: Global, seen: Seen) -> Result<Admission, AllocError>
         ensures ok { IfOk result (λ admission. did admission self.new
@@ -239,7 +239,7 @@ impl Parser {
         }
     }
 
-    /// A block ends behind its items. Its unit, which isn't written, is never too deep, so it doesn't matter where it stands.
+    /// A block ends after its items. Its unit, which isn't written, is never too deep, so its place doesn't matter.
     pub(crate) fn end_items(&mut self) -> Result<Admission, AllocError>
         ensures ok { IfOk result (λ admission. did admission self.new
             ≡ end_items (top_of self.old.reader.frames) (popped self.old.reader)) }
@@ -342,7 +342,7 @@ impl Parser {
         self.operator(Level::Or, Op::Or, left)
     }
 
-    /// A token behind an expression that ends in an operator's right side.
+    /// A token after an expression that ends in an operator's right side.
     #[inline(never)]
     fn closes_operation(
         &mut self,
@@ -357,7 +357,7 @@ impl Parser {
         self.behind_top(alloc, symbol, span, whole)
     }
 
-    /// A token behind a whole expression.
+    /// A token after a whole expression.
     #[tactic(auto, using(crate::proofs::Settling::stands_alone))]
     fn closes(
         &mut self,
@@ -374,7 +374,7 @@ impl Parser {
         self.behind_top(alloc, symbol, span, seen)
     }
 
-    /// A token behind a term.
+    /// A token after a term.
     pub(crate) fn ends(
         &mut self,
         alloc: Global,

@@ -6,14 +6,14 @@ use std::alloc::AllocError;
 /// Why tokens aren't a program. A place is the first byte of a token or form, counted from 0.
 #[derive(Clone, Copy, Debug, PartialEq, Eq)]
 pub enum ParseFault {
-    /// The token that stands here can't stand behind those before it.
+    /// The token here can't come after those before it.
     Unexpected(u32),
     /// A program could go on, and the text ends.
     EarlyEnd,
-    /// The token that stands here would be the 201st that is open, or a form that begins here
+    /// The token here would be the 201st that is open, or a form that begins here
     /// has 200 forms in each other within it.
     TooNested(u32),
-    /// There was no memory for the answer.
+    /// Out of memory.
     NoMemory,
 }
 

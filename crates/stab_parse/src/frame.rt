@@ -1,4 +1,4 @@
-//! What is owed while a program is read: a frame for each thing that stands round the place.
+//! What is owed while a program is read: a frame for each thing that is round the place.
 ghost use Rattle.std.specs.Prelude.{◌≡◌, ◌∷◌, [], IfOk, OnOk};
 ghost use Rattle.std.specs.Option.{option_copied};
 ghost use Rattle.stab_parse.specs.Frames.{open_by, open_in, top_of, below_top};
@@ -69,7 +69,7 @@ pub enum Level {
     Or,
 }
 
-/// An operator with what stands left of it.
+/// An operator with its left side.
 #[derive(Clone, Copy)]
 pub struct Left {
     pub op: Op,
@@ -133,19 +133,19 @@ impl Signature {
     }
 }
 
-/// What a block is to what stands round it.
+/// What a block is to the form round it.
 #[derive(Drop)]
 pub enum BlockPlace {
     /// The body of a function.
     Body(Signature),
     Form,
-    /// Behind a condition: the place of the `if`, and the depth of the condition.
+    /// After a condition: the place of the `if`, and the depth of the condition.
     Then(u32, u8),
-    /// Behind an `else`: the place of the `if`, and the depth of the parts before.
+    /// After an `else`: the place of the `if`, and the depth of the parts before.
     Else(u32, u8),
 }
 
-/// What stands round a place. A number of 32 bits is the first byte of the form, one of 8 bits the depth of its
+/// What is round a place. A number of 32 bits is the first byte of the form, one of 8 bits the depth of its
 /// parts so far.
 #[derive(Drop)]
 pub enum Frame {
@@ -170,7 +170,7 @@ pub enum Frame {
     Items(u8, u32, ItemNames, BlockPlace),
     Condition(u32),
     ElseIf(u32, u8),
-    /// An operator with what stands left of it.
+    /// An operator with its left side.
     Operator(Level, Op, Seen),
     Not(u32),
     Negate(u32),

@@ -274,7 +274,7 @@ impl Parser {
         }
     }
 
-    /// A token behind a type.
+    /// A token after a type.
     #[inline(never)]
     pub(crate) fn has_type(
         &mut self,

@@ -12,7 +12,7 @@ use crate::tree::{Forms, Functions, Tree};
 use stab_lex::Token;
 use std::alloc::Global;
 
-/// Whether a token may stand where it stands.
+/// Whether a token is allowed where it is.
 #[derive(Clone, Copy)]
 pub enum Admission {
     Refused,
@@ -29,7 +29,7 @@ pub struct Parser {
 }
 
 impl Parser {
-    /// The token may stand here, and what was read last is then this.
+    /// The token is allowed here, and what was read last is then this.
     #[inline(always)]
     pub(crate) fn goes(&mut self, next: Phase) -> Admission
         ensures { did result self.new ≡ outcome (Goes next) self.old.reader }

@@ -1,4 +1,4 @@
-//! What stands round the place that was read last, and how forms that were read go into it.
+//! What is round the place that was read last, and how forms that were read go into it.
 ghost use Rattle.std.specs.Prelude.{◌≡◌, IfOk, Some};
 ghost use Rattle.stab_parse.specs.Frames.{top_of};
 ghost use Rattle.std.specs.Option.{option_copied};
@@ -13,7 +13,7 @@ use std::alloc::AllocError;
 /// The depth of a form that is just too deep.
 const TOO_DEEP: u8 = 201;
 
-/// What stands round the place, and the forms and functions that were read.
+/// What is round the place, and the forms and functions that were read.
 #[derive(Drop)]
 pub struct Reader {
     pub frames: Stack,
@@ -78,7 +78,7 @@ fn taker_of(top: Option<&Frame>) -> Option<Taker>
     }
 }
 
-/// The operator that the frame is, with what stands left of it, where it is of this level, below products.
+/// The operator of the frame with its left side, if it is of this level, below products.
 fn left_of(level: Level, top: Option<&Frame>) -> Option<Left>
     ensures { result ≡ left_of level (option_copied top.entry) }
 {
@@ -103,7 +103,7 @@ fn left_of(level: Level, top: Option<&Frame>) -> Option<Left>
     }
 }
 
-/// Whether the frame is an operator with what stands left of it.
+/// Whether the frame is an operator with its left side.
 pub(crate) fn is_operator(top: Option<&Frame>) -> bool
     ensures { result ≡ is_operator (option_copied top.entry) }
 {
@@ -123,7 +123,7 @@ pub(crate) fn takes_right(level: Level, top: Option<&Frame>) -> bool
     }
 }
 
-/// Whether the frame is an `if` behind an `else`.
+/// Whether the frame is an `if` after an `else`.
 fn takes_if(top: Option<&Frame>) -> bool
     ensures { result ≡ takes_if (option_copied top.entry) }
 {
@@ -233,7 +233,7 @@ impl Reader {
         self.settle(seen)
     }
 
-    /// A form joins the operator of this level that stands next.
+    /// A form joins the next operator of this level.
     #[inline(always)]
     #[tactic(auto, using(crate::proofs::Settling::joins, crate::proofs::Settling::joins_none))]
     pub(crate) fn join(&mut self, level: Level, seen: Seen) -> Result<Seen, AllocError>
@@ -272,7 +272,7 @@ impl Reader {
         }
     }
 
-    /// An `if` is complete, and with it each one that it stands in behind an `else`: its place, and the depth of
+    /// An `if` is complete, and with it each one in whose `else` it is: its place, and the depth of
     /// its parts.
     #[inline(never)]
     pub(crate) fn settle_if(&mut self, at: u32, depth: u8) -> Result<Seen, AllocError>

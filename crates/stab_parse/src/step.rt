@@ -84,7 +84,7 @@ impl Parser {
         }
     }
 
-    /// What a token does behind a type or parameters, which are taken out of the phase.
+    /// What a token does after a type or parameters, which are taken out of the phase.
     #[inline(never)]
     fn step_typed(
         &mut self,

@@ -47,7 +47,7 @@ pub enum CallWord {
     Stable,
 }
 
-/// A kind of token as the grammar tells them apart. Tokens that may stand in the same places are one.
+/// A kind of token as the grammar tells them apart. Tokens that are allowed in the same places are one.
 #[derive(Clone, Copy, Debug, PartialEq, Eq)]
 pub enum Symbol {
     /// A name that isn't reserved.

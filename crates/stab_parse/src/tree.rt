@@ -27,7 +27,7 @@ impl Model for Lets {
 }
 
 impl Lets {
-    /// The names of so many items without `let`, and one more.
+    /// The names of this many items without `let`, and one more.
     fn behind(alloc: Global, items: usize, name: Span) -> Result<Lets, AllocError>
         ensures ok { IfOk result (λ lets. lets ≡ replicate items None ++ Some name ∷ []) }
     {
@@ -203,7 +203,7 @@ impl ParsedType {
 /// What a form is, without its parts. A name is given by where it is written.
 #[derive(Drop)]
 pub enum Head {
-    /// Written `()` or `{}`, or not written at all: a missing `else`, and the end of a block behind its last item.
+    /// Written `()` or `{}`, or not written at all: a missing `else`, and the end of a block after its last item.
     Unit,
     Truth(bool),
     Int(i64),
@@ -285,14 +285,14 @@ impl Params {
     }
 }
 
-/// A function as it is written. The forms of its body stand in the tree's list from where those of the function
+/// A function as it is written. The forms of its body are in the tree's list from where those of the function
 /// before it end, the body itself last.
 #[derive(Drop)]
 pub struct Function {
     pub name: Span,
     pub params: Params,
     pub gives: ParsedType,
-    /// How many forms of the tree stand up to the end of this function.
+    /// How many forms of the tree there are up to the end of this function.
     pub forms_end: usize,
 }
 
@@ -316,7 +316,7 @@ impl Model for Forms {
 }
 
 impl Forms {
-    /// No forms yet, with room for so many.
+    /// No forms yet, with room for this many.
     pub(crate) fn with_capacity(alloc: Global, forms: usize) -> Result<Forms, AllocError>
         ensures ok { IfOk result (λ made. made ≡ []) }
     {

@@ -1,4 +1,4 @@
-//! What a token does behind the words that acts, calls by a word and the types of channels and references begin with.
+//! What a token does after the words that acts, calls by a word and the types of channels and references begin with.
 ghost use Rattle.std.specs.Prelude.{◌≡◌, IfOk};
 ghost use Rattle.stab_parse.specs.Moves.{bracket, did, paren, paren_end, paren_in, word_read};
 
@@ -9,7 +9,7 @@ use crate::tree::{Head, ParsedType};
 use std::alloc::AllocError;
 
 impl Parser {
-    /// The bracket behind a word, with the frame that it opens.
+    /// The bracket after a word, with the frame that it opens.
     fn bracket(&mut self, frame: Frame, symbol: Symbol) -> Result<Admission, AllocError>
         ensures ok { IfOk result (λ admission. did admission self.new ≡ bracket frame symbol self.old.reader) }
     {
