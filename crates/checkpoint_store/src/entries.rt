@@ -60,7 +60,7 @@ pub fn drop_at<C: Drop>(entries: &mut Entries<C>, q: Seq)
     drop_holes_at_end(entries);
 }
 
-// How many entries have places below this one. They are looked for where the place would stand if numbers
+// How many entries have places below this one. They are looked for where the place would be if numbers
 // were spread evenly, then in steps from there that double, and at last by halving.
 fn count_below<C>(entries: &Entries<C>, place: (Seq, ThreadId)) -> usize
     requires { Rises (places_of entries.now.items) }
@@ -99,7 +99,7 @@ fn probe(low: usize, high: usize, wish: usize) -> usize
     }
 }
 
-// Which entry would be of an event if numbers were spread evenly. Any answer is right.
+// Guesses the entry of an event by interpolation. Any guess is correct, a good one is fast.
 fn guess<C>(entries: &Entries<C>, q: Seq) -> usize {
     match (entries.front(), entries.back()) {
         (Some(first), Some(last)) => {
@@ -173,7 +173,7 @@ fn empty_from<C: Drop>(entries: &mut Entries<C>, i: usize, q: Seq)
     }
 }
 
-// Takes away the holes behind the last entry that has something.
+// Removes the holes after the last entry that has something.
 fn drop_holes_at_end<C: Drop>(entries: &mut Entries<C>)
     requires { Rises (places_of entries.old.items) }
     ensures left { (k : Place) → found entries.new.items k ≡ found entries.old.items k }

@@ -11,7 +11,7 @@ use std::marker::{Model, PhantomData};
 use std::sync::ledger::Ledger;
 use step_counter::Steps;
 
-/// A graph that tells of its nodes and edges for steps of one counter alone. Who has this and the
+/// A graph that gives its nodes and edges for steps of one counter alone. Who has this and the
 /// counter of that ledger, and no graph, learns nothing that isn't counted.
 #[derive(Drop)]
 pub struct Counted<'a, L: Ledger> {
@@ -43,7 +43,7 @@ impl Graph {
 }
 
 impl<'a, L: Ledger> Counted<'a, L> {
-    /// That the nodes are in order. It tells nothing of them.
+    /// That the nodes are in order, and nothing else about them.
     pub fn valid(&self)
         ensures { AreNodes self.now.nodes }
     {

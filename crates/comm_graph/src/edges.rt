@@ -62,7 +62,7 @@ impl Graph {
     }
 
     /// Where an edge of a node leads, the first one being 0. Takes one step. Who wants all edges goes
-    /// through them by `next_edge`, since a reader is found from the one behind it.
+    /// through them by `next_edge`, since a reader is found from the one after it.
     pub fn out<L: Ledger>(&self, node: Seq, i: u32, steps: &mut Steps<L>) -> Option<Seq>
         requires { IsSome (kind_of self.now.nodes node.0) }
         ensures end { number_of result ≡ slice_get (ends self.now.nodes node.0) i }

@@ -1,4 +1,4 @@
-//! The graph: nodes are added behind all others, struck, and cut off in front.
+//! The graph: nodes are added after all others, struck, and cut off in front.
 ghost use Rattle.std.specs.Prelude.{◌≡◌, ◌<◌, ◌≤◌, ◌+◌, ◌-◌, ℕ, [], ◌∷◌, ◌++◌, length, filter, not, nat_eq, nat_le, true, OnOk, IsOk, IsSome, IfSome, IfNone};
 ghost use Rattle.std.specs.List.{All};
 ghost use Rattle.comm_graph.specs.Node.{Node, reads};
@@ -90,7 +90,7 @@ impl Graph {
         self.table.reserve()
     }
 
-    /// Adds a node behind all others.
+    /// Adds a node after all others.
     pub fn add(&mut self, q: Seq, node: NodeFor)
         requires spare { 1 ≤ self.old.spare }
         requires above { All (λ (n : Node). n.number < q.0) self.old.nodes }
@@ -120,7 +120,7 @@ impl Graph {
         }
     }
 
-    /// Takes a node away, with the edges to it. Costs nothing for the nodes behind it.
+    /// Takes a node away, with the edges to it. Costs nothing for the nodes after it.
     pub fn strike(&mut self, q: Seq)
         requires { IsSome (kind_of self.old.nodes q.0) }
         ensures nodes { self.new.nodes ≡ filter (λ (n : Node). not (nat_eq q.0 n.number)) self.old.nodes }

@@ -21,7 +21,7 @@ pub fn join(table: &mut Table, line: Line, place: Place, last: Place)
     table.set_after(last, line, place);
 }
 
-/// An entry leaves a line, whose last member is given. Answers who is then the last one.
+/// Removes an entry from a line, given the last member. Returns the new last member.
 pub fn leave(table: &mut Table, line: Line, place: Place, last: Place) -> Place
     requires place { IsPlace table.old.entries.items table.old.gone place }
     requires member { in_line line table.old.entries.items table.old.gone place ≡ true }

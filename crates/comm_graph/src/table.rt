@@ -1,4 +1,4 @@
-//! Where nodes stand, in the order of their numbers.
+//! The places of nodes, in the order of their numbers.
 ghost use Rattle.std.specs.Prelude.{◌≡◌, ◌<◌, ◌≤◌, ◌+◌, ◌-◌, ◌^◌, ℕ, [], ◌∷◌, ◌++◌, drop, length, Some, IfSome, IfNone, OnOk, IsOk, true, false};
 ghost use Rattle.std.specs.VecDeque.{deque_len, deque_capacity};
 ghost use Rattle.comm_graph.specs.Sound.{IsClosed, IsEndStruck, IsAtLeast, IsFirstBelow, IsTrimmed, IsDropped};
@@ -11,7 +11,7 @@ use stab_base::{NoMemory, Seq, ThreadId};
 use std::alloc::Global;
 use std::collections::VecDeque;
 
-/// Where an entry stands: how many entries were dropped or stand before it, and one. What isn't above
+/// The place of an entry: how many entries were dropped or are before it, and one. What isn't above
 /// the number of dropped entries is the place of none.
 pub type Place = u64;
 
@@ -42,7 +42,7 @@ pub struct Entry {
 }
 
 impl Entry {
-    /// Its neighbours in a line that it stands in.
+    /// Its neighbours in a line that it is in.
     pub fn links(&self, line: Line) -> Links
         ensures { result ≡ links_of line self.now }
     {
@@ -91,7 +91,7 @@ impl Entry {
     }
 }
 
-/// The entries behind those that were dropped.
+/// The entries after those that were dropped.
 #[derive(Drop)]
 pub struct Table {
     pub entries: VecDeque<Entry>,
@@ -118,7 +118,7 @@ impl Table {
         self.gone + self.entries.len() as u64
     }
 
-    /// Adds a node behind all others, in no line yet.
+    /// Adds a node after all others, in no line yet.
     pub fn push(&mut self, number: Seq, kind: NodeFor)
         requires { length self.old.entries.items < deque_capacity self.old.entries }
         ensures gone { self.new.gone ≡ self.old.gone }
@@ -162,7 +162,7 @@ impl Table {
         }
     }
 
-    /// Notes which entry is behind this one in a line. A dropped entry stays as it is.
+    /// Notes which entry is after this one in a line. A dropped entry stays as it is.
     pub fn set_after(&mut self, place: Place, line: Line, after: Place)
         requires { place ≤ self.old.gone + length self.old.entries.items }
         ensures gone { self.new.gone ≡ self.old.gone }
@@ -308,7 +308,7 @@ impl Table {
         }
     }
 
-    /// Drops the entries with numbers below `q`. Answers how many of them were live.
+    /// Drops the entries with numbers below `q`. Returns how many of them were live.
     pub fn drop_below(&mut self, q: Seq) -> u64
         requires { self.old.gone + length self.old.entries.items < 2 ^ 64 }
         ensures dropped { IsDropped self.old.entries.items self.old.gone self.new.entries.items self.new.gone q.0 result }

@@ -1,10 +1,10 @@
-//! The links between places: what stands before each one, and what after it.
+//! The links between places: what comes before each one, and what after it.
 
 ghost use Rattle.std.specs.Prelude.{◌≡◌, ℕ, ◌∷◌, length, if◌then◌else◌};
 ghost use Rattle.std.specs.Vec.{vec_capacity};
 ghost use Rattle.linked_lists.specs.Ring.{same, alone as link_alone, link_at, spot_place, after as ring_after, before as ring_before, IsThere};
 
-/// Where a list can lead: to one of its places, or to its end, which stands before the first place
+/// Where a list can lead: to one of its places, or to its end, which comes before the first place
 /// and after the last. Their numbers have 32 bits, since links are most of what a long list takes.
 #[derive(Clone, Copy, PartialEq, Eq)]
 pub(crate) enum Spot {
@@ -14,7 +14,7 @@ pub(crate) enum Spot {
     Place(u32),
 }
 
-/// What stands before a spot and after it.
+/// What comes before a spot and after it.
 #[derive(Clone, Copy)]
 pub(crate) struct Link {
     pub(crate) before: Spot,
@@ -33,7 +33,7 @@ pub(crate) struct Links {
     pub(crate) places: Vec<Link>,
 }
 
-/// The link of a spot that stands by itself.
+/// The link of a spot that is by itself.
 pub(crate) fn alone(spot: Spot) -> Link
     ensures { result ≡ link_alone spot }
 {
@@ -54,7 +54,7 @@ pub(crate) fn place_in(spot: Spot) -> Option<usize>
 }
 
 impl Links {
-    /// What stands before and behind a spot.
+    /// What comes before and after a spot.
     pub(crate) fn link(&self, spot: Spot) -> Link
         requires { IsThere (length self.now.ends.items) (length self.now.places.items) spot }
         ensures { result ≡ link_at self.now.ends.items self.now.places.items spot }
@@ -81,7 +81,7 @@ impl Links {
         }
     }
 
-    /// Lets `next` stand after a spot.
+    /// Puts `next` after a spot.
     pub(crate) fn set_after(&mut self, spot: Spot, next: Spot)
         requires { IsThere (length self.old.ends.items) (length self.old.places.items) spot }
         ensures after { (p : Spot) → ring_after self.new.ends.items self.new.places.items p
@@ -103,7 +103,7 @@ impl Links {
         );
     }
 
-    /// Lets `last` stand before a spot.
+    /// Puts `last` before a spot.
     pub(crate) fn set_before(&mut self, spot: Spot, last: Spot)
         requires { IsThere (length self.old.ends.items) (length self.old.places.items) spot }
         ensures after { (p : Spot) → ring_after self.new.ends.items self.new.places.items p

@@ -9,7 +9,7 @@ use stab_base::NoMemory;
 use std::alloc::Global;
 use std::marker::Model;
 
-/// Lists, numbered from 0, of places, which are numbered from 1. A place stands in at most one list,
+/// Lists, numbered from 0, of places, which are numbered from 1. A place is in at most one list,
 /// and there once. `reserve` and `reserve_lists` take memory, and refuse more than 4,294,967,295 of
 /// either; every other call takes none, and constant time.
 #[derive(Drop)]
@@ -50,7 +50,7 @@ impl Lists {
         }
     }
 
-    /// Makes room for so many places more.
+    /// Makes room for this many places more.
     pub fn reserve(&mut self, places: usize) -> Result<(), NoMemory>
         ensures spare { OnOk result (places ≤ self.new.spare) }
         ensures enough { places ≤ self.old.spare → IsOk result }
@@ -63,7 +63,7 @@ impl Lists {
         reserve(&mut self.links.places, places)
     }
 
-    /// Makes room for so many lists more.
+    /// Makes room for this many lists more.
     pub fn reserve_lists(&mut self, lists: usize) -> Result<(), NoMemory>
         ensures spare_lists { OnOk result (lists ≤ self.new.spare_lists) }
         ensures enough { lists ≤ self.old.spare_lists → IsOk result }
@@ -88,7 +88,7 @@ impl Lists {
         self.links.ends.push_reserved(alone(end));
     }
 
-    /// Adds the next place, which stands in no list yet.
+    /// Adds the next place, which is in no list yet.
     pub fn add_place(&mut self)
         requires { 1 ≤ self.old.spare }
         ensures lists { self.new.lists ≡ self.old.lists }
@@ -124,8 +124,8 @@ impl Lists {
         place_in(self.links.link(Spot::End(list as u32)).after)
     }
 
-    /// The place after another one in the list that it stands in. None for the last place of a list,
-    /// and for a place that stands in none.
+    /// The place after another one in the list that it is in. None for the last place of a list,
+    /// and for a place that is in none.
     pub fn next(&self, place: usize) -> Option<usize>
         requires { (1 ≤ place) × (place ≤ self.now.places) }
         ensures next { (h : ℕ) → is_listed place (list_at self.now.lists h) ≡ true →
@@ -133,11 +133,11 @@ impl Lists {
         ensures nowhere { StandsNowhere place self.now.lists → result ≡ None }
     {
         let next = place_in(self.links.link(Spot::Place(place as u32)).after);
-        // A place that stands in no list leads to itself.
+        // A place that is in no list leads to itself.
         if next == Some(place) { None } else { next }
     }
 
-    /// Puts a place that stands nowhere at the tail of a list.
+    /// Puts a place that is in no list at the tail of a list.
     pub fn push(&mut self, list: usize, place: usize)
         requires list { list < length self.old.lists }
         requires place { (1 ≤ place) × (place ≤ self.old.places) }
@@ -161,7 +161,7 @@ impl Lists {
         self.links.set_before(end, Spot::Place(place as u32));
     }
 
-    /// Takes a place out of the list that it stands in, if any.
+    /// Takes a place out of the list that it is in, if any.
     pub fn leave(&mut self, place: usize)
         requires { (1 ≤ place) × (place ≤ self.old.places) }
         ensures lists { self.new.lists ≡ map (without place) self.old.lists }
@@ -178,7 +178,7 @@ impl Lists {
     }
 }
 
-// Makes room for so many links more, where there are numbers for them.
+// Makes room for this many links more, if there are numbers for them.
 fn reserve(links: &mut Vec<Link>, more: usize) -> Result<(), NoMemory>
     requires { length links.old.items ≤ 4294967295 }
     ensures spare { OnOk result (more ≤ spare_in links.new) }

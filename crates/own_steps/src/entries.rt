@@ -1,6 +1,6 @@
-//! Where the steps stand: all in one vector, and for each thread the place of its last one.
+//! The steps: all in one vector, and for each thread the place of its last one.
 //!
-//! What a thread keeps counts only where an entry of that thread stands there. So all are forgotten at once, without
+//! What a thread keeps counts only if an entry of that thread is there. So all are forgotten at once, without
 //! a walk over the threads, as in the sparse sets of Briggs and Torczon.
 ghost use Rattle.std.specs.Prelude.{◌≡◌, ◌<◌, ◌≤◌, ◌+◌, ◌-◌, ℕ, length, get_or};
 ghost use Rattle.own_steps.specs.Layout.{own_place, row, spare_in, IsLinked};
@@ -37,7 +37,7 @@ pub fn place(heads: &[u32], entries: &[Entry], t: ThreadId) -> u32
     }
 }
 
-/// Takes away the entries behind the last one that a thread leads to.
+/// Removes the entries after the last one that a thread leads to.
 pub fn drop_unused(heads: &[u32], entries: &mut Vec<Entry>)
     requires { IsLinked entries.old.items }
     ensures rows { (t : ℕ) → row t (get_or heads.now t 0) entries.new.items ≡ row t (get_or heads.now t 0) entries.old.items }

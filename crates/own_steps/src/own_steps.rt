@@ -48,7 +48,7 @@ impl OwnSteps {
         }
     }
 
-    /// Makes room for so many steps more, of threads with numbers up to `last`.
+    /// Makes room for this many steps more, of threads with numbers up to `last`.
     pub fn reserve(&mut self, steps: usize, last: ThreadId) -> Result<(), NoMemory>
         ensures spare { OnOk result (steps ≤ self.new.spare) }
         ensures places { OnOk result (last.0 < length self.new.steps) }
@@ -77,7 +77,7 @@ impl OwnSteps {
         self.entries.len()
     }
 
-    /// Adds a step of a thread, behind all others of it.
+    /// Adds a step of a thread, after all others of it.
     pub fn push(&mut self, t: ThreadId, step: Seq)
         requires spare { 1 ≤ self.old.spare }
         requires place { t.0 < length self.old.steps }

@@ -109,7 +109,7 @@ impl PrintLog {
         &self.finals
     }
 
-    /// All values, read where they stand.
+    /// All values, read in place.
     pub fn values(&self) -> Values<'_>
         ensures { result ≡ values self.now }
     {
@@ -119,7 +119,7 @@ impl PrintLog {
         }
     }
 
-    /// All but so many of the first values, which are final.
+    /// All values except this many first ones, which are final.
     pub fn values_from(&self, n: usize) -> Values<'_>
         requires { n ≤ length self.now.finals }
         ensures { result ≡ drop n (values self.now) }

@@ -28,7 +28,7 @@ pub fn strike(recent: &mut Vec<Entry>, q: Seq)
     }
 }
 
-// Takes away the holes behind the last print that is left.
+// Removes the holes after the last print that is left.
 fn drop_holes_at_end(recent: &mut Vec<Entry>)
     requires { IsRising recent.old.items }
     ensures recent { live recent.new.items ≡ live recent.old.items }
@@ -44,7 +44,7 @@ fn drop_holes_at_end(recent: &mut Vec<Entry>)
     }
 }
 
-/// Moves the values of all prints behind those that are final.
+/// Moves the values of all prints after those that are final.
 pub fn settle(finals: &mut Vec<Value>, recent: &mut Vec<Entry>)
     requires { length finals.old.items + length (live recent.old.items) ≤ vec_capacity finals.old }
     ensures finals { finals.new.items

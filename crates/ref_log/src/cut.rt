@@ -60,7 +60,7 @@ fn forget_heads(references: &mut [Reference], recent: &[Recent])
     }
 }
 
-// Settles an entry, or puts it behind the first `stay`, and says how many stay then.
+// Settles an entry, or puts it after the first `stay`. Returns how many stay then.
 fn move_over(
     references: &mut [Reference],
     recent: &mut [Recent],

@@ -14,7 +14,7 @@ use std::marker::Model;
 ///
 /// `make`, `write` and `read` take constant time, and `cut` as long as there are recent writes. `strike`
 /// takes constant time at the reference's last write, counted over all calls, and at an earlier one a
-/// time that is logarithmic in those behind it.
+/// time that is logarithmic in those after it.
 #[derive(Drop)]
 pub struct RefLog {
     last_cut: Seq,

@@ -1,4 +1,4 @@
-//! Where the writes stand: one of each reference that a cut settled, and all that are recent in one vector.
+//! The writes: one of each reference that a cut settled, and all recent ones in one vector.
 ghost use Rattle.std.specs.Prelude.{◌≡◌, ◌<◌, ◌≤◌, ◌+◌, ◌-◌, ℕ, length, nat_eq, option_map, OnOk, OnErr, IsOk, IfSome, if◌then◌else◌, vec_len};
 ghost use Rattle.std.specs.List.{AllByRecursion, slice_index_or};
 ghost use Rattle.ref_log.specs.Log.{last_of};
@@ -14,7 +14,7 @@ pub struct Settled {
     pub value: Value,
 }
 
-/// A write since the last cut. One that was struck stays, without its value, as long as one behind it isn't
+/// A write since the last cut. One that was struck stays, without its value, as long as one after it isn't
 /// struck. Then it is a hole: its number is 0.
 #[derive(Drop)]
 pub struct Recent {
@@ -92,7 +92,7 @@ pub fn append(references: &mut Vec<Reference>, recent: &mut Vec<Recent>, r: RefI
     reference.head = recent.len() as u32;
 }
 
-/// The place further back to which a write leads whose reference's last one stands at `before`, and how
+/// The place further back to which a write leads whose reference's last one is at `before`, and how
 /// far that is. Two ways of one length that follow each other become one, so that any write is found
 /// from the last one in a number of steps that is logarithmic in those between.
 pub fn far_from(recent: &[Recent], before: u32) -> (u32, u8) {

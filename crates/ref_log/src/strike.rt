@@ -51,7 +51,7 @@ fn find(references: &[Reference], recent: &[Recent], r: RefId, q: Seq) -> usize
     unreachable!()
 }
 
-// Whether a write of a reference from `q` on stands at a place.
+// Whether a write of a reference from `q` on is at a place.
 fn is_from(recent: &[Recent], place: u32, r: RefId, q: Seq) -> bool
     ensures { IsTrue result → (1 ≤ place) × (place ≤ length recent.now)
         × ((d : Recent) → ((slice_index_or recent.now (place - 1) d).reference.0 ≡ r.0) × (q.0 ≤ (slice_index_or recent.now (place - 1) d).number.0)) }
@@ -77,7 +77,7 @@ fn mark(references: &[Reference], recent: &mut [Recent], r: RefId, q: Seq, at: u
     entry.value = Value::unit();
 }
 
-// Lets a reference lead to its last write that isn't struck. Those behind it become holes.
+// Lets a reference lead to its last write that isn't struck. Those after it become holes.
 fn pass_struck(references: &mut [Reference], recent: &mut [Recent], r: RefId)
     requires there { r.0 < length references.old }
     requires chained { IsChained references.old recent.old }
@@ -98,7 +98,7 @@ fn pass_struck(references: &mut [Reference], recent: &mut [Recent], r: RefId)
     }
 }
 
-// Takes away the holes behind the last recent write.
+// Removes the holes after the last recent write.
 fn drop_holes_at_end(references: &[Reference], recent: &mut Vec<Recent>)
     requires { IsLinked references.now recent.old.items }
     ensures recent { (s : ℕ) → of_reference s recent.new.items ≡ of_reference s recent.old.items }

@@ -47,7 +47,7 @@ pub(crate) fn first(lists: &Lists, c: ChanId, side: Side) -> Option<ThreadId>
     Some(ThreadId(((node - 1) / 2) as u32))
 }
 
-/// Lets a thread that waits nowhere come last on each channel of its offer.
+/// Appends a thread that isn't waiting yet to the line of each channel of its offer.
 pub(crate) fn enter(lists: &mut Lists, offer: Offer, t: ThreadId)
     requires away { IsAway t.0 lists.old.lists }
     requires nodes { 2 * t.0 + 2 ≤ lists.old.places }

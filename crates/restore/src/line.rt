@@ -1,4 +1,4 @@
-//! To where a thread goes back.
+//! The point to which a thread is rolled back.
 ghost use Rattle.std.specs.Prelude.{◌≡◌};
 ghost use Rattle.restore.specs.Noted.{earlier};
 

@@ -114,7 +114,7 @@ pub(crate) fn clear<C: Drop>(entries: &mut Entries<C>, t: ThreadId) -> State
     }
 }
 
-// Where a thread stands among the entries.
+// The place of a thread among the entries.
 fn place(t: ThreadId) -> usize
     requires { 1 ≤ t.0 }
     ensures { result + 1 ≡ t.0 }

@@ -130,7 +130,7 @@ impl Queues {
         }
     }
 
-    /// Takes a thread out of the list in which it stands.
+    /// Takes a thread out of the list in which it is.
     pub(crate) fn leave(&mut self, t: ThreadId)
         requires { (1 ≤ t.0) × (t.0 ≤ self.old.places) }
         ensures ready { self.new.ready ≡ without t.0 self.old.ready }

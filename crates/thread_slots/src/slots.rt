@@ -142,7 +142,7 @@ impl<C: Drop> Slots<C> {
         self.queues.first()
     }
 
-    /// Gives a thread another state. It leaves the queue, and comes to the tail of it where the state
+    /// Gives a thread another state. It leaves the queue, and goes to the tail of it where the state
     /// is Ready.
     pub fn set_state(&mut self, t: ThreadId, state: State)
         requires { IsSome (map.get self.old.threads t.0) }

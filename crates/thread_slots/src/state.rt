@@ -9,6 +9,6 @@ pub enum State {
     Leased,
     /// It waits on a channel.
     Parked,
-    /// It came to its end or failed.
+    /// It ended or failed.
     Ended,
 }
