@@ -1,4 +1,4 @@
-//! What the texts of orders tell.
+//! What the texts of orders mean.
 ghost use Rattle.std.specs.Prelude.{◌≡◌, ℕ, List, Some};
 ghost use Rattle.drill_text.specs.declared.order.Order.{Order};
 ghost use Rattle.drill_text.specs.Order.{HasLease, order_of, order_text};

@@ -6,12 +6,12 @@ use crate::order::{Order, order_of};
 use std::alloc::{AllocError, Global};
 use text_lines::Lines;
 
-/// A line of a script that isn't empty but for blanks.
+/// A line of a script that isn't blank.
 #[derive(Clone, Copy, PartialEq, Eq, Debug)]
 pub struct Line {
     /// Its first byte, counted from 0.
     pub at: u64,
-    /// What it orders. A line of another form orders nothing, and whoever comes to it refuses the script there.
+    /// What it orders. A line of another form orders nothing, and whoever plays the script refuses it there.
     pub order: Option<Order>,
 }
 

@@ -102,7 +102,7 @@ pub fn first_lost(program: &Program, run: &[Numbered], m: Seq)
         → is_hit (has (reached run.now m.0)) t before ≡ false → (m.0 ≡ f.seq.0) ⊎ (is_meeting f.label ≡ true) }
 {}
 
-/// Nothing that is reached from a section that can be taken back is the last cut or stands before it.
+/// Nothing that is reached from a section that can be taken back is the last cut or comes before it.
 pub fn cuts_hold(run: &[Numbered], m: Seq)
     requires { RiseFrom 1 run.now }
     ensures { is_revocable run.now m.0 ≡ true → (q : ℕ) → has (reached run.now m.0) q ≡ true → floor run.now < q }

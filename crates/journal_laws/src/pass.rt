@@ -53,7 +53,7 @@ fn reads_among(references: &BTreeSet<u32>, label: Label) -> bool
     }
 }
 
-// The threads that a step touches; one that it touches alone stands twice.
+// The threads that a step touches; one that it touches alone is given twice.
 fn threads_of(label: Label) -> (u32, u32)
     ensures { (q : ℕ) → has (touched label) q ≡ (nat_eq q result.0 || nat_eq q result.1) }
 {

@@ -1,4 +1,4 @@
-//! Laws of runs by one worker. Each call does nothing, takes no memory and answers nothing; what it says is its contract.
+//! Laws of runs by one worker. Each call does nothing, takes no memory and returns nothing; what it says is its contract.
 
 ghost use Rattle.std.specs.Prelude.{◌≡◌, List};
 ghost use Rattle.stab_code.specs.JobParts.{JobParts};

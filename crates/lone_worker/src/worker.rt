@@ -65,7 +65,7 @@ fn turn(book: &mut Book) -> Option<RunEnd>
     }
 }
 
-// What was lent makes its pure steps, and they are committed with its act.
+// The leased thread makes its pure steps, and they are committed with its act.
 fn work(book: &mut Book, lease: Lease, control: Control) -> Option<RunEnd>
     requires { IsLentAlone book.old lease control }
     ensures later { IsLater book.old book.new }
@@ -89,7 +89,7 @@ fn work(book: &mut Book, lease: Lease, control: Control) -> Option<RunEnd>
     }
 }
 
-// Commits what was lent.
+// Commits what the leased thread did.
 fn commit(book: &mut Book, lease: Lease, progress: Progress) -> Option<RunEnd>
     requires program { progress.program ≡ book.old.job.program }
     requires lent { IsLentAlone book.old lease progress.origin }

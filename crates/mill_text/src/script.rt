@@ -17,7 +17,7 @@ pub fn mill_script(alloc: Global, size: u32) -> Result<Vec<i64>, NoMemory>
     Ok(script)
 }
 
-// The number behind so many others.
+// The number after this many others.
 fn probe_number(before: u32) -> i64
     ensures { result ≡ probe_number (before + 1) }
 {

@@ -6,7 +6,7 @@ ghost use Rattle.mill_text.specs.Mill.{mill_text};
 use itoa::Buffer;
 use stab_base::NoMemory;
 
-// All that stands before the number of sections.
+// All that comes before the number of sections.
 const BEFORE: &[u8] = b"\
 fn part(c: chan[int], i: int): unit { send(c, i); if probe() < 0 { stabilize() } else { () } }
 fn maker(c: chan[int], a: chan[unit], i: int): unit { stable part(c, i); send(a, ()) }

@@ -6,7 +6,7 @@ use crate::number::number_of;
 use std::alloc::Global;
 use text_lines::Lines;
 
-/// The numbers of the lines of a probe file in order, or the first line that is none. Lines that are empty but for
+/// The numbers of the lines of a probe file in order, or the first line that isn't one. Lines that are empty except for
 /// spaces and tabs are skipped.
 pub fn read_probes(alloc: Global, bytes: &[u8]) -> Result<Vec<i64>, ProbesFault>
     ensures numbers { IfOk result (λ numbers. reading bytes.now ≡ Ok numbers.items) }

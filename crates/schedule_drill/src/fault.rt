@@ -8,7 +8,7 @@ use std::alloc::AllocError;
 /// Why a script isn't played. A place is that of the first byte of the first line that can't be played.
 #[derive(Clone, Copy, PartialEq, Eq, Debug)]
 pub enum DrillFault {
-    /// The line is no order.
+    /// The line isn't an order.
     BadLine(u64),
     /// A lease is to be stepped or committed that isn't out.
     NoSuchLease(u64),

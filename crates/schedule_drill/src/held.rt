@@ -13,9 +13,9 @@ pub(crate) struct Held {
 /// Where the thread of a lease is.
 #[derive(Drop)]
 pub(crate) enum At {
-    /// As it was lent.
+    /// As it was leased.
     Lent(Control),
-    /// Behind the pure steps that it made.
+    /// After the pure steps that it made.
     Stepped(Progress),
 }
 

@@ -82,7 +82,7 @@ fn obey(
     }
 }
 
-// `lease K`: worker K leases. A thread that is lent is out, and values that are due are released.
+// `lease K`: worker K leases. A thread that is leased is out, and values that are due are released.
 fn lease(alloc: Global, book: &mut Book, leases: &mut Leases, k: u32) -> Result<String, NoMemory>
     requires worker { IsWorker k }
     requires new { map.get leases.old k ≡ None }
@@ -100,7 +100,7 @@ fn lease(alloc: Global, book: &mut Book, leases: &mut Leases, k: u32) -> Result<
     }
 }
 
-// A thread that is lent is out.
+// A thread that is leased is out.
 fn lent(
     alloc: Global,
     book: &mut Book,

@@ -7,7 +7,7 @@ use commit_book::Done;
 use stab_base::{Generation, NoMemory, Seq, ThreadId};
 use std::alloc::Global;
 
-/// The line of a lease by which a thread is lent.
+/// The line of a lease that gives a thread.
 pub(crate) fn lent_line(
     alloc: Global,
     k: u32,
@@ -21,14 +21,14 @@ pub(crate) fn lent_line(
     Ok(format!(in alloc; "lease {k} thread {thread} gen {generation}\n")?)
 }
 
-/// The line of a lease by which none is lent and nothing changes.
+/// The line of a lease that gives none and changes nothing.
 pub(crate) fn unlent_line(alloc: Global, k: u32, what: &str) -> Result<String, NoMemory>
     ensures { IfOk result (λ line. string_bytes line ≡ answered (record { verb = verb.Lease; lease = k }) what.now) }
 {
     Ok(format!(in alloc; "lease {k} {what}\n")?)
 }
 
-/// The line of a lease by which values are released, so many in all.
+/// The line of a lease by which values are released, with how many were released in all.
 pub(crate) fn release_line(alloc: Global, k: u32, count: u64) -> Result<String, NoMemory>
     ensures { IfOk result (λ line. string_bytes line
         ≡ answered (record { verb = verb.Lease; lease = k }) (codes "release " ++ decimal count)) }
@@ -36,7 +36,7 @@ pub(crate) fn release_line(alloc: Global, k: u32, count: u64) -> Result<String, 
     Ok(format!(in alloc; "lease {k} release {count}\n")?)
 }
 
-/// The line of so many steps.
+/// The line of a number of steps.
 pub(crate) fn step_line(alloc: Global, k: u32, steps: u32) -> Result<String, NoMemory>
     ensures { IfOk result (λ line. string_bytes line ≡ answered (record { verb = verb.Step; lease = k }) (decimal steps)) }
 {
@@ -52,7 +52,7 @@ pub(crate) fn commit_line(alloc: Global, k: u32, done: &Done) -> Result<String, 
     Ok(format!(in alloc; "commit {k} {what}\n")?)
 }
 
-// What a commit tells.
+// The line of a commit.
 fn done_text(alloc: Global, done: &Done) -> Result<String, NoMemory>
     ensures { IfOk result (λ text. string_bytes text ≡ done_text done.now) }
 {
@@ -80,7 +80,7 @@ fn done_text(alloc: Global, done: &Done) -> Result<String, NoMemory>
     }
 }
 
-// What a commit tells that took a section back.
+// The line of a commit that took a section back.
 fn undone_text(
     alloc: Global,
     first: Seq,
@@ -95,7 +95,7 @@ fn undone_text(
     Ok(format!(in alloc; "undone {first} {count} mark {mark} removed {removed}")?)
 }
 
-// What a commit tells that came too late.
+// The line of a commit that came too late.
 fn stale_text(alloc: Global, lent: Generation, now: Option<Generation>) -> Result<String, NoMemory>
     ensures { IfOk result (λ text. string_bytes text ≡ codes "stale " ++ decimal lent.0 ++ codes " now " ++ now_text now) }
 {

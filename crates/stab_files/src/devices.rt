@@ -25,7 +25,7 @@ pub enum Loaded {
 
 /// Files by name.
 pub trait Files {
-    // The files that it holds, where it tells them.
+    // The files that it holds, if contracts know them.
     ghost held: { Self → Option (List Entry) };
 
     // How many faults it has had, up to the greatest u64.
@@ -58,7 +58,7 @@ impl Error for SinkFail {}
 
 /// A place that bytes are written to.
 pub trait Sink {
-    // The bytes that it took, where it tells them.
+    // The bytes that it took, if contracts know them.
     ghost told: { Self → Option (List ℕ) };
 
     // How many faults it has had, up to the greatest u64.

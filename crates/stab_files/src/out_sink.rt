@@ -9,7 +9,7 @@ use std::io::Write;
 use std::marker::Model;
 
 /// One of std's writers. Contracts see what the writer holds, where it says so, and how many faults
-/// there were. As a sink it tells no bytes.
+/// there were. As a sink its bytes aren't known to contracts.
 #[derive(Drop)]
 pub struct OutSink<W: Write + Drop> {
     writer: Retrying<W>,

@@ -1,4 +1,4 @@
-//! Lines of bytes, what stands in them between blanks, and the numbers that digits are.
+//! Lines of bytes, what is in them between blanks, and the numbers that digits are.
 #![tactic(auto)]
 
 mod digits;

@@ -1,9 +1,9 @@
-//! Cuts lines from the front, and takes off what may stand round a word.
+//! Cuts lines from the front, and takes off the blanks round a word.
 ghost use Rattle.std.specs.Prelude.{◌≡◌, ◌+◌, ◌==◌, [], ◌∷◌, length, reverse, MatchOption, IfSome};
 ghost use Rattle.std.specs.List.{position};
 ghost use Rattle.text_lines.specs.Lines.{behind_return, is_blank, split, trim_front, trimmed};
 
-/// What stands before the first mark and behind it, if there is one.
+/// What comes before the first mark and after it, if there is one.
 pub fn cut(bytes: &[u8], mark: u8) -> Option<(&[u8], &[u8])>
     ensures pieces { MatchOption result (split mark bytes.now ≡ bytes.now ∷ [])
         (λ x. split mark bytes.now ≡ x.0.now ∷ split mark x.1.now) }
@@ -16,7 +16,7 @@ pub fn cut(bytes: &[u8], mark: u8) -> Option<(&[u8], &[u8])>
     Some((piece, &rest[1..]))
 }
 
-// Where the first mark stands.
+// The place of the first mark.
 fn position(bytes: &[u8], mark: u8) -> Option<usize>
     ensures { result ≡ position (λ b. b == mark) bytes.now }
 {

@@ -11,11 +11,11 @@ use std::marker::Model;
 pub struct Line<'a> {
     /// Its first byte, counted from 0.
     pub at: usize,
-    /// What stands in it between its blanks.
+    /// What is in it between its blanks.
     pub text: &'a [u8],
 }
 
-/// The lines that say something, seen as those that are left, each as its first byte and what stands in it between its
+/// The lines that say something, seen as those that are left, each as its first byte and what is in it between its
 /// blanks. The last line feed may be missing.
 #[derive(Drop)]
 pub struct Lines<'a> {
@@ -66,7 +66,7 @@ impl<'a> Iterator for Lines<'a> {
     }
 }
 
-// The first line of the bytes, and what stands behind its line feed, which is nothing where there is none.
+// The first line of the bytes, and what comes after its line feed: nothing if there is none.
 fn first_line(bytes: &[u8]) -> (&[u8], &[u8])
     requires { 0 < length bytes.now }
     ensures lines { (at : ℕ) → lines_from at (split 10 bytes.now)

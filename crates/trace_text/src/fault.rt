@@ -6,10 +6,10 @@ ghost use Rattle.trace_text.specs.declared.fault.TraceWriteFault.TheVariants as 
 use stab_base::NoMemory;
 use std::alloc::AllocError;
 
-/// Why a text is no trace. A place is that of the first byte of the first line that fails.
+/// Why a text isn't a trace. A place is that of the first byte of the first line that fails.
 #[derive(Clone, Copy, PartialEq, Eq, Debug)]
 pub enum TraceFault {
-    /// The line has none of the shapes, the first line is no header, or something stands behind the end line.
+    /// The line has none of the shapes, the first line isn't a header, or something comes after the end line.
     BadLine(u64),
     /// A number in the line isn't spelled as numbers are, or is out of its range.
     BadNumber(u64),

@@ -169,7 +169,7 @@ impl Sign {
         }
     }
 
-    /// Whether the sign stands before this word under the header.
+    /// Whether the sign may come before this word under the header.
     pub fn fits(self, header: Header, verb: Verb) -> bool
         ensures { result ≡ fits verb self header }
     {

@@ -1,4 +1,4 @@
-//! What a trace tells of a history.
+//! What a trace says of a journal.
 ghost use Rattle.std.specs.Prelude.{◌≡◌, ℕ, List, Ok, Err};
 ghost use Rattle.std.specs.FinSet.{contains};
 ghost use Rattle.stab_journal.specs.Journal.{IsValid, Journal};

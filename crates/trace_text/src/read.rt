@@ -30,7 +30,7 @@ pub fn read_trace(alloc: Global, bytes: &[u8]) -> Result<History, TraceFault>
     }
 }
 
-// Reads the lines behind the header, which begin at this place.
+// Reads the lines after the header, which begin at this place.
 fn read_lines(
     alloc: Global,
     header: Header,

@@ -8,7 +8,7 @@ ghost use Rattle.trace_text.specs.Words.{pieces_left};
 use crate::form::{Header, Sign, Verb, sign_named, verb_named};
 use crate::words::next_word;
 
-/// The words that stand for the numbers behind the verb.
+/// The words for the numbers after the verb.
 #[derive(Clone, Copy)]
 pub enum Args<'a> {
     One(&'a [u8]),
@@ -69,7 +69,7 @@ fn args_of(left: Option<&[u8]>) -> Option<Args<'_>>
     }
 }
 
-// What stands behind a `w`.
+// What comes after a `w`.
 fn after_w(word: &[u8]) -> Option<&[u8]>
     ensures { option_copied result ≡ after_w word.now }
 {

@@ -136,7 +136,7 @@ fn push_label_numbers(line: &mut Vec<u8>, label: &Label)
     }
 }
 
-// The sign of an event, which tells of a step whether it is struck.
+// The sign of an event, which says whether a step is struck.
 fn sign_of(struck: bool, what: &What) -> Sign
     ensures { result ≡ sign_of struck what.now }
 {

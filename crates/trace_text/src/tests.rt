@@ -91,7 +91,7 @@ fn has_fault(alloc: Global, row: &str, bytes: &[u8], expected: &str) -> Result<(
     Err(Fail::from(format!(in alloc; "{row}, and not {fault}")?))
 }
 
-// Each row of the table is what stands behind the header, with `/` for each line feed, then ` -> ` and the fault.
+// Each row of the table is what stands after the header, with `/` for each line feed, then ` -> ` and the fault.
 fn faults(alloc: Global, header: &str, table: &str) -> Result<(), Fail> {
     for row in table.lines() {
         let (lines, expected) = row.split_once(" -> ").ok_or("no arrow")?;

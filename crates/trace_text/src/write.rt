@@ -57,7 +57,7 @@ fn put_lines<K: Sink>(history: &History, line: &mut Vec<u8>, sink: &mut K) -> Re
     sink.put(line)
 }
 
-// The entry behind so many others.
+// The entry after this many others.
 fn entry_after(history: &History, passed: u64) -> Entry
     requires valid { IsValid history.now }
     requires there { passed < length history.now.events }
