@@ -20,7 +20,7 @@ pub struct Counts {
 }
 
 /// Counts that would else be found by a walk over the events or the threads.
-#[derive(Clone, Copy, PartialEq, Eq, Debug)]
+#[derive(Clone, Copy, PartialEq, Eq)]
 pub(crate) struct Tallies {
     /// How many probes there were.
     pub(crate) probes: u64,

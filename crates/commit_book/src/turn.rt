@@ -19,7 +19,7 @@ pub enum Turn {
 }
 
 /// Which turn comes next, and with which thread.
-#[derive(Clone, Copy, PartialEq, Eq, Debug)]
+#[derive(Clone, Copy, PartialEq, Eq)]
 pub(crate) enum Choice {
     Work(ThreadId),
     Idle,

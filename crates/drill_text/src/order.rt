@@ -8,7 +8,7 @@ use text_lines::{cut, number_in};
 const MAX_LEASE: u64 = 64;
 
 /// What is done with a lease.
-#[derive(Clone, Copy, PartialEq, Eq, Debug)]
+#[derive(Clone, Copy, PartialEq, Eq)]
 pub enum Verb {
     /// The lease is taken.
     Lease,
@@ -19,7 +19,7 @@ pub enum Verb {
 }
 
 /// What is done with which lease. Leases are numbered as their workers are, from 1 to 64.
-#[derive(Clone, Copy, PartialEq, Eq, Debug)]
+#[derive(Clone, Copy, PartialEq, Eq)]
 pub struct Order {
     pub verb: Verb,
     pub lease: u32,

@@ -7,7 +7,7 @@ use std::alloc::{AllocError, Global};
 use text_lines::Lines;
 
 /// A line of a script that isn't blank.
-#[derive(Clone, Copy, PartialEq, Eq, Debug)]
+#[derive(Clone, Copy, PartialEq, Eq)]
 pub struct Line {
     /// Its first byte, counted from 0.
     pub at: u64,

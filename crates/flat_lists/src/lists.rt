@@ -8,7 +8,7 @@ use std::marker::Model;
 
 /// Numbered lists, each added after the others. All their items are in one list, so beside the spare room of two vectors a list
 /// takes its items and the place where it ends, which has 32 bits. Contracts see a list of lists.
-#[derive(Debug, Drop)]
+#[derive(Drop)]
 pub struct FlatLists<T> {
     ends: Vec<u32>,
     items: Vec<T>,

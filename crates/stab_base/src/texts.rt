@@ -6,7 +6,7 @@ use crate::numbers::TextId;
 use std::marker::Model;
 
 /// The bytes of each text of a program, by the text's number. Contracts see it as a list of byte lists.
-#[derive(Debug, Drop)]
+#[derive(Drop)]
 pub struct Texts {
     texts: Vec<Vec<u8>>,
 }

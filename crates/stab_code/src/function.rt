@@ -8,7 +8,7 @@ use stab_base::{Same, all_same};
 use std::marker::Model;
 
 /// A function of a program. Contracts see it as its written types, its number of slots and its body.
-#[derive(Debug, Drop)]
+#[derive(Drop)]
 pub struct Function {
     takes: Vec<Ty>,
     gives: Ty,

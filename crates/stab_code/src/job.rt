@@ -20,7 +20,7 @@ pub const MAX_SCRIPT: usize = 524_288;
 
 /// What a run is given: a program, a script of the numbers that its probes get, the weight of events at
 /// which it stops, and the most pure steps that a thread makes at a time. Contracts see it as these four.
-#[derive(Debug, Drop)]
+#[derive(Drop)]
 pub struct Job {
     program: Arc<Program>,
     script: Vec<i64>,

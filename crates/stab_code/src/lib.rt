@@ -10,7 +10,6 @@ mod node;
 mod node_id;
 mod nodes;
 mod program;
-mod samples;
 mod ty;
 
 pub use examples::{counts, depths, order_of_writing, where_lets_are_seen};

@@ -14,7 +14,7 @@ use std::marker::Model;
 pub type PartLists = FlatLists<NodeId>;
 
 /// A list of nodes, made of their heads and lists of parts, or by adding one behind the others. Contracts see it as the list.
-#[derive(Debug, Drop)]
+#[derive(Drop)]
 pub struct Nodes {
     heads: Vec<Head>,
     parts: PartLists,

@@ -13,7 +13,7 @@ use std::marker::Model;
 
 /// A program that can be run. Contracts see it as its functions, its nodes, its texts and the number of
 /// `main`, and its type keeps that it is valid.
-#[derive(Debug, Drop)]
+#[derive(Drop)]
 pub struct Program {
     functions: Vec<Function>,
     nodes: Nodes,

@@ -9,7 +9,7 @@ use std::alloc::Global;
 use std::marker::Model;
 
 /// Files in memory, with a plan of the loads that fail.
-#[derive(Debug, Drop)]
+#[derive(Drop)]
 pub struct MemFiles {
     held: Vec<(String, Vec<u8>)>,
     fails: Vec<u64>,

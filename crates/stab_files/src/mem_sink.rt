@@ -24,7 +24,7 @@ impl fmt::Display for SinkRefused {
 impl Error for SinkRefused {}
 
 /// A sink in memory, with a plan of the puts that fail.
-#[derive(Debug, Drop)]
+#[derive(Drop)]
 pub struct MemSink {
     bytes: Vec<u8>,
     room: u64,

@@ -55,7 +55,7 @@ pub struct Numbered {
 }
 
 /// An event with its number in the journal.
-#[derive(Clone, Copy, PartialEq, Eq, Debug)]
+#[derive(Clone, Copy, PartialEq, Eq)]
 pub struct Recorded {
     pub seq: Seq,
     pub event: Event,

@@ -13,7 +13,7 @@ pub struct Span {
 }
 
 /// A type that is one word.
-#[derive(Clone, Copy, Debug, PartialEq, Eq)]
+#[derive(Clone, Copy, PartialEq, Eq)]
 pub enum BasicType {
     Unit,
     Bool,
@@ -48,7 +48,7 @@ pub enum CallWord {
 }
 
 /// A kind of token as the grammar tells them apart. Tokens that are allowed in the same places are one.
-#[derive(Clone, Copy, Debug, PartialEq, Eq)]
+#[derive(Clone, Copy, PartialEq, Eq)]
 pub enum Symbol {
     /// A name that isn't reserved.
     Name,

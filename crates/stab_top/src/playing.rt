@@ -17,7 +17,7 @@ use stab_files::{Sink, SinkFail};
 use std::alloc::Global;
 
 /// Why a run stopped before its end.
-#[derive(Clone, Copy, PartialEq, Eq, Debug)]
+#[derive(Clone, Copy, PartialEq, Eq)]
 pub enum Stop {
     /// The lines of what was released couldn't be written.
     SinkFault,

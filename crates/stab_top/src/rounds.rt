@@ -14,7 +14,7 @@ use stab_base::NoMemory;
 const WORKER: u32 = 1;
 
 /// How a round ended.
-#[derive(Clone, Copy, PartialEq, Eq, Debug)]
+#[derive(Clone, Copy, PartialEq, Eq)]
 pub enum RoundEnd {
     /// Printed values were released, and the run goes on.
     Released,

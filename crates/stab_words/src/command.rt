@@ -3,7 +3,7 @@ ghost use Rattle.std.specs.Prelude.{◌≡◌, map};
 ghost use Rattle.stab_words.specs.Command.{command_named, option_named, places, takes, value_in};
 
 /// A command of the program.
-#[derive(Clone, Copy, PartialEq, Eq, Debug)]
+#[derive(Clone, Copy, PartialEq, Eq)]
 pub enum Command {
     Run,
     Trace,
@@ -18,7 +18,7 @@ pub enum Command {
 }
 
 /// An option of a command.
-#[derive(Clone, Copy, PartialEq, Eq, Debug)]
+#[derive(Clone, Copy, PartialEq, Eq)]
 pub enum Setting {
     Probes,
     Workers,
@@ -27,7 +27,7 @@ pub enum Setting {
 }
 
 /// A place of a command, which a plain word fills.
-#[derive(Clone, Copy, PartialEq, Eq, Debug)]
+#[derive(Clone, Copy, PartialEq, Eq)]
 pub enum Place {
     /// The program, or the image to go on from.
     File,

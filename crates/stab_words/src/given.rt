@@ -21,7 +21,7 @@ const MAX_QUANTUM: u64 = 10_000;
 const MAX_SIZE: u64 = 10_000;
 
 /// The words in the places, and the values of the options.
-#[derive(Debug, Drop)]
+#[derive(Drop)]
 pub struct Given {
     pub file: Option<Name>,
     pub second: Option<Name>,

@@ -22,7 +22,7 @@ const DEFAULT_FUEL: u64 = 1_000_000;
 const DEFAULT_QUANTUM: u32 = 1_000;
 
 /// What the next word may be.
-#[derive(Clone, Copy, Debug)]
+#[derive(Clone, Copy)]
 enum Expects {
     /// An option or a plain word.
     AnyWord,
@@ -33,7 +33,7 @@ enum Expects {
 }
 
 /// How far the words were read.
-#[derive(Debug, Drop)]
+#[derive(Drop)]
 struct Reading {
     given: Given,
     expects: Expects,

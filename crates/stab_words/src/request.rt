@@ -8,7 +8,7 @@ use crate::name::Name;
 use std::alloc::AllocError;
 
 /// What the words ask for.
-#[derive(Debug, Drop)]
+#[derive(Drop)]
 pub enum Request {
     /// Run a program and write what it shows.
     Run(RunArgs),
@@ -33,7 +33,7 @@ pub enum Request {
 }
 
 /// What `run`, `trace` and `watch` are given. The quantum is the most pure steps that one event stands for.
-#[derive(Debug, Drop)]
+#[derive(Drop)]
 pub struct RunArgs {
     pub file: Name,
     pub probes: Option<Name>,
@@ -43,7 +43,7 @@ pub struct RunArgs {
 }
 
 /// What `verify` is given.
-#[derive(Debug, Drop)]
+#[derive(Drop)]
 pub struct VerifyArgs {
     pub file: Name,
     pub trace: Name,
@@ -51,7 +51,7 @@ pub struct VerifyArgs {
 }
 
 /// What `drill` is given.
-#[derive(Debug, Drop)]
+#[derive(Drop)]
 pub struct DrillArgs {
     pub file: Name,
     pub script: Name,
@@ -61,7 +61,7 @@ pub struct DrillArgs {
 }
 
 /// What `mill` is given: how many sections its program has, and how it is run.
-#[derive(Debug, Drop)]
+#[derive(Drop)]
 pub struct MillArgs {
     pub size: u32,
     pub workers: u32,
@@ -70,7 +70,7 @@ pub struct MillArgs {
 }
 
 /// What `save` is given. The state is the one at the cut with the number `at`, the first being 1.
-#[derive(Debug, Drop)]
+#[derive(Drop)]
 pub struct SaveArgs {
     pub file: Name,
     pub trace: Name,
@@ -79,7 +79,7 @@ pub struct SaveArgs {
 }
 
 /// What `resume` is given.
-#[derive(Debug, Drop)]
+#[derive(Drop)]
 pub struct ResumeArgs {
     pub image: Name,
     pub fuel: u64,

@@ -4,7 +4,7 @@ use stab_base::Seq;
 use stab_code::NodeId;
 
 /// A form that is being evaluated.
-#[derive(Clone, Copy, PartialEq, Eq, Debug)]
+#[derive(Clone, Copy, PartialEq, Eq)]
 pub enum Site {
     /// A node of the program, and how many of a block's items are gone, which is 0 for any other form.
     Form(NodeId, usize),

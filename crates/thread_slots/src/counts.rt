@@ -6,7 +6,7 @@ ghost use Rattle.thread_slots.specs.Slot.{count_of, same_state};
 use crate::state::State;
 
 /// How many threads are in each state.
-#[derive(Clone, Copy, PartialEq, Eq, Debug)]
+#[derive(Clone, Copy, PartialEq, Eq)]
 pub struct StateCounts {
     pub ready: u64,
     pub leased: u64,

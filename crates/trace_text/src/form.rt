@@ -3,7 +3,7 @@ ghost use Rattle.std.specs.Prelude.{◌≡◌, ◌≤◌, length, map};
 ghost use Rattle.trace_text.specs.Form.{arity, fits, header_named, sign_named, sign_text, value_in, verb_named, verb_text};
 
 /// The first line of a trace.
-#[derive(Clone, Copy, PartialEq, Eq, Debug)]
+#[derive(Clone, Copy, PartialEq, Eq)]
 pub enum Header {
     /// `stab trace 1`, of a trace without releases.
     First,
@@ -12,7 +12,7 @@ pub enum Header {
 }
 
 /// What a line of an event begins with.
-#[derive(Clone, Copy, PartialEq, Eq, Debug)]
+#[derive(Clone, Copy, PartialEq, Eq)]
 pub enum Sign {
     /// A step that isn't struck.
     Live,
@@ -25,7 +25,7 @@ pub enum Sign {
 }
 
 /// The word that says what an event is.
-#[derive(Clone, Copy, PartialEq, Eq, Debug)]
+#[derive(Clone, Copy, PartialEq, Eq)]
 pub enum Verb {
     Local,
     Spawn,

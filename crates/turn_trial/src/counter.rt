@@ -23,7 +23,7 @@ pub struct Counter {
 }
 
 /// What a call of a counter is to do.
-#[derive(Clone, Copy, PartialEq, Eq, Debug)]
+#[derive(Clone, Copy, PartialEq, Eq)]
 pub struct Call {
     /// The worker that makes it. The events carry this number.
     pub worker: u32,
@@ -34,7 +34,7 @@ pub struct Call {
 }
 
 /// What a counter answers.
-#[derive(Clone, Copy, PartialEq, Eq, Debug)]
+#[derive(Clone, Copy, PartialEq, Eq)]
 pub struct Reply {
     pub told: Told,
     /// The history weighs as much as the job's fuel, or more.
