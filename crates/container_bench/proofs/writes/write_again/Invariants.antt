@@ -1,6 +1,0 @@
-use Rattle.std.proofs.Common.{◌+◌}
-use Rattle.container_bench.specs.Filled.{IsFilled}
-use Rattle.container_bench.proofs.writes.write_again.Given as goal
-
-abbrev pub invariant-loop-r : goal.invariant-loop-r
-invariant-loop-r l = IsFilled l.n (l.n + l.r + 1) l.log

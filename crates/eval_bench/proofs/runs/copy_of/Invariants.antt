@@ -1,4 +1,0 @@
-use Rattle.eval_bench.proofs.runs.copy_of.Given as goal
-
-abbrev pub ghosts-kept : goal.ghosts-kept
-ghosts-kept a = record { name = a.blank.name; parts = a.blank.parts }
