@@ -13,7 +13,6 @@ pub mod Nodes
 pub mod Redexes
 pub mod Scopes
 pub mod Searching
-pub mod Shares
 pub mod Standing
 pub mod Stepping
 pub mod Turning

@@ -1,14 +1,12 @@
 -- The expression of a control that is no end has a redex, so something is next for it that is no end.
-use Rattle.std.proofs.Common.{◌≡◌, ℕ, Bool, true, false, List, [], ◌∷◌, Option, Some, None, refl, sym, ap, subst, ◌∙◌}
+use Rattle.std.proofs.Common.{◌≡◌, List, [], ◌∷◌, Option, refl, sym, subst}
 use Rattle.std.specs.Prelude.{IsSome}
 use Rattle.stab_base.specs.declared.numbers.Seq.{Seq}
 use Rattle.stab_code.specs.Program.{ProgramParts}
 use Rattle.stab_code.specs.Valid.{IsValid}
-use Rattle.plain_language.specs.Expression.{Expr, failed}
-use Rattle.plain_language.specs.Expression as expr
+use Rattle.plain_language.specs.Expression.{Expr}
 use Rattle.plain_language.specs.Redex.{redex}
-use Rattle.step_eval.specs.declared.rest.Rest.{Rest}
-use Rattle.step_eval.specs.declared.rest.Rest.TheVariants.{Done, Failed, Going}
+use Rattle.step_eval.specs.declared.rest.Rest.TheVariants.{Going}
 use Rattle.step_eval.specs.ControlView.{ControlView, FocusView, FocusFits, Fits, begun, settled, acting, value, fault, focus_expr, expr_of}
 use Rattle.step_eval.specs.FrameView.{FrameView}
 use Rattle.step_eval.specs.Fits.{FramesFit}

@@ -7,7 +7,6 @@ pub mod Fits
 pub mod FrameView
 pub mod Meaning
 pub mod Operands
-pub mod Popped
 pub mod Progress
 pub mod Ready
 pub mod Rests

@@ -51,15 +51,11 @@ impl Machine {
         ensures here { here_of self.new ≡ here_of self.old }
         ensures none { OnOk result (self.new.top ≡ None) }
     {
-        self.frames.reserve(1)?;
         let Some(frame) = self.top.take() else {
             return Ok(());
         };
-        match Arc::new(self.alloc, frame) {
-            Ok(shared) => {
-                self.frames.push_reserved(shared);
-                Ok(())
-            }
+        match self.frames.push(self.alloc, frame) {
+            Ok(()) => Ok(()),
             Err(refused) => {
                 self.top = Some(refused.value);
                 Err(NoMemory)

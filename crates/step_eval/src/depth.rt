@@ -95,7 +95,7 @@ impl Machine {
             return false;
         }
         let round = self.count() - 1;
-        let frame = self.frame(0);
+        let frame = self.innermost();
         match frame.site {
             Site::Section(_m, _outer) => exceeds(0, round),
             Site::Form(n, from) => exceeds(depth_of(p, n, from, frame.done.len() + 1), round),

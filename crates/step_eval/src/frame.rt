@@ -47,10 +47,3 @@ impl Frame {
         })
     }
 }
-
-/// A frame that was the innermost: the machine's own, or one that others share.
-#[derive(Drop)]
-pub(crate) enum Popped {
-    Own(Frame),
-    Shared(Arc<Frame>),
-}

@@ -15,6 +15,7 @@ use crate::env::{Env, copied};
 use crate::frame::Frame;
 use crate::rest::Rest;
 use crate::site::Site;
+use shared_stack::Stack;
 use stab_base::{Fault, NoMemory, Seq, Value};
 use stab_code::NodeId;
 use std::alloc::Global;
@@ -47,7 +48,7 @@ pub(crate) struct Machine {
     pub(crate) done: Vec<Value>,
     pub(crate) env: Arc<Env>,
     pub(crate) top: Option<Frame>,
-    pub(crate) frames: Vec<Arc<Frame>>,
+    pub(crate) frames: Stack<Frame>,
     pub(crate) spare: Vec<Value>,
     pub(crate) mark: Option<Seq>,
 }
@@ -67,7 +68,7 @@ impl Machine {
             done: Vec::new(alloc),
             env,
             top: None,
-            frames: Vec::new(alloc),
+            frames: Stack::new(),
             spare: Vec::new(alloc),
             mark: None,
         }
@@ -106,21 +107,15 @@ impl Machine {
         }
     }
 
-    /// A frame by its place, the innermost first.
-    pub(crate) fn frame(&self, i: usize) -> &Frame
-        requires { i < length (round_of self.now) }
-        ensures { slice_get (round_of self.now) i ≡ Some result.now }
+    /// The innermost frame.
+    pub(crate) fn innermost(&self) -> &Frame
+        requires { 0 < length (round_of self.now) }
+        ensures { slice_get (round_of self.now) 0 ≡ Some result.now }
     {
-        let shared = self.frames.len();
-        match &self.top {
-            None => &self.frames[shared - 1 - i],
-            Some(frame) => {
-                if i == 0 {
-                    frame
-                } else {
-                    &self.frames[shared - i]
-                }
-            }
+        match (&self.top, self.frames.top()) {
+            (Some(frame), _) => frame,
+            (None, Some(frame)) => frame,
+            (None, None) => unreachable!(),
         }
     }
 
@@ -155,7 +150,7 @@ impl Machine {
         if self.is_alone() {
             return self.mark;
         }
-        let frame = self.frame(0);
+        let frame = self.innermost();
         match frame.site {
             Site::Section(_m, outer) => outer,
             Site::Form(_n, _from) => self.mark,
@@ -170,7 +165,7 @@ impl Machine {
     {
         self.focus = Focus::Fault(k);
         self.top = None;
-        self.frames.clear();
+        self.frames = Stack::new();
         self.mark = None;
     }
 
@@ -221,19 +216,9 @@ impl Machine {
             done: copied(self.alloc, self.done.as_slice())?,
             env: Arc::try_clone(&self.env)?,
             top,
-            frames: shared(self.alloc, self.frames.as_slice())?,
+            frames: self.frames.keep()?,
             spare: Vec::new(self.alloc),
             mark: self.mark,
         })
     }
-}
-
-fn shared(alloc: Global, frames: &[Arc<Frame>]) -> Result<Vec<Arc<Frame>>, NoMemory>
-    ensures { IfOk result (λ all. map arc_value all.items ≡ map arc_value frames.now) }
-{
-    let mut all = Vec::with_capacity(alloc, frames.len())?;
-    for frame in frames {
-        all.push(Arc::try_clone(frame)?)?;
-    }
-    Ok(all)
 }

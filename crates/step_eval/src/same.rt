@@ -6,7 +6,7 @@ ghost use Rattle.step_eval.specs.View.{here_of, round_of};
 use crate::env::Env;
 use crate::frame::Frame;
 use crate::machine::{Focus, Machine};
-use stab_base::all_same;
+use stab_base::{Same, all_same};
 
 impl Env {
     fn same(&self, other: &Env) -> bool
@@ -16,11 +16,8 @@ impl Env {
     }
 }
 
-impl Frame {
-    /// Whether two frames are equal.
-    pub(crate) fn same(&self, other: &Frame) -> bool
-        ensures { IsTrue result ↔ (self.now ≡ other.now) }
-    {
+impl Same for Frame {
+    fn same(&self, other: &Frame) -> bool {
         self.site == other.site
             && all_same(self.done.as_slice(), other.done.as_slice())
             && self.env.same(&other.env)
@@ -57,15 +54,12 @@ impl Machine {
     fn same_round(&self, other: &Machine) -> bool
         ensures { IsTrue result ↔ (round_of self.now ≡ round_of other.now) }
     {
-        if self.count() != other.count() {
-            return false;
+        match (&self.top, &other.top) {
+            (None, None) => self.frames.same(&other.frames),
+            (Some(a), Some(b)) => a.same(b) && self.frames.same(&other.frames),
+            (Some(a), None) => other.frames.is_on(a, &self.frames),
+            (None, Some(b)) => self.frames.is_on(b, &other.frames),
         }
-        for i in 0..self.count() {
-            if !self.frame(i).same(other.frame(i)) {
-                return false;
-            }
-        }
-        true
     }
 
     /// Whether two machines look at the same, within equal frames.

@@ -8,7 +8,7 @@ ghost use Rattle.plain_language.specs.Program.{body, expr_of};
 ghost use Rattle.step_eval.specs.Acts.{act_of};
 ghost use Rattle.step_eval.specs.Arrival.{Arrives, form_focus};
 ghost use Rattle.step_eval.specs.ControlView.{view_of};
-ghost use Rattle.step_eval.specs.Popped.{popped_view};
+ghost use Rattle.shared_stack.specs.Linked.{popped_of};
 ghost use Rattle.step_eval.specs.Fits.{FormFits, FramesFit};
 ghost use Rattle.step_eval.specs.Meaning.{at_form, at_start, form_at, strict_at, with_value, within_forms};
 ghost use Rattle.step_eval.specs.Operands.{HasOperands};
@@ -20,10 +20,11 @@ ghost use Rattle.step_eval.specs.declared.site.Site.TheVariants.{Form};
 
 use crate::act::{Act, act_at};
 use crate::env::add_copies;
-use crate::frame::{Frame, Popped};
+use crate::frame::Frame;
 use crate::machine::{Focus, Machine};
 use crate::node::{item_of, leaf, node_at};
 use crate::site::Site;
+use shared_stack::Popped;
 use stab_base::{NoMemory, Value};
 use stab_code::{NodeId, Program};
 use std::alloc::Global;
@@ -104,7 +105,7 @@ impl Machine {
         };
         self.site = Site::Form(part, 0);
         if let Some(below) = self.top.replace(frame) {
-            self.frames.push(Arc::new(self.alloc, below)?)?;
+            self.frames.push(self.alloc, below)?;
         }
         Ok(())
     }
@@ -181,19 +182,16 @@ impl Machine {
 
     /// The innermost frame, which stands round the focus no more.
     #[inline(always)]
-    fn pop_frame(&mut self) -> Option<Popped>
-        ensures round { round_of self.old ≡ option_to_list (option_map popped_view result) ++ round_of self.new }
-        ensures last { IfNone result (round_of self.new ≡ []) }
+    fn pop_frame(&mut self) -> Result<Option<Popped<Frame>>, NoMemory>
+        ensures round { IfOk result (λ popped. round_of self.old ≡ option_to_list (option_map popped_of popped) ++ round_of self.new) }
+        ensures last { IfOk result (λ popped. IfNone popped (round_of self.new ≡ [])) }
         ensures mark { self.new.mark ≡ self.old.mark }
     {
         if let Some(frame) = self.top.take() {
-            return Some(Popped::Own(frame));
+            return Ok(Some(Popped::Own(frame)));
         }
-        let shared = self.frames.pop()?;
-        match Arc::try_unwrap(shared) {
-            Ok(frame) => Some(Popped::Own(frame)),
-            Err(shared) => Some(Popped::Shared(shared)),
-        }
+        let popped = self.frames.pop()?;
+        Ok(popped)
     }
 
     /// The values of a frame's parts are those at hand.
@@ -239,14 +237,14 @@ impl Machine {
 
     /// A frame's form is at hand, and has one value more.
     #[inline(always)]
-    fn open(&mut self, frame: Popped, v: Value) -> Result<(), NoMemory>
-        ensures here { OnOk result (here_of self.new ≡ with_value (popped_view frame) v) }
+    fn open(&mut self, frame: Popped<Frame>, v: Value) -> Result<(), NoMemory>
+        ensures here { OnOk result (here_of self.new ≡ with_value (popped_of frame) v) }
         ensures round { round_of self.new ≡ round_of self.old }
         ensures mark { self.new.mark ≡ self.old.mark }
     {
         match frame {
             Popped::Own(frame) => self.open_own(frame),
-            Popped::Shared(frame) => self.open_shared(&frame)?,
+            Popped::Shared(link) => self.open_shared(link.item())?,
         }
         make_room(&mut self.done, 1)?;
         self.done.push(v)?;
@@ -258,7 +256,8 @@ impl Machine {
         requires { FramesFit p.now self.old.mark (round_of self.old) }
         ensures { OnOk result (Arrives p.now (view_of self.new) (within_forms p.now (round_of self.old) (value v))) }
     {
-        let Some(frame) = self.pop_frame() else {
+        let popped = self.pop_frame()?;
+        let Some(frame) = popped else {
             self.focus = Focus::Value(v);
             return Ok(());
         };

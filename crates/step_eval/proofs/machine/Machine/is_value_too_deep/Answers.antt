@@ -11,8 +11,8 @@ pub depth_of-requires-clause-there : goal.depth_of-requires-clause-there
 depth_of-requires-clause-there c =
     let p = c.args.p.now in
     let round = round_of c.args.self.now in
-    let f = c.frame-frame.result.now in
-    let first : slice_get round 0 ≡ Some f = c.frame-frame.ensures in
+    let f = c.innermost-frame.result.now in
+    let first : slice_get round 0 ≡ Some f = c.innermost-frame.ensures in
     let at : f.site ≡ Form c.in-Form.n c.in-Form.from = ap (λ (x : FrameView). x.site) (sym c.frame.view_is) ∙ c.in-Form.is in
     (first-form p c.args.self.now.mark round f c.in-Form.n c.in-Form.from c.requires first at).there
 
@@ -20,8 +20,8 @@ pub depth_of-requires-clause-left : goal.depth_of-requires-clause-left
 depth_of-requires-clause-left c =
     let p = c.args.p.now in
     let round = round_of c.args.self.now in
-    let f = c.frame-frame.result.now in
-    let first : slice_get round 0 ≡ Some f = c.frame-frame.ensures in
+    let f = c.innermost-frame.result.now in
+    let first : slice_get round 0 ≡ Some f = c.innermost-frame.ensures in
     let at : f.site ≡ Form c.in-Form.n c.in-Form.from = ap (λ (x : FrameView). x.site) (sym c.frame.view_is) ∙ c.in-Form.is in
     λ h. (first-form p c.args.self.now.mark round f c.in-Form.n c.in-Form.from c.requires first at).left
 
@@ -29,8 +29,8 @@ pub returns-in-Section : goal.returns-in-Section
 returns-in-Section c = λ v.
     let p = c.args.p.now in
     let round = round_of c.args.self.now in
-    let f = c.frame-frame.result.now in
-    let first : slice_get round 0 ≡ Some f = c.frame-frame.ensures in
+    let f = c.innermost-frame.result.now in
+    let first : slice_get round 0 ≡ Some f = c.innermost-frame.ensures in
     let at : f.site ≡ Section c.in-Section._m c.in-Section._outer = ap (λ (x : FrameView). x.site) (sym c.frame.view_is) ∙ c.in-Section.is in
     let some : 0 < length round = some-long round c.if-is_alone.ensures.some in
     let count : c.count-round.result ≡ length round = c.count-round.ensures in
@@ -42,8 +42,8 @@ pub returns-in-Form : goal.returns-in-Form
 returns-in-Form c = λ v.
     let p = c.args.p.now in
     let round = round_of c.args.self.now in
-    let f = c.frame-frame.result.now in
-    let first : slice_get round 0 ≡ Some f = c.frame-frame.ensures in
+    let f = c.innermost-frame.result.now in
+    let first : slice_get round 0 ≡ Some f = c.innermost-frame.ensures in
     let at : f.site ≡ Form c.in-Form.n c.in-Form.from = ap (λ (x : FrameView). x.site) (sym c.frame.view_is) ∙ c.in-Form.is in
     let some : 0 < length round = some-long round c.if-is_alone.ensures.some in
     let count : c.count-round.result ≡ length round = c.count-round.ensures in
