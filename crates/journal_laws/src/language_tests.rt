@@ -5,9 +5,11 @@ mod steps;
 
 use crate::row_tests::end_of;
 use crate::tests::{program_of, run_of};
-use plain_language::{Expr, PlainState};
-use stab_base::ThreadId;
+use plain_language::{Expr, PlainState, are_flat};
+use stab_base::{ChanId, RefId, ThreadId, Value};
+use stab_code::Program;
 use std::alloc::Global;
+use std::sync::Arc;
 use std::test::Fail;
 
 const FUNCTIONS: &str = "
@@ -39,6 +41,27 @@ fn at(alloc: Global, form: &str) -> Result<PlainState, Fail> {
         }
     }
     Ok(state)
+}
+
+// The state with these threads, channels and references, in which nothing was printed.
+fn standing_at(
+    alloc: Global,
+    program: &Arc<Program>,
+    threads: Vec<(ThreadId, Expr)>,
+    channels: Vec<ChanId>,
+    references: Vec<(RefId, Value)>,
+) -> Result<PlainState, Fail> {
+    if !are_flat(&threads) {
+        return Err(Fail::from("flat expressions"));
+    }
+    Ok(PlainState::from_parts(
+        alloc,
+        program,
+        threads,
+        channels,
+        references,
+        Vec::new(alloc),
+    )?)
 }
 
 // Where a thread stands, in letters.

@@ -2,6 +2,7 @@ pub mod Above
 pub mod Acts
 pub mod Busy
 pub mod Changes
+pub mod Depth
 pub mod Effects
 pub mod Expression
 pub mod ExpressionCode
@@ -26,6 +27,7 @@ pub mod Redex
 pub mod Sample
 pub mod Seen
 pub mod Shown
+pub mod Since
 pub mod Size
 pub mod Standing
 pub mod Steps

@@ -4,6 +4,7 @@
 mod act;
 mod body;
 mod change;
+mod depth;
 mod effects;
 mod expr;
 mod given;
@@ -21,6 +22,7 @@ mod redex;
 mod state;
 
 pub use act::{as_chan, as_reference};
+pub use depth::{MAX_EXPR_DEPTH, are_flat};
 pub use expr::Expr;
 pub use head::Head;
 pub use laws::{

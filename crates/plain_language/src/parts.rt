@@ -1,9 +1,10 @@
 //! States from their parts, and equal states.
-ghost use Rattle.std.specs.Prelude.{◌≡◌, IfOk};
+ghost use Rattle.std.specs.Prelude.{◌≡◌, IfOk, IsTrue};
 ghost use Rattle.std.specs.Arc.{arc_value};
 ghost use Rattle.std.specs.Ordering.{nat_cmp};
 ghost use Rattle.std.specs.FinMap.{from_entries};
 ghost use Rattle.std.specs.FinSet as set;
+ghost use Rattle.plain_language.specs.Depth.{are_flat};
 ghost use Rattle.plain_language.specs.Held.{held};
 ghost use Rattle.plain_language.specs.Parts.{channels_of, references_of, state_of, threads_of};
 
@@ -17,7 +18,9 @@ use std::collections::{BTreeMap, BTreeSet};
 use std::sync::Arc;
 
 impl PlainState {
-    /// The state with these parts. Where a number stands twice in one list, the first counts.
+    /// The state with these parts. Where a number stands twice in one list, the first counts. An expression may have any form,
+    /// also one that no program has, but it may be no deeper than `MAX_EXPR_DEPTH`, which
+    /// `are_flat` tests.
     pub fn from_parts(
         alloc: Global,
         program: &Arc<Program>,
@@ -26,6 +29,7 @@ impl PlainState {
         references: Vec<(RefId, Value)>,
         output: Vec<Value>,
     ) -> Result<PlainState, NoMemory>
+        requires { IsTrue (are_flat threads.items) }
         ensures { IfOk result (λ s. s ≡ held (arc_value program.now) (state_of threads.items channels.items references.items output.items)) }
     {
         Ok(PlainState {

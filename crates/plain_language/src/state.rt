@@ -124,6 +124,16 @@ impl PlainState {
         }
     }
 
+    /// The least thread above a number, which need be no thread's, and the expression at which it stands.
+    pub fn thread_after(&self, n: u32) -> Option<(ThreadId, &Expr)>
+        ensures least { IsLeastAbove (map.contains_key self.now.state.threads) n (option_map (λ t. t.0.0) result) }
+        ensures stands { IfSome result (λ t. standing self.now.state t.0.0 ≡ Some t.1.now) }
+    {
+        let above = (Bound::Excluded(n), Bound::Unbounded);
+        let (t, e) = self.threads.range(above).next()?;
+        Some((ThreadId(*t), e))
+    }
+
     /// The least channel above a number, which need be no channel's.
     pub fn channel_after(&self, n: u32) -> Option<ChanId>
         ensures { IsLeastAbove (set.contains self.now.state.channels) n (option_map (λ c. c.0) result) }

@@ -10,5 +10,6 @@ pub mod Names
 pub mod Own
 pub mod Reached
 pub mod Script
+pub mod Since
 pub mod Surviving
 pub mod View

@@ -1,6 +1,6 @@
 //! For each label a state that has its step, and no step of any other label, nor of that one where one condition is missing.
 
-use super::{at, whole};
+use super::{at, standing_at, whole};
 use crate::tests::{program_of, step_of};
 use plain_language::{Expr, Head, PlainState, PlayFault};
 use stab_base::{RefId, ThreadId, Value};
@@ -105,10 +105,7 @@ fn no_such_reference(rt: HostRuntime) -> Result<(), Fail> {
         }
         let threads = vec![in alloc; (ThreadId(1), Expr::form(head, parts))]?;
         let references = vec![in alloc; (RefId(2), Value::int(5))]?;
-        let none = (Vec::new(alloc), Vec::new(alloc));
-        let mut state = PlainState::from_parts(
-            alloc, &program, threads, none.0, references, none.1,
-        )?;
+        let mut state = standing_at(alloc, &program, threads, Vec::new(alloc), references)?;
         expect_none(&rt, alloc, &mut state, KINDS, "")?;
         expect_none(&rt, alloc, &mut state, "get 1 2; set 1 2", "")?;
     }

@@ -1,8 +1,8 @@
 //! States from their parts, and copies.
 
-use super::{at, place, whole};
+use super::{at, place, standing_at, whole};
 use crate::tests::program_of;
-use plain_language::{Expr, Head, Look, PlainState, PlayFault};
+use plain_language::{Expr, Head, Look, PlainState, PlayFault, are_flat};
 use stab_base::{ChanId, Fault, FnId, RefId, Seq, Shape, ThreadId, Value};
 use stab_code::Op;
 use stab_journal::Label;
@@ -25,6 +25,7 @@ fn the_first_of_two_counts(rt: HostRuntime) -> Result<(), Fail> {
     ]?;
     let channels = vec![in alloc; ChanId(3), ChanId(3), ChanId(1)]?;
     let output = vec![in alloc; Value::int(8), Value::int(9)]?;
+    assert!(rt; are_flat(&threads));
     let state = PlainState::from_parts(alloc, &program, threads, channels, references, output)?;
     assert_eq!(rt; state.threads(), 7);
     assert_eq!(rt;
@@ -90,8 +91,7 @@ fn wrong_forms() -> [(Head, u32); 20] {
 fn alone_at(alloc: Global, e: Expr) -> Result<PlainState, Fail> {
     let program = program_of(alloc, "fn main(): unit {}")?;
     let threads = vec![in alloc; (ThreadId(1), e)]?;
-    let none = (Vec::new(alloc), Vec::new(alloc), Vec::new(alloc));
-    Ok(PlainState::from_parts(alloc, &program, threads, none.0, none.1, none.2)?)
+    standing_at(alloc, &program, threads, Vec::new(alloc), Vec::new(alloc))
 }
 
 #[test]

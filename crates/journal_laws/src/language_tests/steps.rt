@@ -1,6 +1,6 @@
 //! The table of pure steps, row by row, what acts give, and what is next.
 
-use super::{at, place};
+use super::{at, place, standing_at};
 use crate::tests::{program_of, run_of};
 use plain_language::{Expr, Head, Look, PlainState};
 use stab_base::{ChanId, Seq, ThreadId, Value};
@@ -372,9 +372,9 @@ fn a_pick_of_a_deep_value(rt: HostRuntime) -> Result<(), Fail> {
             (T, Expr::form(Head::Send, sends)),
             (ThreadId(2), Expr::form(Head::Pick, picks)),
         ]?;
-        let none = (Vec::new(alloc), Vec::new(alloc), Vec::new(alloc));
         let program = program_of(alloc, "fn main(): unit {}")?;
-        let mut state = PlainState::from_parts(alloc, &program, threads, none.0, none.1, none.2)?;
+        let none = (Vec::new(alloc), Vec::new(alloc));
+        let mut state = standing_at(alloc, &program, threads, none.0, none.1)?;
         let comm = Label::Comm(T, ThreadId(2), ChanId(1));
         assert_eq!(rt; state.play(alloc, Seq(1), &comm), Ok(()), "{times}");
         let found = format!(in alloc; "{:?}", state.look(ThreadId(2)))?;
