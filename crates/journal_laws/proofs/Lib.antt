@@ -6,6 +6,7 @@ pub mod Reaching
 pub mod Chains
 pub mod Lines
 pub mod FirstLost
+pub mod Fronts
 pub mod Closed
 pub mod Passing
 pub mod Dividing

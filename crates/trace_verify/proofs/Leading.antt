@@ -11,14 +11,16 @@ use Rattle.stab_journal.specs.Names.{has}
 use Rattle.stab_journal.specs.Reached.{nothing_lost, reached, without_reached}
 use Rattle.stab_journal.specs.Dependence.{IsUpward}
 use Rattle.plain_language.specs.Held.{Held}
-use Rattle.plain_language.specs.Plain.{IsRun, PlainState, effect_of, end_of, plain_step, start}
+use Rattle.plain_language.specs.Plain.{PlainState, effect_of, plain_step}
+use Rattle.plain_language.specs.Since.{end_from}
 use Rattle.plain_language.specs.Steps.{State, Table, after_steps}
 use Rattle.journal_laws.proofs.Chains.{upward}
 use Rattle.journal_laws.proofs.Reaching.{reached_by}
-use Rattle.journal_laws.proofs.Runs.{steps_append, survivor}
-use Rattle.journal_laws.specs.Surviving.{Survives}
-use Rattle.trace_verify.specs.Parts.{AreBelow, IsFront}
-use Rattle.trace_verify.specs.Surviving.{LeadTo}
+use Rattle.journal_laws.proofs.Runs.{steps_append, survivor_from}
+use Rattle.journal_laws.specs.Surviving.{SurvivesFrom}
+use Rattle.stab_journal.specs.Since.{AreBelow}
+use Rattle.trace_verify.specs.Parts.{IsFront}
+use Rattle.trace_verify.specs.Surviving.{LeadTo, LeadsOn}
 
 -- no steps lead on from nowhere
 nowhere : {E : Type 0} (effect : Table E) (ns : List Numbered) → after_steps effect None ns ≡ None
@@ -37,12 +39,12 @@ reached_upward : (run : List Numbered) (m : ℕ) → RiseFrom 1 run → IsUpward
 reached_upward run m rise = upward m (has (reached run m)) nothing_lost run (reached_by m (has (reached run m)) run nothing_lost 1 rise (λ k le. refl))
 
 -- what is left of a run is one
-pub left_survives : (p : ProgramParts) (run : List Numbered) (m : ℕ) (s : PlainState) → IsRun p run s → Survives p (has (reached run m)) run s
-left_survives p run m s r = survivor p (has (reached run m)) run s (reached_upward run m r.rises) r
+pub left_survives : (p : ProgramParts) (from : PlainState) (run : List Numbered) (m : ℕ) (s : PlainState) → LeadsOn p from run s → SurvivesFrom p (has (reached run m)) from run s
+left_survives p from run m s r = survivor_from p (has (reached run m)) from run s r.known r.rises (reached_upward run m r.rises) r.ends
 
 -- the steps of a run behind some first ones lead somewhere from where these lead
-pub back_leads : (p : ProgramParts) (front back : List Numbered) (s end : PlainState) → end_of p front ≡ Some s → end_of p (front ++ back) ≡ Some end → after_steps (effect_of p) (Some s) back ≡ Some end
-back_leads p front back s end at is = ap (λ o. after_steps (effect_of p) o back) (sym at) ∙ sym (steps_append (effect_of p) front back (Some (start p))) ∙ is
+pub back_leads : (p : ProgramParts) (from : PlainState) (front back : List Numbered) (s end : PlainState) → end_from p from front ≡ Some s → end_from p from (front ++ back) ≡ Some end → end_from p s back ≡ Some end
+back_leads p from front back s end at is = ap (λ o. after_steps (effect_of p) o back) (sym at) ∙ sym (steps_append (effect_of p) front back (Some from)) ∙ is
 
 -- a step of the steps from a place on
 pub play_on : (p q : ProgramParts) (s s' : PlainState) (ns : List Numbered) (i : ℕ) (d : Numbered) (o : Option PlainState) → q ≡ p → i < length ns
@@ -63,53 +65,55 @@ play_stuck p q s ns i d o same lt none is some =
     ∙ ap (λ x. after_steps (effect_of p) x (drop (suc i) ns)) none ∙ nowhere (effect_of p) (drop (suc i) ns)) some)
 
 -- the steps ahead of some first ones lead to where all lead
-pub ahead_leads : (p q : ProgramParts) (b : ℕ) (ns ahead : List Numbered) (s : PlainState) → q ≡ p → end_of p (take b ns) ≡ Some s → ahead ≡ drop b ns → after_steps (effect_of q) (Some s) ahead ≡ end_of p ns
-ahead_leads p q b ns ahead s same at is =
+pub ahead_leads : (p q : ProgramParts) (from : PlainState) (b : ℕ) (ns ahead : List Numbered) (s : PlainState) → q ≡ p → end_from p from (take b ns) ≡ Some s → ahead ≡ drop b ns → end_from q s ahead ≡ end_from p from ns
+ahead_leads p q from b ns ahead s same at is =
     ap (λ x. after_steps (effect_of x) (Some s) ahead) same
     ∙ ap (after_steps (effect_of p) (Some s)) is
     ∙ ap (λ o. after_steps (effect_of p) o (drop b ns)) (sym at)
-    ∙ sym (steps_append (effect_of p) (take b ns) (drop b ns) (Some (start p)))
-    ∙ ap (end_of p) (take-append-drop b ns)
+    ∙ sym (steps_append (effect_of p) (take b ns) (drop b ns) (Some from))
+    ∙ ap (end_from p from) (take-append-drop b ns)
 
 rise_last : (q : ℕ) (run : List Numbered) (n : Numbered) → RiseFrom q run → AreBelow n.seq.0 run → q ≤ n.seq.0 → RiseFrom q (run ++ n ∷ [])
 rise_last q [] n rise below le = (le, tt)
 rise_last q (k ∷ ks) n rise below le = (rise.0, rise_last (suc k.seq.0) ks n rise.1 below.1 below.0)
 
 -- a run goes on by a step
-pub run_on : (p : ProgramParts) (run : List Numbered) (n : Numbered) (s s' : PlainState) → IsRun p run s → AreBelow n.seq.0 run → 1 ≤ n.seq.0 → plain_step p s n.seq.0 n.label ≡ Some s' → IsRun p (run ++ n ∷ []) s'
-run_on p run n s s' r below some step = record {
+pub run_on : (p : ProgramParts) (from : PlainState) (run : List Numbered) (n : Numbered) (s s' : PlainState) → LeadsOn p from run s → AreBelow n.seq.0 run → 1 ≤ n.seq.0 → plain_step p s n.seq.0 n.label ≡ Some s' → LeadsOn p from (run ++ n ∷ []) s'
+run_on p from run n s s' r below some step = record {
+  known = r.known;
   rises = rise_last 1 run n r.rises below some;
-  ends = steps_append (effect_of p) run (n ∷ []) (Some (start p)) ∙ ap (λ o. after_steps (effect_of p) o (n ∷ [])) r.ends ∙ step;
+  ends = steps_append (effect_of p) run (n ∷ []) (Some from) ∙ ap (λ o. after_steps (effect_of p) o (n ∷ [])) r.ends ∙ step;
 }
 
 -- what leads to a state still does where more is settled
-pub based_on : (p q : ProgramParts) (b : ℕ) (front whole : List Numbered) (base : Held) → q ≡ p → LeadTo p b front base → IsFront front whole → LeadTo q b whole base
-based_on p q b front whole base same h f = record {
+pub based_on : (p q : ProgramParts) (from : PlainState) (b : ℕ) (front whole : List Numbered) (base : Held) → q ≡ p → LeadTo from p b front base → IsFront front whole → LeadTo from q b whole base
+based_on p q from b front whole base same h f = record {
   program = h.program ∙ sym same;
   based = subst (λ ns. b ≤ length ns) (sym f.is) (omega (arith, length-append front f.back, h.based));
-  base = ap (λ x. end_of x (take b whole)) same ∙ ap (λ ns. end_of p (take b ns)) f.is ∙ ap (end_of p) (take-append-le b front f.back h.based) ∙ h.base;
+  base = ap (λ x. end_from x from (take b whole)) same ∙ ap (λ ns. end_from p from (take b ns)) f.is ∙ ap (end_from p from) (take-append-le b front f.back h.based) ∙ h.base;
 }
 
 -- all settled steps lead to it
-pub all_based : (p : ProgramParts) (b : ℕ) (settled : List Numbered) (base : Held) → b ≡ length settled → base.program ≡ p → end_of p settled ≡ Some base.state → LeadTo p b settled base
-all_based p b settled base all same is = record {
+pub all_based : (p : ProgramParts) (from : PlainState) (b : ℕ) (settled : List Numbered) (base : Held) → b ≡ length settled → base.program ≡ p → end_from p from settled ≡ Some base.state → LeadTo from p b settled base
+all_based p from b settled base all same is = record {
   program = same;
   based = omega (arith, all);
-  base = ap (λ k. end_of p (take k settled)) all ∙ ap (end_of p) (take-length settled) ∙ is;
+  base = ap (λ k. end_from p from (take k settled)) all ∙ ap (end_from p from) (take-length settled) ∙ is;
 }
 
 -- what is left behind the last cut leads on from there to where all that is left leads
-pub after_lose : (p q : ProgramParts) (run : List Numbered) (m : ℕ) (s : PlainState) (r : IsRun p run s) (front back ns : List Numbered) (cut : PlainState) → q ≡ p → front ++ back ≡ without_reached m run
-    → end_of p front ≡ Some cut → ns ≡ back → after_steps (effect_of q) (Some cut) ns ≡ Some (left_survives p run m s r).at
-after_lose p q run m s r front back ns cut same whole at is =
+pub after_lose : (p q : ProgramParts) (from : PlainState) (run : List Numbered) (m : ℕ) (s : PlainState) (r : LeadsOn p from run s) (front back ns : List Numbered) (cut : PlainState) → q ≡ p → front ++ back ≡ without_reached m run
+    → end_from p from front ≡ Some cut → ns ≡ back → end_from q cut ns ≡ Some (left_survives p from run m s r).at
+after_lose p q from run m s r front back ns cut same whole at is =
     ap (λ x. after_steps (effect_of x) (Some cut) ns) same
     ∙ ap (after_steps (effect_of p) (Some cut)) is
-    ∙ back_leads p front back cut (left_survives p run m s r).at at (ap (end_of p) whole ∙ (left_survives p run m s r).lawful.run)
+    ∙ back_leads p from front back cut (left_survives p from run m s r).at at (ap (end_from p from) whole ∙ (left_survives p from run m s r).lawful.run)
 
 -- and that is a run
-pub left_is_run : (p q : ProgramParts) (run : List Numbered) (m : ℕ) (s : PlainState) (r : IsRun p run s) (front back : List Numbered) (cut end : PlainState) → q ≡ p → front ++ back ≡ without_reached m run
-    → end_of p front ≡ Some cut → after_steps (effect_of p) (Some cut) back ≡ Some end → IsRun q (front ++ back) end
-left_is_run p q run m s r front back cut end same whole at is = record {
-  rises = subst (RiseFrom 1) (sym whole) (left_survives p run m s r).rises;
-  ends = ap (λ x. end_of x (front ++ back)) same ∙ steps_append (effect_of p) front back (Some (start p)) ∙ ap (λ o. after_steps (effect_of p) o back) at ∙ is;
+pub left_is_run : (p q : ProgramParts) (from : PlainState) (run : List Numbered) (m : ℕ) (s : PlainState) (r : LeadsOn p from run s) (front back : List Numbered) (cut end : PlainState) → q ≡ p → front ++ back ≡ without_reached m run
+    → end_from p from front ≡ Some cut → end_from p cut back ≡ Some end → LeadsOn q from (front ++ back) end
+left_is_run p q from run m s r front back cut end same whole at is = record {
+  known = r.known;
+  rises = subst (RiseFrom 1) (sym whole) (left_survives p from run m s r).rises;
+  ends = ap (λ x. end_from x from (front ++ back)) same ∙ steps_append (effect_of p) front back (Some from) ∙ ap (λ o. after_steps (effect_of p) o back) at ∙ is;
 }

@@ -1,7 +1,6 @@
 pub mod Counting
 pub mod Events
 pub mod Following
-pub mod Fronts
 pub mod Judging
 pub mod Leading
 pub mod OneVerdict

@@ -2,22 +2,22 @@
 use Rattle.std.proofs.Common.{◌≡◌, ℕ, suc, ◌+◌, ◌<◌, ◌≤◌, Bool, true, false, cond, not, ◌&&◌, ◌||◌, nat_eq, List, [], ◌∷◌, ◌++◌, length, refl, sym, ap, subst, ◌∙◌, arith, append_assoc}
 use Rattle.std.specs.Prelude.{count_by, nat_lt}
 use Rattle.std.specs.List.{AllByRecursion, list_any}
-use Rattle.std.proofs.lemmas.Bool.{false≢true}
+use Rattle.std.proofs.lemmas.Bool.{false≢true, and_parts}
 use Rattle.std.proofs.lemmas.Bool.Decides.{nat_tests}
 use Rattle.std.proofs.lemmas.List.Sums.{sum_by-append, count_by-le-length}
 use Rattle.stab_journal.specs.declared.event.Label.{Label}
 use Rattle.stab_journal.specs.declared.event.Label.TheVariants.{Cut}
 use Rattle.stab_journal.specs.declared.event.Numbered.{Numbered}
-use Rattle.stab_journal.specs.Due.{final_prints, is_print}
-use Rattle.stab_journal.specs.Floor.{floor, floor_from, is_cut, is_enter, is_pin, is_entered, has_pin, is_revocable}
+use Rattle.stab_journal.specs.Due.{is_print}
+use Rattle.stab_journal.specs.Floor.{floor_from, is_cut, is_enter, is_pin, is_entered, has_pin}
 use Rattle.stab_journal.specs.Generation.{acts_in}
 use Rattle.stab_journal.specs.Journal.{RiseFrom}
 use Rattle.stab_journal.specs.Label.{actors}
 use Rattle.stab_journal.specs.Names.{has}
 use Rattle.stab_journal.specs.Reached.{reached, rest, without_reached}
-use Rattle.journal_laws.proofs.Held.{parts_of}
-use Rattle.trace_verify.specs.Parts.{AreBelow, AreParts, IsSettled, IsRecent}
-use Rattle.trace_verify.proofs.Fronts.{front_stays, reached_front, rest_front, entered_front, pin_front, acts_front, pin_goes, acts_goes}
+use Rattle.stab_journal.specs.Since.{AreBelow, final_prints_since, is_revocable_since}
+use Rattle.trace_verify.specs.Parts.{AreParts, IsSettled, IsRecent}
+use Rattle.journal_laws.proofs.Fronts.{front_stays, reached_front, rest_front, entered_front, pin_front, acts_front, pin_goes, acts_goes}
 
 all_and : {X : Type 0} (P : X → Type 0) (xs ys : List X) → AllByRecursion P xs → AllByRecursion P ys → AllByRecursion P (xs ++ ys)
 all_and P [] ys h k = k
@@ -117,25 +117,31 @@ and_lower a f m b lt = ap (λ x. a && x && b) (let is : nat_lt f m ≡ true = gr
 and_upper : (a : Bool) (f m : ℕ) (b : Bool) → m ≤ f → (a && nat_lt f m && b) ≡ false
 and_upper a f m b le = ap (λ x. a && x && b) (let is : nat_lt f m ≡ false = grind (arith, nat_tests) in is) ∙ ap (λ x. x && b) (and_none a)
 
-pub floor_is : (f k : ℕ) (front back : List Numbered) → AreParts f k front back → floor (front ++ back) ≡ f
-floor_is f k front back h = floor_two 0 f front back h.recent ∙ h.floor
+above_of : (a : Bool) (f m : ℕ) (b : Bool) → (a && nat_lt f m && b) ≡ true → f < m
+above_of a f m b is =
+    let one = and_parts (a && nat_lt f m) b is in
+    let two : nat_lt f m ≡ true = (and_parts a (nat_lt f m) one.0).1 in
+    grind (arith, nat_tests)
 
-pub final_is : (f k : ℕ) (front back : List Numbered) → AreParts f k front back → k ≡ final_prints (front ++ back)
-final_is f k front back h =
+pub floor_is : (q f k : ℕ) (front back : List Numbered) → AreParts q f k front back → floor_from q (front ++ back) ≡ f
+floor_is q f k front back h = floor_two q f front back h.recent ∙ h.floor
+
+pub final_is : (q f k : ℕ) (front back : List Numbered) → AreParts q f k front back → k ≡ final_prints_since q (front ++ back)
+final_is q f k front back h =
     h.prints
     ∙ sym (prints_settled f front h.settled)
     ∙ omega (arith, count_and (λ n. is_print n.label && nat_lt n.seq.0 f) front back, prints_recent f back h.recent)
-    ∙ ap (λ x. count_by (λ (n : Numbered). is_print n.label && nat_lt n.seq.0 x) (front ++ back)) (sym (floor_is f k front back h))
+    ∙ ap (λ x. count_by (λ (n : Numbered). is_print n.label && nat_lt n.seq.0 x) (front ++ back)) (sym (floor_is q f k front back h))
 
 all_settled_below : (f m : ℕ) (ns : List Numbered) → f < m → AllByRecursion (IsSettled f) ns → AreBelow m ns
 all_settled_below f m ns lt h = all_with (IsSettled f) (λ n. n.seq.0 < m) (λ n s. omega (arith, s.0, lt)) ns h
 
 -- a step that is no cut comes to the steps behind
-pub add_recent : (f k : ℕ) (front back : List Numbered) (n : Numbered) → AreParts f k front back → is_cut n.label ≡ false → 1 ≤ n.seq.0 → AreBelow n.seq.0 (front ++ back) → AreParts f k front (back ++ n ∷ [])
-add_recent f k front back n h other some below = record {
+pub add_recent : (q f k : ℕ) (front back : List Numbered) (n : Numbered) → AreParts q f k front back → is_cut n.label ≡ false → q < n.seq.0 → AreBelow n.seq.0 (front ++ back) → AreParts q f k front (back ++ n ∷ [])
+add_recent q f k front back n h other some below = record {
   floor = h.floor;
   settled = h.settled;
-  recent = all_and (IsRecent f) back (n ∷ []) h.recent ((subst (λ x. x < n.seq.0) (floor_is f k front back h) (floor_below 0 n.seq.0 (front ++ back) some below), other), tt);
+  recent = all_and (IsRecent f) back (n ∷ []) h.recent ((subst (λ x. x < n.seq.0) (floor_is q f k front back h) (floor_below q n.seq.0 (front ++ back) some below), other), tt);
   prints = h.prints;
 }
 
@@ -147,9 +153,9 @@ no_print : (n : Numbered) → is_cut n.label ≡ true → is_print n.label ≡ t
 no_print n cut print = no_print_of n.label cut print
 
 -- a cut settles all steps
-pub add_cut : (f k : ℕ) (front back : List Numbered) (n : Numbered) → AreParts f k front back → is_cut n.label ≡ true → AreBelow n.seq.0 (front ++ back) → AreParts n.seq.0 (k + count_by (λ (n : Numbered). is_print n.label) (back ++ n ∷ [])) (front ++ (back ++ n ∷ [])) []
-add_cut f k front back n h cut below = record {
-  floor = ap floor (sym (append_assoc front back (n ∷ []))) ∙ floor_last 0 (front ++ back) n cut;
+pub add_cut : (q f k : ℕ) (front back : List Numbered) (n : Numbered) → AreParts q f k front back → is_cut n.label ≡ true → AreBelow n.seq.0 (front ++ back) → AreParts q n.seq.0 (k + count_by (λ (n : Numbered). is_print n.label) (back ++ n ∷ [])) (front ++ (back ++ n ∷ [])) []
+add_cut q f k front back n h cut below = record {
+  floor = ap (floor_from q) (sym (append_assoc front back (n ∷ []))) ∙ floor_last q (front ++ back) n cut;
   settled = subst (AllByRecursion (IsSettled n.seq.0)) (append_assoc front back (n ∷ []))
       (all_and (IsSettled n.seq.0) (front ++ back) (n ∷ [])
       (all_with (λ k. k.seq.0 < n.seq.0) (IsSettled n.seq.0) (λ k lt. (omega (arith, lt), λ _. lt)) (front ++ back) below)
@@ -159,67 +165,67 @@ add_cut f k front back n h cut below = record {
 }
 
 -- so many prints fit
-pub few_prints : (f k : ℕ) (front back : List Numbered) (n : Numbered) → AreParts f k front back → RiseFrom 1 (front ++ back) → AreBelow n.seq.0 (front ++ back) → 1 ≤ n.seq.0 → k + count_by (λ (n : Numbered). is_print n.label) (back ++ n ∷ []) ≤ n.seq.0
-few_prints f k front back n h rise below some =
+pub few_prints : (q f k : ℕ) (front back : List Numbered) (n : Numbered) → AreParts q f k front back → RiseFrom 1 (front ++ back) → AreBelow n.seq.0 (front ++ back) → 1 ≤ n.seq.0 → k + count_by (λ (n : Numbered). is_print n.label) (back ++ n ∷ []) ≤ n.seq.0
+few_prints q f k front back n h rise below some =
     let all = few 1 n.seq.0 (front ++ back) some rise below in
     omega (arith, h.prints, count_and (λ k. is_print k.label) front back, count_and (λ k. is_print k.label) back (n ∷ []), count_by-le-length (λ (k : Numbered). is_print k.label) (front ++ back), count_by-le-length (λ (k : Numbered). is_print k.label) (n ∷ []), all)
 
 -- whether what is reached can be taken back is seen behind
-pub revocable_is : (f k m : ℕ) (front back : List Numbered) → AreParts f k front back → RiseFrom 1 (front ++ back) → f < m → is_revocable (front ++ back) m ≡ (is_entered m back && not (has_pin (reached back m) back))
-revocable_is f k m front back h rise lt =
+pub revocable_is : (q f k m : ℕ) (front back : List Numbered) → AreParts q f k front back → RiseFrom 1 (front ++ back) → f < m → is_revocable_since q (front ++ back) m ≡ (is_entered m back && not (has_pin (reached back m) back))
+revocable_is q f k m front back h rise lt =
     let below = all_settled_below f m front lt h.settled in
     let stays = front_stays m front back (rise_back 1 front back rise) below in
-    ap (λ b. b && nat_lt (floor (front ++ back)) m && not (has_pin (reached (front ++ back) m) (front ++ back))) (entered_front m front back below)
-    ∙ ap (λ x. is_entered m back && nat_lt x m && not (has_pin (reached (front ++ back) m) (front ++ back))) (floor_is f k front back h)
+    ap (λ b. b && nat_lt (floor_from q (front ++ back)) m && not (has_pin (reached (front ++ back) m) (front ++ back))) (entered_front m front back below)
+    ∙ ap (λ x. is_entered m back && nat_lt x m && not (has_pin (reached (front ++ back) m) (front ++ back))) (floor_is q f k front back h)
     ∙ ap (λ qs. is_entered m back && nat_lt f m && not (has_pin qs (front ++ back))) (reached_front m front back below)
     ∙ ap (λ b. is_entered m back && nat_lt f m && not b) (pin_front (reached back m) front back stays)
     ∙ and_lower (is_entered m back) f m (not (has_pin (reached back m) back)) lt
 
-pub not_above : (f k m : ℕ) (front back : List Numbered) → AreParts f k front back → m ≤ f → is_revocable (front ++ back) m ≡ false
-not_above f k m front back h le =
-    ap (λ x. is_entered m (front ++ back) && nat_lt x m && not (has_pin (reached (front ++ back) m) (front ++ back))) (floor_is f k front back h)
+pub not_above : (q f k m : ℕ) (front back : List Numbered) → AreParts q f k front back → m ≤ f → is_revocable_since q (front ++ back) m ≡ false
+not_above q f k m front back h le =
+    ap (λ x. is_entered m (front ++ back) && nat_lt x m && not (has_pin (reached (front ++ back) m) (front ++ back))) (floor_is q f k front back h)
     ∙ and_upper (is_entered m (front ++ back)) f m (not (has_pin (reached (front ++ back) m) (front ++ back))) le
 
-pub above_floor : (f k m : ℕ) (front back : List Numbered) → AreParts f k front back → is_revocable (front ++ back) m ≡ true → f < m
-above_floor f k m front back h is = subst (λ x. x < m) (floor_is f k front back h) (parts_of (front ++ back) m is).above
+pub above_floor : (q f k m : ℕ) (front back : List Numbered) → AreParts q f k front back → is_revocable_since q (front ++ back) m ≡ true → f < m
+above_floor q f k m front back h is = subst (λ x. x < m) (floor_is q f k front back h) (above_of (is_entered m (front ++ back)) (floor_from q (front ++ back)) m (not (has_pin (reached (front ++ back) m) (front ++ back))) is)
 
 -- what is left where what is reached from behind the last cut goes
-pub left_behind : (f k m : ℕ) (front back : List Numbered) → AreParts f k front back → RiseFrom 1 (front ++ back) → f < m → front ++ without_reached m back ≡ without_reached m (front ++ back)
-left_behind f k m front back h rise lt =
+pub left_behind : (q f k m : ℕ) (front back : List Numbered) → AreParts q f k front back → RiseFrom 1 (front ++ back) → f < m → front ++ without_reached m back ≡ without_reached m (front ++ back)
+left_behind q f k m front back h rise lt =
     let below = all_settled_below f m front lt h.settled in
     let stays = front_stays m front back (rise_back 1 front back rise) below in
     sym (ap (λ qs. rest (has qs) (front ++ back)) (reached_front m front back below) ∙ rest_front (has (reached back m)) front back stays)
 
-pub acts_behind : (f k m t : ℕ) (front back : List Numbered) → AreParts f k front back → RiseFrom 1 (front ++ back) → f < m → acts_in (has (reached back m)) t back ≡ acts_in (has (reached (front ++ back) m)) t (front ++ back)
-acts_behind f k m t front back h rise lt =
+pub acts_behind : (q f k m t : ℕ) (front back : List Numbered) → AreParts q f k front back → RiseFrom 1 (front ++ back) → f < m → acts_in (has (reached back m)) t back ≡ acts_in (has (reached (front ++ back) m)) t (front ++ back)
+acts_behind q f k m t front back h rise lt =
     let below = all_settled_below f m front lt h.settled in
     let stays = front_stays m front back (rise_back 1 front back rise) below in
     sym (ap (λ qs. acts_in (has qs) t (front ++ back)) (reached_front m front back below) ∙ acts_front (has (reached back m)) t front back stays)
 
-pub lose_recent : (f k : ℕ) (front back : List Numbered) (gone : ℕ → Bool) → AreParts f k front back → AreParts f k front (rest gone back)
-lose_recent f k front back gone h = record { floor = h.floor; settled = h.settled; recent = all_rest (IsRecent f) gone back h.recent; prints = h.prints }
+pub lose_recent : (q f k : ℕ) (front back : List Numbered) (gone : ℕ → Bool) → AreParts q f k front back → AreParts q f k front (rest gone back)
+lose_recent q f k front back gone h = record { floor = h.floor; settled = h.settled; recent = all_rest (IsRecent f) gone back h.recent; prints = h.prints }
 
 entered_any : (m : ℕ) (ns : List Numbered) → list_any (λ (n : Numbered). nat_eq m n.seq.0 && is_enter n.label) ns ≡ is_entered m ns
 entered_any m [] = refl
 entered_any m (n ∷ ns) = ap (λ b. (nat_eq m n.seq.0 && is_enter n.label) || b) (entered_any m ns)
 
-pub no_entry : (f k m : ℕ) (front back : List Numbered) → AreParts f k front back → RiseFrom 1 (front ++ back) → f < m → list_any (λ (n : Numbered). nat_eq m n.seq.0 && is_enter n.label) back ≡ false → false ≡ is_revocable (front ++ back) m
-no_entry f k m front back h rise lt no_one = sym (revocable_is f k m front back h rise lt ∙ ap (λ b. b && not (has_pin (reached back m) back)) (sym (entered_any m back) ∙ no_one))
+pub no_entry : (q f k m : ℕ) (front back : List Numbered) → AreParts q f k front back → RiseFrom 1 (front ++ back) → f < m → list_any (λ (n : Numbered). nat_eq m n.seq.0 && is_enter n.label) back ≡ false → false ≡ is_revocable_since q (front ++ back) m
+no_entry q f k m front back h rise lt no_one = sym (revocable_is q f k m front back h rise lt ∙ ap (λ b. b && not (has_pin (reached back m) back)) (sym (entered_any m back) ∙ no_one))
 
 -- what is found where the section was entered behind the last cut
-pub entry_pins : (f k m : ℕ) (front back goes : List Numbered) → AreParts f k front back → RiseFrom 1 (front ++ back) → f < m → list_any (λ (n : Numbered). nat_eq m n.seq.0 && is_enter n.label) back ≡ true
-    → goes ≡ rest (λ q. not (has (reached back m) q)) back → not (list_any (λ (n : Numbered). is_pin n.label) goes) ≡ is_revocable (front ++ back) m
-entry_pins f k m front back goes h rise lt one is =
+pub entry_pins : (q f k m : ℕ) (front back goes : List Numbered) → AreParts q f k front back → RiseFrom 1 (front ++ back) → f < m → list_any (λ (n : Numbered). nat_eq m n.seq.0 && is_enter n.label) back ≡ true
+    → goes ≡ rest (λ q. not (has (reached back m) q)) back → not (list_any (λ (n : Numbered). is_pin n.label) goes) ≡ is_revocable_since q (front ++ back) m
+entry_pins q f k m front back goes h rise lt one is =
     ap (λ ns. not (list_any (λ (n : Numbered). is_pin n.label) ns)) is
     ∙ ap not (pin_goes (reached back m) back)
     ∙ ap (λ b. b && not (has_pin (reached back m) back)) (sym (sym (entered_any m back) ∙ one))
-    ∙ sym (revocable_is f k m front back h rise lt)
+    ∙ sym (revocable_is q f k m front back h rise lt)
 
 -- the threads that act in what goes
-pub lost_acts : (f k m t : ℕ) (front back goes : List Numbered) → AreParts f k front back → RiseFrom 1 (front ++ back) → f < m
+pub lost_acts : (q f k m t : ℕ) (front back goes : List Numbered) → AreParts q f k front back → RiseFrom 1 (front ++ back) → f < m
     → goes ≡ rest (λ q. not (has (reached back m) q)) back → list_any (λ (n : Numbered). has (actors n.label) t) goes ≡ acts_in (has (reached (front ++ back) m)) t (front ++ back)
-lost_acts f k m t front back goes h rise lt is =
-    ap (list_any (λ (n : Numbered). has (actors n.label) t)) is ∙ acts_goes (has (reached back m)) t back ∙ acts_behind f k m t front back h rise lt
+lost_acts q f k m t front back goes h rise lt is =
+    ap (list_any (λ (n : Numbered). has (actors n.label) t)) is ∙ acts_goes (has (reached back m)) t back ∙ acts_behind q f k m t front back h rise lt
 
 -- what goes of a list that is the steps behind the last cut
 pub goes_at : (m : ℕ) (ns back goes : List Numbered) → ns ≡ back → goes ≡ rest (λ q. not (has (reached ns m) q)) ns → goes ≡ rest (λ q. not (has (reached back m) q)) back

@@ -17,7 +17,7 @@ use Rattle.stab_journal.specs.declared.event.What.TheVariants.{Step, Undo, Relea
 use Rattle.stab_journal.specs.Event.{label_of}
 use Rattle.stab_journal.specs.Journal.{IsLive, Journal, RiseFrom, label_at, step_at, survivors, survivors_from}
 use Rattle.stab_journal.proofs.Events.{survivors_from-push}
-use Rattle.trace_verify.specs.Parts.{AreBelow}
+use Rattle.stab_journal.specs.Since.{AreBelow}
 use Rattle.trace_verify.specs.Signs.{AreStepsOf, starts_at}
 use Rattle.trace_verify.specs.Verdict.{IsSigned}
 

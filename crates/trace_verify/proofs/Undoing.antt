@@ -5,14 +5,15 @@ use Rattle.std.proofs.lemmas.Bool.{false≢true, eqb-true, and_parts}
 use Rattle.std.specs.Cmp.{nat_eq_equiv}
 use Rattle.stab_code.specs.Program.{ProgramParts}
 use Rattle.stab_journal.specs.declared.event.Numbered.{Numbered}
-use Rattle.stab_journal.specs.Floor.{is_revocable}
+use Rattle.stab_journal.specs.Since.{is_revocable_since}
 use Rattle.stab_journal.specs.Names.{is_at}
 use Rattle.plain_language.specs.Expression.{Expr}
 use Rattle.plain_language.specs.Plain.{PlainState, look_in, mark_in, standing}
 use Rattle.plain_language.specs.Seen.{seen}
-use Rattle.plain_language.specs.Standing.{MayUndo, is_stabilize}
+use Rattle.plain_language.specs.Since.{MayUndoSince}
+use Rattle.plain_language.specs.Standing.{is_stabilize}
 use Rattle.plain_language.specs.Table.{spawns, makes_chan, makes_ref, gets, sets, sends, receives, picks, enters, stabilizes, cuts, pins, prints, probes, attempts, Look, done, fault, act, pure}
-use Rattle.trace_verify.specs.Surviving.{is_at_stabilize, may_undo}
+use Rattle.trace_verify.specs.Surviving.{is_at_stabilize, may_undo_since}
 
 -- what is told of an expression tells whether it is at a stabilize
 seen_stabilize : (l : Look Expr) → is_at_stabilize (Some (seen l)) ≡ is_stabilize l
@@ -47,16 +48,16 @@ mark_at : (o : Option ℕ) (m : ℕ) → is_at o m ≡ true → o ≡ Some m
 mark_at None m h = absurd (false≢true h)
 mark_at (Some k) m h = ap Some (sym (eqb-true m k h))
 
-pub may : (p : ProgramParts) (run : List Numbered) (s : PlainState) (t m : ℕ) → may_undo p run s t m ≡ true → MayUndo p run s t m
-may p run s t m h =
-    let one = and_parts (is_at_stabilize (option_map (λ e. seen (look_in p e)) (standing s t)) && is_at (mark_in s t) m) (is_revocable run m) h in
+pub may : (q : ℕ) (p : ProgramParts) (run : List Numbered) (s : PlainState) (t m : ℕ) → may_undo_since q p run s t m ≡ true → MayUndoSince q p run s t m
+may q p run s t m h =
+    let one = and_parts (is_at_stabilize (option_map (λ e. seen (look_in p e)) (standing s t)) && is_at (mark_in s t) m) (is_revocable_since q run m) h in
     let two = and_parts (is_at_stabilize (option_map (λ e. seen (look_in p e)) (standing s t))) (is_at (mark_in s t) m) one.0 in
     record { at = at_seen p (standing s t) two.0; mark = mark_at (mark_in s t) m two.1; revocable = one.1 }
 
-pub may_not : (p : ProgramParts) (run : List Numbered) (s : PlainState) (t m : ℕ) → may_undo p run s t m ≡ false → MayUndo p run s t m → ⊥
-may_not p run s t m h u =
+pub may_not : (q : ℕ) (p : ProgramParts) (run : List Numbered) (s : PlainState) (t m : ℕ) → may_undo_since q p run s t m ≡ false → MayUndoSince q p run s t m → ⊥
+may_not q p run s t m h u =
     false≢true (sym h
-    ∙ ap (λ b. b && is_at (mark_in s t) m && is_revocable run m) (seen_at p (standing s t) u.at)
-    ∙ ap (λ o. is_at o m && is_revocable run m) u.mark
-    ∙ ap (λ b. b && is_revocable run m) (nat_eq_equiv.refl m)
+    ∙ ap (λ b. b && is_at (mark_in s t) m && is_revocable_since q run m) (seen_at p (standing s t) u.at)
+    ∙ ap (λ o. is_at o m && is_revocable_since q run m) u.mark
+    ∙ ap (λ b. b && is_revocable_since q run m) (nat_eq_equiv.refl m)
     ∙ u.revocable)

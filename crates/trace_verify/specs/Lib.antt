@@ -1,4 +1,5 @@
 pub mod Generations
+pub mod Led
 pub mod Parts
 pub mod Replayed
 pub mod Signs

@@ -3,7 +3,7 @@ use Rattle.std.specs.Prelude.{◌≡◌, ℕ, ◌<◌, ◌≤◌, true, false, c
 use Rattle.std.specs.List.{AllByRecursion}
 use Rattle.stab_journal.specs.declared.event.Numbered.{Numbered}
 use Rattle.stab_journal.specs.Due.{is_print}
-use Rattle.stab_journal.specs.Floor.{floor, is_cut}
+use Rattle.stab_journal.specs.Floor.{floor_from, is_cut}
 use Rattle.trace_verify.specs.declared.parts.Parts.{Parts}
 
 -- all steps, in order
@@ -15,10 +15,6 @@ pub record IsFront (front whole : List Numbered) : Type 0 where
   pub back : List Numbered
   pub is : whole ≡ front ++ back
 
--- the numbers of the steps are below q
-abbrev pub AreBelow : ℕ → List Numbered → Type 0
-AreBelow q = AllByRecursion (λ (n : Numbered). n.seq.0 < q)
-
 -- the step stands up to the cut numbered f, which is no print
 abbrev pub IsSettled : ℕ → Numbered → Type 0
 IsSettled f n = (n.seq.0 ≤ f) × (is_print n.label ≡ true → n.seq.0 < f)
@@ -27,12 +23,12 @@ IsSettled f n = (n.seq.0 ≤ f) × (is_print n.label ≡ true → n.seq.0 < f)
 abbrev pub IsRecent : ℕ → Numbered → Type 0
 IsRecent f n = (f < n.seq.0) × (is_cut n.label ≡ false)
 
--- the first part ends with the last cut, which is numbered f, and k of its steps print
-pub record AreParts (f k : ℕ) (front back : List Numbered) : Type 0 where
-  pub floor : floor front ≡ f
+-- of steps behind the cut numbered q, the first part ends with the last cut, which is numbered f, and k of its steps print
+pub record AreParts (q f k : ℕ) (front back : List Numbered) : Type 0 where
+  pub floor : floor_from q front ≡ f
   pub settled : AllByRecursion (IsSettled f) front
   pub recent : AllByRecursion (IsRecent f) back
   pub prints : k ≡ count_by (λ (n : Numbered). is_print n.label) front
 
 abbrev pub IsParted : Parts → Type 0
-IsParted a = AreParts a.floor a.final_prints a.settled.items a.recent.items
+IsParted a = AreParts a.since a.floor a.final_prints a.settled.items a.recent.items

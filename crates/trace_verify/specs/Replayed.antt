@@ -14,13 +14,14 @@ use Rattle.plain_language.specs.Standing.{MayStep, StandsFor, event}
 use Rattle.trace_verify.specs.declared.replay.Replay.{Replay}
 use Rattle.trace_verify.specs.declared.verdict.Why.{Why}
 use Rattle.trace_verify.specs.Generations.{AreBefore, times}
-use Rattle.trace_verify.specs.Parts.{AreBelow, run_in}
-use Rattle.trace_verify.specs.Surviving.{IsKept}
+use Rattle.stab_journal.specs.Since.{AreBelow}
+use Rattle.trace_verify.specs.Parts.{run_in}
+use Rattle.trace_verify.specs.Surviving.{IsFromStart}
 use Rattle.trace_verify.specs.Verdict.{IsWrong}
 
 -- the replay may go on by the event numbered q
 pub record IsReady (q : ℕ) (r : Replay) : Type 0 where
-  pub kept : IsKept r.surviving
+  pub kept : IsFromStart r.surviving
   pub below : AreBelow q (run_in r.surviving.parts)
   pub before : AreBefore q r.generations
   pub probes : r.probes < q

@@ -12,19 +12,20 @@ use std::collections::BTreeMap;
 
 /// How often a thread was put back, and by which undo last.
 #[derive(Clone, Copy)]
-pub(crate) struct PutBack {
+pub struct PutBack {
     times: u64,
     last: u64,
 }
 
 /// Of each thread that was put back, how often.
 #[derive(Drop)]
-pub(crate) struct Generations {
+pub struct Generations {
     threads: BTreeMap<u32, PutBack>,
 }
 
 impl Generations {
-    pub(crate) fn new(alloc: Global) -> Generations
+    /// None was put back yet.
+    pub fn new(alloc: Global) -> Generations
         ensures before { AreBefore 1 result }
         ensures none { (t : ℕ) → times result t ≡ 0 }
     {
@@ -34,7 +35,7 @@ impl Generations {
     }
 
     /// How often a thread was put back.
-    pub(crate) fn of(&self, t: ThreadId) -> u64
+    pub fn of(&self, t: ThreadId) -> u64
         ensures { result ≡ times self.now t.0 }
     {
         match self.threads.get(&t.0) {
@@ -44,7 +45,7 @@ impl Generations {
     }
 
     /// The undo with this number, which is above those before, took these steps away.
-    pub(crate) fn put_back(&mut self, undo: Seq, goes: &[Numbered]) -> Result<(), NoMemory>
+    pub fn put_back(&mut self, undo: Seq, goes: &[Numbered]) -> Result<(), NoMemory>
         requires { AreBefore undo.0 self.old }
         ensures before { OnOk result (AreBefore (undo.0 + 1) self.new) }
         ensures times { OnOk result ((t : ℕ) → times self.new t

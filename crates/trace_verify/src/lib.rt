@@ -5,6 +5,7 @@
 mod cascade_tests;
 mod generations;
 mod laws;
+mod led;
 mod parts;
 #[cfg(test)]
 mod random_tests;
@@ -19,5 +20,8 @@ mod verdict;
 #[cfg(test)]
 mod worked_tests;
 
+pub use generations::Generations;
 pub use laws::one_verdict;
+pub use led::{LedTo, replayed};
+pub use surviving::Surviving;
 pub use verdict::{Verdict, Why, verify};

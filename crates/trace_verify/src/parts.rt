@@ -1,14 +1,15 @@
 //! The steps of a history that no undo took away so far.
-ghost use Rattle.std.specs.Prelude.{◌≡◌, ◌++◌, ◌∷◌, [], ℕ, ◌≤◌, true, ◌&&◌, nat_eq, IfOk, OnOk, count_by};
+ghost use Rattle.std.specs.Prelude.{◌≡◌, ◌++◌, ◌∷◌, [], ℕ, ◌<◌, true, ◌&&◌, nat_eq, IfOk, OnOk, count_by};
 ghost use Rattle.std.specs.List.{list_any};
-ghost use Rattle.stab_journal.specs.Due.{final_prints, is_print};
-ghost use Rattle.stab_journal.specs.Floor.{is_enter, is_pin, is_revocable};
+ghost use Rattle.stab_journal.specs.Due.{is_print};
+ghost use Rattle.stab_journal.specs.Floor.{is_enter, is_pin};
 ghost use Rattle.stab_journal.specs.Generation.{acts_in};
 ghost use Rattle.stab_journal.specs.Journal.{RiseFrom};
 ghost use Rattle.stab_journal.specs.Label.{actors};
 ghost use Rattle.stab_journal.specs.Names.{has};
 ghost use Rattle.stab_journal.specs.Reached.{reached, without_reached};
-ghost use Rattle.trace_verify.specs.Parts.{AreBelow, IsFront, IsParted, run_in};
+ghost use Rattle.stab_journal.specs.Since.{AreBelow, final_prints_since, is_revocable_since};
+ghost use Rattle.trace_verify.specs.Parts.{IsFront, IsParted, run_in};
 
 use journal_laws::divide;
 use stab_base::{NoMemory, Seq};
@@ -20,21 +21,26 @@ use std::alloc::Global;
 pub(crate) struct Parts {
     pub(crate) settled: Vec<Numbered>,
     pub(crate) recent: Vec<Numbered>,
-    /// The number of the last cut, 0 before the first.
+    /// The number of the cut behind which the first step stands, 0 where that is the start.
+    since: u64,
+    /// The number of the last cut, that of `since` before the first.
     floor: u64,
     /// How many of the settled steps print.
     final_prints: u64,
 }
 
 impl Parts {
-    pub(crate) fn new(alloc: Global) -> Parts
+    /// No steps yet, behind the cut with this number.
+    pub(crate) fn new(alloc: Global, since: u64) -> Parts
         ensures parted { IsParted result }
         ensures none { run_in result ≡ [] }
+        ensures since { result.since ≡ since }
     {
         Parts {
             settled: Vec::new(alloc),
             recent: Vec::new(alloc),
-            floor: 0,
+            since,
+            floor: since,
             final_prints: 0,
         }
     }
@@ -44,7 +50,8 @@ impl Parts {
         requires parted { IsParted self.old }
         requires rise { RiseFrom 1 (run_in self.old) }
         requires below { AreBelow step.seq.0 (run_in self.old) }
-        requires some { 1 ≤ step.seq.0 }
+        requires above { self.old.since < step.seq.0 }
+        ensures since { self.new.since ≡ self.old.since }
         ensures parted { OnOk result (IsParted self.new) }
         ensures run { OnOk result (run_in self.new ≡ run_in self.old ++ step ∷ []) }
         ensures settled { OnOk result (IsFront self.old.settled.items self.new.settled.items) }
@@ -69,7 +76,7 @@ impl Parts {
     /// How many printed values are final.
     pub(crate) fn final_prints(&self) -> u64
         requires parted { IsParted self.now }
-        ensures { result ≡ final_prints (run_in self.now) }
+        ensures { result ≡ final_prints_since self.now.since (run_in self.now) }
     {
         self.final_prints
     }
@@ -78,7 +85,7 @@ impl Parts {
     pub(crate) fn is_revocable(&self, alloc: Global, m: Seq) -> Result<bool, NoMemory>
         requires parted { IsParted self.now }
         requires rise { RiseFrom 1 (run_in self.now) }
-        ensures { IfOk result (λ b. b ≡ is_revocable (run_in self.now) m.0) }
+        ensures { IfOk result (λ b. b ≡ is_revocable_since self.now.since (run_in self.now) m.0) }
     {
         if m.0 <= self.floor || !is_entered(&self.recent, m) {
             return Ok(false);
@@ -91,7 +98,8 @@ impl Parts {
     pub(crate) fn lose(&mut self, alloc: Global, m: Seq) -> Result<Vec<Numbered>, NoMemory>
         requires parted { IsParted self.old }
         requires rise { RiseFrom 1 (run_in self.old) }
-        requires revocable { is_revocable (run_in self.old) m.0 ≡ true }
+        requires revocable { is_revocable_since self.old.since (run_in self.old) m.0 ≡ true }
+        ensures since { self.new.since ≡ self.old.since }
         ensures parted { OnOk result (IsParted self.new) }
         ensures settled { OnOk result (self.new.settled.items ≡ self.old.settled.items) }
         ensures run { OnOk result (run_in self.new ≡ without_reached m.0 (run_in self.old)) }

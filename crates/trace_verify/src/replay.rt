@@ -7,14 +7,16 @@ ghost use Rattle.stab_journal.specs.declared.event.What.TheVariants.{Release, St
 ghost use Rattle.stab_journal.specs.Floor.{is_mark_revocable};
 ghost use Rattle.stab_journal.specs.Script.{script_at};
 ghost use Rattle.plain_language.specs.Plain.{mark_in};
+ghost use Rattle.trace_verify.specs.Led.{IsLedTo};
 ghost use Rattle.trace_verify.specs.Parts.{run_in};
 ghost use Rattle.trace_verify.specs.Replayed.{Follows, IsReady, IsReplayed, Refuses};
-ghost use Rattle.trace_verify.specs.Surviving.{IsKept};
+ghost use Rattle.trace_verify.specs.Surviving.{IsFromStart};
 
 use crate::generations::Generations;
+use crate::led::LedTo;
 use crate::surviving::Surviving;
 use crate::verdict::Why;
-use plain_language::PlayFault;
+use plain_language::{PlainState, PlayFault};
 use stab_base::{NoMemory, Seq, ThreadId};
 use stab_code::Program;
 use stab_journal::{Label, Numbered, What};
@@ -39,7 +41,7 @@ impl Replay {
         ensures replayed { IfOk result (λ r. (script : List ℤ) → IsReplayed (arc_value program.now) script [] r) }
     {
         Ok(Replay {
-            surviving: Surviving::new(alloc, program)?,
+            surviving: Surviving::new(alloc, PlainState::start(alloc, program)?, 0)?,
             generations: Generations::new(alloc),
             probes: 0,
             released: 0,
@@ -90,7 +92,7 @@ impl Replay {
 
     /// What is wrong with a step that the language has.
     fn refused(&self, alloc: Global, script: &[i64], label: Label) -> Result<Option<Why>, NoMemory>
-        requires kept { IsKept self.now.surviving }
+        requires kept { IsFromStart self.now.surviving }
         ensures { (p : ProgramParts) (events : List Events) → IsReplayed p script.now events self.now
             → IfOk result (Refuses p script.now events self.now label) }
     {
@@ -122,11 +124,11 @@ impl Replay {
 
     /// Whether the innermost section of a thread can be taken back.
     fn is_revocable(&self, alloc: Global, t: ThreadId) -> Result<bool, NoMemory>
-        requires kept { IsKept self.now.surviving }
+        requires kept { IsFromStart self.now.surviving }
         ensures { IfOk result (λ b. b ≡ is_mark_revocable (run_in self.now.surviving.parts) (mark_in self.now.surviving.state.state t.0)) }
     {
-        match self.surviving.state.mark(t) {
-            Some(m) => self.surviving.parts.is_revocable(alloc, m),
+        match self.surviving.state().mark(t) {
+            Some(m) => self.surviving.is_revocable(alloc, m),
             None => Ok(false),
         }
     }
@@ -161,6 +163,17 @@ impl Replay {
         }
         self.released = k;
         None
+    }
+
+    /// The state, the number of probes, and how often threads were put back.
+    pub(crate) fn into_led(self) -> LedTo
+        ensures { (p : ProgramParts) (script : List ℤ) (events : List Events) → IsReplayed p script events self → IsLedTo p script events result }
+    {
+        LedTo {
+            state: self.surviving.into_state(),
+            probes: self.probes,
+            generations: self.generations,
+        }
     }
 
     /// The surviving steps, in order.

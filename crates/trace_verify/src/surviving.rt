@@ -1,24 +1,23 @@
 //! Where the surviving steps of a history lead.
-ghost use Rattle.std.specs.Prelude.{◌≡◌, ◌≤◌, [], Some, IfOk, IsSome, OnOk, option_map};
-ghost use Rattle.std.specs.Arc.{arc_value};
+ghost use Rattle.std.specs.Prelude.{◌≡◌, ◌<◌, [], Some, IfOk, IsSome, OnOk, option_map};
 ghost use Rattle.stab_journal.specs.Names.{is_at};
-ghost use Rattle.plain_language.specs.Held.{held};
-ghost use Rattle.plain_language.specs.Plain.{effect_of, end_of, start};
-ghost use Rattle.plain_language.specs.Steps.{after_steps};
-ghost use Rattle.trace_verify.specs.Parts.{AreBelow, run_in};
-ghost use Rattle.trace_verify.specs.Surviving.{IsBased, IsKept, PlaysOn, TakesBack, is_at_stabilize, may_undo};
+ghost use Rattle.stab_journal.specs.Since.{AreBelow, is_revocable_since};
+ghost use Rattle.plain_language.specs.Plain.{PlainState as State};
+ghost use Rattle.plain_language.specs.Since.{end_from};
+ghost use Rattle.journal_laws.specs.Known.{IsExprIn, IsKnown};
+ghost use Rattle.trace_verify.specs.Parts.{run_in};
+ghost use Rattle.trace_verify.specs.Surviving.{IsBased, IsKept, PlaysOn, TakesBack, is_at_stabilize, may_undo_since};
 
 use crate::parts::Parts;
 use plain_language::{ActKind, Look, PlainState, PlayFault};
 use stab_base::{NoMemory, Seq, ThreadId};
-use stab_code::Program;
 use stab_journal::{Label, Numbered};
 use std::alloc::Global;
-use std::sync::Arc;
 
-/// The steps that no undo took away so far, and two states on their way.
+/// The steps that no undo took away so far, from the start of a program or from a later state behind a cut, and two states
+/// on their way.
 #[derive(Drop)]
-pub(crate) struct Surviving {
+pub struct Surviving {
     pub(crate) parts: Parts,
     /// Where all steps lead.
     pub(crate) state: PlainState,
@@ -28,25 +27,40 @@ pub(crate) struct Surviving {
 }
 
 impl Surviving {
-    /// No steps, and the start state.
-    pub(crate) fn new(alloc: Global, program: &Arc<Program>) -> Result<Surviving, NoMemory>
-        ensures { IfOk result (λ s. IsKept s × (run_in s.parts ≡ [])
-            × (s.state ≡ held (arc_value program.now) (start (arc_value program.now)))) }
+    /// No steps yet, and the state at which they begin: the start of a program, where `since` is 0, or the state at the cut
+    /// that is numbered so.
+    pub fn new(alloc: Global, from: PlainState, since: u64) -> Result<Surviving, NoMemory>
+        ensures kept { IsKnown IsExprIn from.state → IfOk result (IsKept from.state) }
+        ensures begun { IfOk result (λ s. (s.state ≡ from) × (run_in s.parts ≡ []) × (s.parts.since ≡ since)) }
     {
         Ok(Surviving {
-            parts: Parts::new(alloc),
-            state: PlainState::start(alloc, program)?,
-            base: PlainState::start(alloc, program)?,
+            parts: Parts::new(alloc, since),
+            base: from.copy(alloc)?,
+            state: from,
             based: 0,
         })
     }
 
+    /// Where all steps lead.
+    pub fn state(&self) -> &PlainState
+        ensures { result.now ≡ self.now.state }
+    {
+        &self.state
+    }
+
+    /// The same, where nothing else is needed any more.
+    pub fn into_state(self) -> PlainState
+        ensures { result ≡ self.state }
+    {
+        self.state
+    }
+
     /// Makes a step, whose number is above those so far.
-    pub(crate) fn play(&mut self, alloc: Global, seq: Seq, label: Label) -> Result<(), PlayFault>
-        requires kept { IsKept self.old }
+    pub fn play(&mut self, alloc: Global, seq: Seq, label: Label) -> Result<(), PlayFault>
+        requires kept { (from : State) × IsKept from self.old }
         requires below { AreBelow seq.0 (run_in self.old.parts) }
-        requires some { 1 ≤ seq.0 }
-        ensures { PlaysOn self.old self.new seq.0 label result }
+        requires above { self.old.parts.since < seq.0 }
+        ensures { (from : State) → IsKept from self.old → PlaysOn from self.old self.new seq.0 label result }
     {
         self.state.play(alloc, seq, &label)?;
         self.parts.add(Numbered { seq, label })?;
@@ -55,14 +69,15 @@ impl Surviving {
 
     /// Takes back the section that was entered at m, if the thread is at a stabilize in it and it can be taken back, and
     /// answers the steps that went.
-    pub(crate) fn take_back(
+    pub fn take_back(
         &mut self,
         alloc: Global,
         t: ThreadId,
         m: Seq,
     ) -> Result<Option<Vec<Numbered>>, NoMemory>
-        requires kept { IsKept self.old }
-        ensures { IfOk result (λ o. TakesBack self.old self.new t.0 m.0 (option_map (λ v. v.items) o)) }
+        requires kept { (from : State) × IsKept from self.old }
+        ensures { (from : State) → IsKept from self.old
+            → IfOk result (λ o. TakesBack from self.old self.new t.0 m.0 (option_map (λ v. v.items) o)) }
     {
         if !self.may_take_back(alloc, t, m)? {
             return Ok(None);
@@ -73,8 +88,16 @@ impl Surviving {
         Ok(Some(goes))
     }
 
+    /// Whether the section that was entered at m can be taken back.
+    pub fn is_revocable(&self, alloc: Global, m: Seq) -> Result<bool, NoMemory>
+        requires kept { (from : State) × IsKept from self.now }
+        ensures { IfOk result (λ b. b ≡ is_revocable_since self.now.parts.since (run_in self.now.parts) m.0) }
+    {
+        self.parts.is_revocable(alloc, m)
+    }
+
     /// All steps, in order.
-    pub(crate) fn into_run(self) -> Result<Vec<Numbered>, NoMemory>
+    pub fn into_run(self) -> Result<Vec<Numbered>, NoMemory>
         ensures { IfOk result (λ run. run.items ≡ run_in self.parts) }
     {
         self.parts.into_run()
@@ -82,23 +105,24 @@ impl Surviving {
 
     // Whether the thread is at a stabilize in the section that was entered at m, and that can be taken back.
     fn may_take_back(&self, alloc: Global, t: ThreadId, m: Seq) -> Result<bool, NoMemory>
-        requires kept { IsKept self.now }
-        ensures { IfOk result (λ b. b ≡ may_undo self.now.state.program (run_in self.now.parts) self.now.state.state t.0 m.0) }
+        requires kept { (from : State) × IsKept from self.now }
+        ensures { IfOk result (λ b. b
+            ≡ may_undo_since self.now.parts.since self.now.state.program (run_in self.now.parts) self.now.state.state t.0 m.0) }
     {
         if !is_at_stabilize(self.state.look(t)) || !is_mark(self.state.mark(t), m) {
             return Ok(false);
         }
-        self.parts.is_revocable(alloc, m)
+        self.is_revocable(alloc, m)
     }
 
     // The state is that of the last cut.
     fn return_to_cut(&mut self, alloc: Global) -> Result<(), NoMemory>
-        requires based { IsBased self.old }
-        requires run { IsSome (end_of self.old.state.program self.old.parts.settled.items) }
+        requires { (from : State) × IsBased from self.old × IsSome (end_from self.old.state.program from self.old.parts.settled.items) }
         ensures parts { self.new.parts ≡ self.old.parts }
         ensures program { OnOk result (self.new.state.program ≡ self.old.state.program) }
-        ensures based { OnOk result (IsBased self.new) }
-        ensures state { OnOk result (end_of self.old.state.program self.old.parts.settled.items ≡ Some self.new.state.state) }
+        ensures based { (from : State) → IsBased from self.old → OnOk result (IsBased from self.new) }
+        ensures state { (from : State) → IsBased from self.old
+            → OnOk result (end_from self.old.state.program from self.old.parts.settled.items ≡ Some self.new.state.state) }
     {
         let (_, ahead) = self.parts.settled.split_at(self.based);
         play_all(alloc, &mut self.base, ahead)?;
@@ -110,9 +134,9 @@ impl Surviving {
 
 // Makes steps that the state has.
 fn play_all(alloc: Global, state: &mut PlainState, steps: &[Numbered]) -> Result<(), NoMemory>
-    requires { IsSome (after_steps (effect_of state.old.program) (Some state.old.state) steps.now) }
+    requires { IsSome (end_from state.old.program state.old.state steps.now) }
     ensures program { state.new.program ≡ state.old.program }
-    ensures made { OnOk result (after_steps (effect_of state.old.program) (Some state.old.state) steps.now ≡ Some state.new.state) }
+    ensures made { OnOk result (end_from state.old.program state.old.state steps.now ≡ Some state.new.state) }
 {
     for step in steps {
         match state.play(alloc, step.seq, &step.label) {

@@ -14,7 +14,7 @@ use Rattle.stab_journal.specs.Label.{written}
 use Rattle.stab_journal.specs.Reached.{Lost, nothing_lost, keep, lose, depends, reads_of, reached_from, reached, rest}
 use Rattle.journal_laws.proofs.Held.{reached_above}
 use Rattle.journal_laws.proofs.Passing.{depends_same, reached_same}
-use Rattle.trace_verify.specs.Parts.{AreBelow}
+use Rattle.stab_journal.specs.Since.{AreBelow}
 
 none_of : (ts : List ℕ) → list_any (λ _. false) ts ≡ false
 none_of [] = refl
