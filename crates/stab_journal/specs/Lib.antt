@@ -7,6 +7,7 @@ pub mod Generation
 pub mod Journal
 pub mod Label
 pub mod Names
+pub mod Numbers
 pub mod Own
 pub mod Reached
 pub mod Script

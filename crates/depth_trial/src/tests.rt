@@ -1,0 +1,145 @@
+//! Whatever goes through an expression calls itself as often as that is deep.
+use expression_text::{Word, has_shape, read};
+use plain_language::{Expr, Head, Look, MAX_EXPR_DEPTH, PlainState, are_flat};
+use stab_base::{Fault, NoMemory, Seq, ThreadId, Value};
+use stab_code::{Program, Slots};
+use stab_journal::Label;
+use stab_text::read_program;
+use std::alloc::Global;
+use std::process::Abort;
+use std::sync::Arc;
+use std::test::Fail;
+use std::thread::Builder;
+
+// The stack of the thread that goes through the expressions, in bytes.
+const STACK: usize = 0x20_0000;
+
+// Forms round the redex of a thread that may step.
+const MOST_ROUND: u32 = 1000;
+
+// `!` so many times, round true.
+fn negations(alloc: Global, count: u32) -> Result<Expr, NoMemory> {
+    let mut e = Expr::value(Value::truth(true));
+    for _ in 0..count {
+        let parts = vec![in alloc; e]?;
+        e = Expr::form(Head::Not, parts);
+    }
+    Ok(e)
+}
+
+// A block whose first item is a value, and whose last part is as deep as it may be.
+fn deepest(alloc: Global) -> Result<Expr, NoMemory> {
+    let slots = Slots::new(alloc, vec![in alloc; None]?)?;
+    let parts = vec![in alloc;
+        Expr::value(Value::unit()),
+        negations(alloc, MAX_EXPR_DEPTH - 2)?,
+    ]?;
+    Ok(Expr::form(Head::Block(slots), parts))
+}
+
+fn state_of(
+    alloc: Global,
+    program: &Arc<Program>,
+    threads: Vec<(ThreadId, Expr)>,
+) -> Result<Option<PlainState>, NoMemory> {
+    if !are_flat(&threads) {
+        return Ok(None);
+    }
+    Ok(Some(PlainState::from_parts(
+        alloc,
+        program,
+        threads,
+        Vec::new(alloc),
+        Vec::new(alloc),
+        Vec::new(alloc),
+    )?))
+}
+
+// What is next for thread 1 and thread 2 at the start, and after their steps on a copy.
+fn goes_through(alloc: Global, program: Arc<Program>) -> Result<[Option<Look>; 4], NoMemory> {
+    let threads = vec![in alloc;
+        (ThreadId(1), deepest(alloc)?),
+        (ThreadId(2), negations(alloc, MOST_ROUND)?),
+    ]?;
+    let Some(state) = state_of(alloc, &program, threads)? else {
+        return Ok([None; 4]);
+    };
+    let mut copy = state.copy(alloc)?;
+    let _first = copy.play(alloc, Seq(1), &Label::Local(ThreadId(1), 1));
+    let _second = copy.play(alloc, Seq(2), &Label::Local(ThreadId(2), MOST_ROUND));
+    Ok([
+        state.look(ThreadId(1)),
+        state.look(ThreadId(2)),
+        copy.look(ThreadId(1)),
+        copy.look(ThreadId(2)),
+    ])
+}
+
+#[test]
+fn as_deep_as_may_be(rt: HostRuntime) -> Result<(), Fail> {
+    let alloc = rt.alloc();
+    let Ok(program) = read_program(alloc, b"fn main(): unit {}") else {
+        return Err(Fail::from("the text of a program"));
+    };
+    let program = Arc::new(alloc, program)?;
+    let thread = Builder::new()
+        .stack_size(STACK)
+        .spawn(&rt, move || goes_through(alloc, program))?;
+    // The block's last part has more than 1,000 forms round its redex.
+    let wanted = [
+        Some(Look::Pure),
+        Some(Look::Pure),
+        Some(Look::Failed(Fault::TooDeep)),
+        Some(Look::Done),
+    ];
+    assert_eq!(rt; thread.join(&rt), Ok(wanted));
+    Ok(())
+}
+
+#[test]
+fn one_form_deeper(rt: HostRuntime) -> Result<(), Fail> {
+    let alloc = rt.alloc();
+    let flat = vec![in alloc; (ThreadId(1), negations(alloc, MAX_EXPR_DEPTH - 1)?)]?;
+    assert!(rt; are_flat(&flat));
+    let deep = vec![in alloc; (ThreadId(1), negations(alloc, MAX_EXPR_DEPTH)?)]?;
+    assert!(rt; !are_flat(&deep));
+    Ok(())
+}
+
+// The words of `!` so many times, round true.
+fn words_of(alloc: Global, count: u32) -> Result<Vec<Word>, NoMemory> {
+    let mut words = Vec::new(alloc);
+    for _ in 0..count {
+        words.push(Word::Not)?;
+    }
+    words.push(Word::Truth(true))?;
+    Ok(words)
+}
+
+fn reads(alloc: Global) -> Result<bool, NoMemory> {
+    let words = words_of(alloc, MAX_EXPR_DEPTH - 1)?;
+    Ok(read(alloc, &words, MAX_EXPR_DEPTH)?.is_some())
+}
+
+#[test]
+fn words_are_read_as_deep(rt: HostRuntime) -> Result<(), Fail> {
+    let alloc = rt.alloc();
+    let thread = Builder::new()
+        .stack_size(STACK)
+        .spawn(&rt, move || reads(alloc))?;
+    assert_eq!(rt; thread.join(&rt), Ok(true));
+    let words = words_of(alloc, MAX_EXPR_DEPTH)?;
+    assert!(rt; read(alloc, &words, MAX_EXPR_DEPTH)?.is_none());
+    Ok(())
+}
+
+// However deep the words of an expression are, one pass sees that they are those of one.
+#[test]
+fn a_shape_of_any_depth(rt: HostRuntime) -> Result<(), Fail> {
+    let alloc = rt.alloc();
+    let mut words = words_of(alloc, 1_000_000)?;
+    assert!(rt; has_shape(alloc, &words)?);
+    let _last = words.pop();
+    assert!(rt; !has_shape(alloc, &words)?);
+    Ok(())
+}
