@@ -23,7 +23,7 @@ use Rattle.step_eval.specs.ControlView.{Fits, expr_of}
 use Rattle.journal_laws.proofs.Stepping.{plain_of}
 use Rattle.journal_laws.proofs.Undone.{stands_run}
 use Rattle.commit_book.specs.Book.{BookView, ShowsJournal}
-use Rattle.commit_book.specs.Numbers.{AreNext, AreFew}
+use Rattle.stab_journal.specs.Numbers.{AreNext, AreFew}
 use Rattle.commit_book.specs.References.{writes_at, AreWrites}
 use Rattle.commit_book.specs.Saved.{saved_of}
 use Rattle.commit_book.specs.Step.{next_seq}

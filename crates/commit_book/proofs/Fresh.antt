@@ -12,7 +12,7 @@ use Rattle.stab_journal.specs.Label.{actors, touched}
 use Rattle.stab_journal.specs.Names.{has}
 use Rattle.stab_journal.specs.Reached.{reached}
 use Rattle.stab_journal.specs.Surviving.{after_event}
-use Rattle.commit_book.specs.Numbers.{threads_by}
+use Rattle.stab_journal.specs.Numbers.{threads_by}
 use Rattle.commit_book.proofs.Unnamed.{cond_false, named_in, in_event, left_part, right_part}
 
 acts_touches : (l : Label) (t : ℕ) → has (touched l) t ≡ false → has (actors l) t ≡ false

@@ -26,7 +26,7 @@ use Rattle.plain_language.specs.Steps.{Effect}
 use Rattle.step_eval.specs.ControlView.{ControlView, Fits, expr_of}
 use Rattle.commit_book.specs.Book.{BookView, Next, ShowsJournal}
 use Rattle.commit_book.specs.Graph.{node_of, one_node}
-use Rattle.commit_book.specs.Numbers.{AreNext, AreFew}
+use Rattle.stab_journal.specs.Numbers.{AreNext, AreFew}
 use Rattle.commit_book.specs.References.{writes_at}
 use Rattle.commit_book.specs.Run.{saves}
 use Rattle.commit_book.specs.Saved.{saved_of, AllSaved}

@@ -3,7 +3,6 @@ pub mod Floors
 pub mod WriteSteps
 pub mod SavedSteps
 pub mod NodeSteps
-pub mod NumberSteps
 pub mod Unnamed
 pub mod EventSteps
 pub mod Requeued

@@ -26,9 +26,9 @@ use Rattle.plain_language.specs.Program.{body}
 use Rattle.plain_language.specs.Standing.{StandsFor, event}
 use Rattle.plain_language.proofs.Applying.{get_inserted}
 use Rattle.journal_laws.proofs.Undone.{stands_run}
-use Rattle.commit_book.specs.Numbers.{chans_in, refs_in, named_by, threads_by, greatest, AreNext, AreFew}
+use Rattle.stab_journal.specs.Numbers.{chans_in, refs_in, named_by, threads_by, greatest, AreNext, AreFew}
 use Rattle.commit_book.proofs.Floors.{differs}
-use Rattle.commit_book.proofs.NumberSteps.{greatest_snoc, no_greater, no_greater_than_one}
+use Rattle.stab_journal.proofs.NumberSteps.{greatest_snoc, no_greater, no_greater_than_one}
 use Rattle.commit_book.proofs.Unnamed.{beyond, named_in, in_events, unnamed_thread, unnamed_channel, unnamed_reference}
 
 below_or : (a b : ℕ) → nat_lt a b ≡ false → b ≤ a

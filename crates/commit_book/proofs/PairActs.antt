@@ -43,7 +43,7 @@ use Rattle.commit_book.specs.Counts.{faulted_in, is_undo}
 use Rattle.commit_book.specs.Doing.{is_failed, offer_at}
 use Rattle.commit_book.specs.Layout.{IsKept, view_of, without_spare}
 use Rattle.commit_book.specs.Leases.{LeaseView}
-use Rattle.commit_book.specs.Numbers.{threads_by}
+use Rattle.stab_journal.specs.Numbers.{threads_by}
 use Rattle.commit_book.specs.Rows.{local_of, starts, thread}
 use Rattle.commit_book.specs.Step.{IsStepOf, next_seq}
 use Rattle.commit_book.proofs.Adding.{MayAdd, resting_ended, resting_state, resting_unparked}

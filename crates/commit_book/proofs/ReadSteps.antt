@@ -17,7 +17,7 @@ use Rattle.stab_journal.specs.Names.{has}
 use Rattle.journal_laws.proofs.Spawned.{acts_touch}
 use Rattle.own_steps.specs.Own.{steps_of}
 use Rattle.commit_book.specs.declared.rollback.Rollback.{Rollback}
-use Rattle.commit_book.specs.Numbers.{greatest, threads_by}
+use Rattle.stab_journal.specs.Numbers.{greatest, threads_by}
 use Rattle.commit_book.specs.OwnSteps.{IsRead, Rises, steps_within}
 use Rattle.commit_book.proofs.Floors.{less_is}
 use Rattle.commit_book.proofs.Unnamed.{beyond, left_part, right_part}

@@ -24,10 +24,10 @@ use Rattle.commit_book.specs.Book.{ShowsJournal, ShowsThreads}
 use Rattle.commit_book.specs.Counts.{is_undo, faulted_in}
 use Rattle.commit_book.specs.Layout.{IsKept, view_of}
 use Rattle.commit_book.specs.Releases.{IsReleasedBy}
-use Rattle.commit_book.specs.Numbers.{threads_by, AreNext, AreFew}
+use Rattle.stab_journal.specs.Numbers.{threads_by, AreNext, AreFew}
 use Rattle.commit_book.proofs.EventSteps.{generation_snoc, probed_snoc, released_snoc, script_step}
 use Rattle.commit_book.proofs.Named.{few_more}
-use Rattle.commit_book.proofs.NumberSteps.{greatest_snoc}
+use Rattle.stab_journal.proofs.NumberSteps.{greatest_snoc}
 use Rattle.commit_book.proofs.Prints.{keep_prints}
 use Rattle.commit_book.proofs.ReadKept.{read_same}
 use Rattle.commit_book.specs.OwnSteps.{IsRead}

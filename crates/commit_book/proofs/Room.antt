@@ -10,7 +10,7 @@ use Rattle.stab_journal.specs.Event.{IsGeneration, IsLabel, IsName, weigh, weigh
 use Rattle.stab_journal.specs.Generation.{generation}
 use Rattle.stab_journal.specs.Script.{probed_by, probed}
 use Rattle.plain_language.specs.Standing.{event}
-use Rattle.commit_book.specs.Numbers.{AreNext, AreFew}
+use Rattle.stab_journal.specs.Numbers.{AreNext, AreFew}
 use Rattle.commit_book.proofs.EventSteps.{generation_few}
 
 -- the events of a book whose job isn't over weigh less

@@ -24,7 +24,7 @@ use Rattle.plain_language.specs.Program.{body}
 use Rattle.plain_language.specs.Standing.{StandsFor}
 use Rattle.plain_language.proofs.Applying.{get_inserted}
 use Rattle.journal_laws.proofs.Undone.{stands_run}
-use Rattle.commit_book.specs.Numbers.{chans_in, refs_in, named_by, threads_by}
+use Rattle.stab_journal.specs.Numbers.{chans_in, refs_in, named_by, threads_by}
 use Rattle.commit_book.proofs.Floors.{differs_too}
 use Rattle.commit_book.proofs.Unnamed.{has-append, named_in, in_events, unnamed_thread, unnamed_channel, unnamed_reference}
 

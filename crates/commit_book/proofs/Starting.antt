@@ -34,7 +34,7 @@ use Rattle.commit_book.specs.Book.{ShowsJournal, ShowsThreads, ShowsRun, over, o
 use Rattle.commit_book.specs.Counts.{faulted_in, is_undo}
 use Rattle.commit_book.specs.Doing.{IsDoing, is_over, is_failed, waits_with}
 use Rattle.commit_book.specs.Layout.{AreTallied, IsKept, view_of}
-use Rattle.commit_book.specs.Numbers.{greatest, threads_by, named_by, chans_in, refs_in}
+use Rattle.stab_journal.specs.Numbers.{greatest, threads_by, named_by, chans_in, refs_in}
 use Rattle.commit_book.specs.Printing.{ArePrints, numbers_of, prints_above}
 use Rattle.commit_book.specs.Started.{IsStarted}
 use Rattle.commit_book.proofs.ReadKept.{read_none_yet}

@@ -27,12 +27,12 @@ use Rattle.journal_laws.proofs.Runs.{survivor, run_beside}
 use Rattle.journal_laws.proofs.Undone.{stands_run}
 use Rattle.step_eval.specs.ControlView.{Fits, expr_of}
 use Rattle.commit_book.specs.Book.{BookView, Next, ShowsJournal}
-use Rattle.commit_book.specs.Numbers.{threads_by, greatest, AreNext, AreFew}
+use Rattle.stab_journal.specs.Numbers.{threads_by, greatest, AreNext, AreFew}
 use Rattle.commit_book.specs.References.{writes_at, AreWrites}
 use Rattle.commit_book.specs.Saved.{saved_of}
 use Rattle.commit_book.proofs.EventSteps.{script_step}
 use Rattle.commit_book.proofs.Named.{few_more}
-use Rattle.commit_book.proofs.NumberSteps.{greatest_snoc, no_greater_than_one}
+use Rattle.stab_journal.proofs.NumberSteps.{greatest_snoc, no_greater_than_one}
 use Rattle.commit_book.proofs.Undone.{saved_undone, writes_undone}
 use Rattle.commit_book.proofs.UndoneNodes.{stay, nodes_undone}
 use Rattle.commit_book.proofs.UndoneParts.{left}

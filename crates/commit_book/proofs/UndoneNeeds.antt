@@ -38,7 +38,7 @@ use Rattle.commit_book.specs.Book.{BookView}
 use Rattle.commit_book.specs.Counted.{AreFailed}
 use Rattle.commit_book.specs.Counts.{faulted_in, is_faulted_at}
 use Rattle.commit_book.specs.Layout.{view_of}
-use Rattle.commit_book.specs.Numbers.{greatest, threads_by}
+use Rattle.stab_journal.specs.Numbers.{greatest, threads_by}
 use Rattle.commit_book.specs.Printing.{prints_above}
 use Rattle.commit_book.specs.Saved.{saved_of}
 use Rattle.commit_book.specs.Striking.{MayStrike, MayStrikeAll, makes_at, prints_at}

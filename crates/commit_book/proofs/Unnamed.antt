@@ -18,7 +18,7 @@ use Rattle.plain_language.specs.Steps.{State, Effect, Table, plain, apply, after
 use Rattle.plain_language.proofs.Applying.{put_threads-apart, put_value-apart, put_channel-is}
 use Rattle.journal_laws.proofs.Stepping.{step_of}
 use Rattle.journal_laws.proofs.Surviving.{some_is, some_none, no_steps}
-use Rattle.commit_book.specs.Numbers.{chans_in, refs_in}
+use Rattle.stab_journal.specs.Numbers.{chans_in, refs_in}
 use Rattle.commit_book.proofs.Floors.{differs}
 
 grows : (xs : List ℕ) (g t : ℕ) → fold max g xs < t → g < t

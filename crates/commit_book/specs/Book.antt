@@ -27,7 +27,7 @@ use Rattle.commit_book.specs.References.{AreWrites, HoldValues}
 use Rattle.commit_book.specs.Generations.{AreGenerations}
 use Rattle.commit_book.specs.Doing.{AreDoing, AllParked, is_over, offer_at}
 use Rattle.commit_book.specs.Offers.{AreOffers}
-use Rattle.commit_book.specs.Numbers.{AreNext, AreFew}
+use Rattle.stab_journal.specs.Numbers.{AreNext, AreFew}
 use Rattle.commit_book.specs.Saved.{AreSaved, AllSaved}
 use Rattle.commit_book.specs.Graph.{AreNodesOf}
 

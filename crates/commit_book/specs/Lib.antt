@@ -5,7 +5,6 @@ pub mod References
 pub mod Generations
 pub mod Doing
 pub mod Offers
-pub mod Numbers
 pub mod Saved
 pub mod Graph
 pub mod Book

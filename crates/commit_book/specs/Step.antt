@@ -15,7 +15,7 @@ use Rattle.plain_language.specs.Steps.{Effect}
 use Rattle.step_eval.specs.ControlView.{Fits, expr_of}
 use Rattle.commit_book.specs.Book.{BookView}
 use Rattle.commit_book.specs.Graph.{node_of, wrote_by}
-use Rattle.commit_book.specs.Numbers.{AreNext, AreFew}
+use Rattle.stab_journal.specs.Numbers.{AreNext, AreFew}
 use Rattle.commit_book.specs.References.{writes_at}
 use Rattle.commit_book.specs.Run.{saves}
 use Rattle.commit_book.specs.Saved.{saved_of, AllSaved}

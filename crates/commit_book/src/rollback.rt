@@ -12,7 +12,7 @@ ghost use Rattle.reach_line.specs.MarkList.{HasSpare, numbers};
 ghost use Rattle.stab_journal.specs.Journal.{AreSurvivors, IsLive, label_at, survivors};
 ghost use Rattle.stab_journal.specs.Label.{actors};
 ghost use Rattle.stab_journal.specs.Names.{has};
-ghost use Rattle.commit_book.specs.Numbers.{greatest, threads_by};
+ghost use Rattle.stab_journal.specs.Numbers.{greatest, threads_by};
 ghost use Rattle.commit_book.specs.OwnSteps.{IsRead, IsGathered, IsGatheredFrom, IsLeft, IsTaken, IsUnread, HasRoomToRead, Rises, SaysTheSame, line_number};
 
 use comm_graph::Graph;

@@ -20,7 +20,7 @@ use Rattle.journal_laws.proofs.Undone.{stands_run}
 use Rattle.step_eval.specs.ControlView.{ControlView, expr_of}
 use Rattle.commit_book.specs.Book.{BookView, IsShown, offered, over}
 use Rattle.commit_book.specs.Doing.{IsDoing, is_over, offer_at, waits_with}
-use Rattle.commit_book.specs.Numbers.{greatest, threads_by, named_by, chans_in, refs_in}
+use Rattle.stab_journal.specs.Numbers.{greatest, threads_by, named_by, chans_in, refs_in}
 use Rattle.commit_book.specs.Threads.{stands}
 use Rattle.commit_book.proofs.Holding.{nobody_in}
 use Rattle.lone_worker.specs.Desk.{Seat, IsUnlent, desk_of, seat_of}

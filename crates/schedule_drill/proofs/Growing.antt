@@ -9,7 +9,7 @@ use Rattle.stab_journal.specs.declared.event.What.{What}
 use Rattle.stab_journal.specs.Generation.{generation, generation_from, puts_back}
 use Rattle.stab_journal.specs.Surviving.{after_event}
 use Rattle.commit_book.specs.Book.{BookView, IsShown}
-use Rattle.commit_book.specs.Numbers.{greatest, threads_by}
+use Rattle.stab_journal.specs.Numbers.{greatest, threads_by}
 
 at_least : (t q : ℕ) (run : List Numbered) (es : List Event) (g : ℕ) → g ≤ generation_from t q run es g
 at_least t q run [] g = omega arith

@@ -5,7 +5,7 @@ use Rattle.std.proofs.lemmas.Grind.{flat_map-append}
 use Rattle.std.proofs.lemmas.List.Sums.{fold-append}
 use Rattle.stab_journal.specs.declared.event.Event.{Event}
 use Rattle.stab_journal.specs.declared.event.What.{What}
-use Rattle.commit_book.specs.Numbers.{greatest}
+use Rattle.stab_journal.specs.Numbers.{greatest}
 
 -- the numbers that an event names come last
 pub greatest_snoc : (names : What → List ℕ) (es : List Event) (e : Event) → greatest names (es ++ e ∷ []) ≡ fold max (greatest names es) (names e.what)
