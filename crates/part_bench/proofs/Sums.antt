@@ -15,7 +15,8 @@ use Rattle.stab_code.specs.Syntax.{deepest, depth_from, depth_of, lets_of, open_
 use Rattle.stab_code.specs.Trees.{Tree, Trees, none, more, fold_all}
 use Rattle.stab_code.specs.Valid.{HasItem, IsValid, parts_of}
 use Rattle.stab_code.specs.Written.{unit_type}
-use Rattle.stab_code.proofs.AllForms.{AllForms, AllFormsIn, HoldsOf, count_of, nodes_of_all-forms}
+use Rattle.stab_code.specs.EachForm.{AllForms, AllFormsIn, count_of}
+use Rattle.stab_code.proofs.AllForms.{HoldsOf, nodes_of_all-forms}
 use Rattle.stab_code.proofs.InOrder.{laid_out-bodies, laid_out-order}
 use Rattle.stab_code.proofs.LaidOut.{length-nodes_of_all}
 use Rattle.part_bench.specs.Sums.{print_sum, printing, prints, sums_printed}

@@ -16,7 +16,7 @@ use Rattle.stab_code.specs.Program.{FunctionParts}
 use Rattle.stab_code.specs.Syntax.{deepest, depth_from, depth_of, lets_from, lets_of, left_open, one_or_none, open_from, open_in, with_own}
 use Rattle.stab_code.specs.Trees.{Tree, Trees, tree, none, more}
 use Rattle.stab_code.specs.Valid.{HasItem, parts_of}
-use Rattle.stab_code.proofs.AllForms.{AllForms, AllFormsIn}
+use Rattle.stab_code.specs.EachForm.{AllForms, AllFormsIn}
 use Rattle.stab_parse.specs.declared.symbol.Span.{Span}
 use Rattle.stab_parse.specs.declared.tree.Function.{Function}
 use Rattle.stab_parse.specs.declared.tree.Head.{Head}

@@ -2,7 +2,7 @@
 use Rattle.std.proofs.Common.{◌≡◌, ℕ, ◌+◌, List, [], ◌∷◌, ◌++◌, length, refl, sym, ap, ◌∙◌, arith, append_assoc}
 use Rattle.stab_code.specs.Layout.{size_of, size_of_all, own_node, own_nodes, nodes_of, nodes_of_all}
 use Rattle.stab_code.specs.Trees.{Tree, Trees, none, more}
-use Rattle.stab_code.proofs.AllForms.{count_of}
+use Rattle.stab_code.specs.EachForm.{count_of}
 use Rattle.scope_check.specs.Scope.{in_order, in_order_before}
 
 abbrev pub join : Trees → Trees → Trees

@@ -14,7 +14,8 @@ use Rattle.stab_code.specs.Program.{FunctionParts, ProgramParts, arity_of, body_
 use Rattle.stab_code.specs.Syntax.{depth_of, lets_of, open_in}
 use Rattle.stab_code.specs.Trees.{Tree, Trees, none, more}
 use Rattle.stab_code.specs.Valid.{IsValid}
-use Rattle.stab_code.proofs.AllForms.{AllFormsIn, HoldsOf, nodes_of_all-forms}
+use Rattle.stab_code.specs.EachForm.{AllFormsIn}
+use Rattle.stab_code.proofs.AllForms.{HoldsOf, nodes_of_all-forms}
 use Rattle.stab_code.proofs.InOrder.{laid_out-bodies, laid_out-order}
 use Rattle.stab_code.proofs.LaidOut.{length-nodes_of_all}
 use Rattle.stab_parse.specs.declared.tree.Function.{Function}

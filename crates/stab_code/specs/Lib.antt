@@ -1,3 +1,4 @@
+pub mod EachForm
 pub mod Forms
 pub mod Heads
 pub mod JobParts

@@ -8,6 +8,7 @@ ghost use Rattle.stab_code.specs.declared.head.Head.{Head};
 ghost use Rattle.stab_code.specs.declared.head.Head.TheVariants.{Block};
 ghost use Rattle.stab_code.specs.declared.head.TheConstants.{MAX_FORM_DEPTH};
 ghost use Rattle.stab_code.specs.declared.node_id.NodeId.{NodeId};
+ghost use Rattle.stab_code.specs.EachForm.{AllForms};
 ghost use Rattle.stab_code.specs.Heads.{callee_of, text_of};
 ghost use Rattle.stab_code.specs.Layout.{nodes_of_all, own_nodes, size_of_all};
 ghost use Rattle.stab_code.specs.Limits.{max_form_depth, max_fuel, max_quantum, max_script};
@@ -15,7 +16,7 @@ ghost use Rattle.stab_code.specs.Nodes.{NodeParts};
 ghost use Rattle.stab_code.specs.Program.{FunctionParts, ProgramParts, arity_of, bodies_of, body_of, tree_at, trees_at, trees_of};
 ghost use Rattle.stab_code.specs.Syntax.{depth_from, depth_of, lets_from, lets_of, named_from, named_in, open_from, open_in};
 ghost use Rattle.stab_code.specs.Trees.{Trees, fold, tree};
-ghost use Rattle.stab_code.specs.Valid.{IsValid, NodesAreInOrder};
+ghost use Rattle.stab_code.specs.Valid.{IsValid, NodesAreInOrder, parts_of};
 ghost use Rattle.stab_code.specs.Walk.{values_of};
 
 /// The constants are the limits of the definitions.
@@ -87,4 +88,10 @@ pub fn functions_fit()
         → All (λ slot. slot < f.slots) (named_in (body_of p f)) }
     ensures arity { (p : ProgramParts) → IsValid p → (k : ℕ) (f : FunctionParts) → slice_get p.functions k ≡ Some f → arity_of f ≤ f.slots }
     ensures main { (p : ProgramParts) → IsValid p → (main : FunctionParts) → slice_get p.functions p.main.0 ≡ Some main → main.takes ≡ [] }
+{}
+
+/// Of a valid program each form of a function's body has as many parts as its head asks for.
+pub fn forms_fit()
+    ensures { (p : ProgramParts) → IsValid p → (k : ℕ) (f : FunctionParts) → slice_get p.functions k ≡ Some f
+        → AllForms (λ head parts. parts_of p.functions head ≡ Some parts) (body_of p f) }
 {}

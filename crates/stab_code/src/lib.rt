@@ -17,7 +17,7 @@ pub use function::Function;
 pub use head::{Head, MAX_FORM_DEPTH, Op, Slots};
 pub use job::{Job, MAX_FUEL, MAX_QUANTUM, MAX_SCRIPT};
 pub use laws::{
-    functions_fit, heads_fit, limits, no_deep_form, no_other_nodes, nodes_are_trees,
+    forms_fit, functions_fit, heads_fit, limits, no_deep_form, no_other_nodes, nodes_are_trees,
     trees_in_order, walks_are_folds,
 };
 pub use node::Node;
