@@ -21,8 +21,9 @@ FILENAME ~ /gate\.md$/ {
     needs[word[1]] = side[2]
 }
 
+# In the gate the libraries below a crate take less than here.
 function cost(name) {
-    return (name in minutes) ? minutes[name] : 0.3
+    return minutes[name] + 0.3
 }
 
 # Lists the crate after all that it needs.
@@ -52,7 +53,8 @@ function take(name,    dep, n, i, lane, start) {
     order[++taken] = name
     lane = 1
     for (i = 2; i <= lanes; i++) if (free[i] + 0 < free[lane] + 0) lane = i
-    start = free[lane] + 0
+    # The sources of all are read first.
+    start = free[lane] ? free[lane] : 1
     n = split(needs[name], dep, " ")
     for (i = 1; i <= n; i++) if (end[dep[i]] + 0 > start) start = end[dep[i]]
     free[lane] = end[name] = start + cost(name)
@@ -67,23 +69,20 @@ function left_at(minute,    i, sum) {
 
 END {
     # How much faster a crate is proved on all processors than on one.
-    faster = 1 + 0.3 * (lanes - 1)
+    faster = 1 + (lanes - 1) / 6
     list("stab_cli")
     for (i = 1; i <= crates; i++) under[i] = below(crate[i], i)
     for (few = 0; few < crates; few++) for (i = 1; i <= crates; i++) if (under[i] == few) take(crate[i])
     # Side by side up to the minute from which on all is done first if the rest comes one after the other.
     change = least = whole
-    for (at = 0; at < whole; at += 0.1) {
-        if (at + left_at(at) / faster < least) {
+    for (at = 1; at < whole; at += 0.1) {
+        if (at + left_at(at) / faster < least - 0.1) {
             least = at + left_at(at) / faster
             change = at
         }
     }
     n = split(proved, word, " ")
-    for (i = 1; i <= n; i++) {
-        done[word[i]] = 1
-        work += cost(word[i])
-    }
+    for (i = 1; i <= n; i++) done[word[i]] = 1
     in_turn = 1
     for (i = 1; i <= crates; i++) {
         if (order[i] in done) continue
