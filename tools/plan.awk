@@ -83,17 +83,20 @@ END {
     }
     n = split(proved, word, " ")
     for (i = 1; i <= n; i++) done[word[i]] = 1
-    in_turn = 1
+    one_by_one = 1
     for (i = 1; i <= crates; i++) {
         if (order[i] in done) continue
         rest = rest " " order[i]
         left += cost(order[i])
-        if (end[order[i]] <= change) in_turn = 0
+        if (end[order[i]] <= change) one_by_one = 0
     }
     # The minute by which as much has ended as was proved so far.
-    if (in_turn) far = least - left / faster
-    else for (far = 0; far < change && left_at(far) > left; far += 0.1) ;
+    if (one_by_one) {
+        far = least - left / faster
+    } else {
+        while (far < change && left_at(far) > left) far += 0.1
+    }
     # At first two minutes that took as long as in docs/gate.md are added, so that the first crates don't decide alone.
     pace = (seconds / 60 + 2) / (far + 2)
-    printf "%d %d%s\n", crates, (least - far) * pace + 1, in_turn || stopped ? rest : ""
+    print crates, int((least - far) * pace + 1) (one_by_one || stopped ? rest : "")
 }
