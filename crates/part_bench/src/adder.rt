@@ -58,7 +58,7 @@ impl Kept for Adder {
 
     ghost job_of = { λ a. a.job };
 
-    ghost journal_of = { λ a. a.history };
+    ghost events_of = { λ a. a.history.events };
 
     ghost commits_of = { λ a. a.commits };
 

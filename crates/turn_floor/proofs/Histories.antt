@@ -52,7 +52,7 @@ recorded_whole : (q : ℕ) (ys : List Event) → take (length ys) (recorded q ys
 recorded_whole q [] = refl
 recorded_whole q (y ∷ ys) = ap (λ (l : List Recorded). at q y ∷ l) (recorded_whole (suc q) ys)
 
-told_new : (t : Told) (before new after : List Event) → after ≡ before ++ new → Tells t before after → told_events t after ≡ recorded (1 + length before) new
+pub told_new : (t : Told) (before new after : List Event) → after ≡ before ++ new → Tells t before after → told_events t after ≡ recorded (1 + length before) new
 told_new t before [] after e tells =
     let none-new : t.count ≡ 0 = omega (arith, tells.0, ap length e, length-append before []) in
     ap (λ (n : ℕ). take n (drop (t.first.0 - 1) (recorded 1 after))) none-new

@@ -1,7 +1,6 @@
 -- What a state that lies at home keeps of the start.
 use Rattle.std.specs.Prelude.{◌≡◌, ℕ, List}
 use Rattle.stab_code.specs.JobParts.{JobParts}
-use Rattle.stab_journal.specs.Journal.{Journal}
 use Rattle.stab_journal.specs.declared.event.Event.{Event}
 use Rattle.turn_floor.specs.Counts.{risen}
 use Rattle.turn_floor.specs.Start.{Start}
@@ -16,5 +15,5 @@ module _ {K C S Ask Answer : Type 0} where
     pub stale : stale_of h.state ≡ risen h.stale.total start.stale
 
   -- the events of its history
-  abbrev pub events_in : (K → Journal) → Held K C S Ask Answer → List Event
-  events_in journal_of h = (journal_of h.state).events
+  abbrev pub events_in : (K → List Event) → Held K C S Ask Answer → List Event
+  events_in events_of h = events_of h.state

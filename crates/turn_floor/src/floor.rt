@@ -76,7 +76,7 @@ impl<K: Kept, C: Ledger, S: Ledger> Floor<K, C, S> {
         requires own { pass.old.floor ≡ self.now }
         requires fits { K.asks self.now.start.job pass.old.worker ask }
         ensures served { (before : K) × (after : K) × K.serves before pass.old.worker ask result after
-            × IsTurn K.job_of K.journal_of self.now.start.job pass.old.worker pass.old.seen (K.told_of result) pass.new.seen before after }
+            × IsTurn K.job_of K.events_of self.now.start.job pass.old.worker pass.old.seen (K.told_of result) pass.new.seen before after }
         ensures fits { K.answers self.now.start.job pass.new.seen result }
         ensures own { own pass.old.worker pass.new.seen
             ≡ own pass.old.worker pass.old.seen ++ told_events (K.told_of result) pass.new.seen }
@@ -144,7 +144,7 @@ impl<K: Kept, C: Ledger, S: Ledger> Floor<K, C, S> {
         ensures id { seat.new.table_id ≡ seat.old.table_id }
         ensures view { seat.new.me ≡ (giving (showing seat.old.me.0 seat.new.me.0.seen), []) }
         ensures served { (before : K) × (after : K) × K.serves before worker ask result.0 after
-            × IsTurn K.job_of K.journal_of seat.old.me.0.start.job worker seat.old.me.0.seen (K.told_of result.0) seat.new.me.0.seen before after }
+            × IsTurn K.job_of K.events_of seat.old.me.0.start.job worker seat.old.me.0.seen (K.told_of result.0) seat.new.me.0.seen before after }
         ensures fits { K.answers seat.old.me.0.start.job seat.new.me.0.seen result.0 }
         ensures own { own worker seat.new.me.0.seen ≡ seat.old.me.0.own ++ told_events (K.told_of result.0) seat.new.me.0.seen }
         ensures named { AreOf seat.old.me.0.start.workers seat.new.me.0.seen }
@@ -168,7 +168,7 @@ impl<K: Kept, C: Ledger, S: Ledger> Floor<K, C, S> {
         requires id { seat.old.table_id ≡ self.now.table }
         requires live { 0 < seat.old.me.0.seats }
         ensures id { seat.new.table_id ≡ seat.old.table_id }
-        ensures took { Took (Keeps K.job_of K.commits_of K.stale_of) (events_in K.journal_of) seat.old.me seat.new.me }
+        ensures took { Took (Keeps K.job_of K.commits_of K.stale_of) (events_in K.events_of) seat.old.me seat.new.me }
     {
         for _ in rt.forever() {
             let found = self
@@ -214,10 +214,10 @@ impl<K: Kept, C: Ledger, S: Ledger> Floor<K, C, S> {
         ensures view { seat.new.me.0 ≡ seat.old.me.0 }
         ensures served { Carries seat.old.me (λ h. Carries seat.new.me (λ k. K.serves h.state worker ask result.0 k.state
             × Keeps K.job_of K.commits_of K.stale_of seat.old.me.0.start k
-            × Adds worker (K.journal_of h.state).events (K.journal_of k.state).events
-            × Tells (K.told_of result.0) (K.journal_of h.state).events (K.journal_of k.state).events
-            × K.answers seat.old.me.0.start.job (K.journal_of k.state).events result.0
-            × (result.1 ≡ length (K.journal_of k.state).events))) }
+            × Adds worker (K.events_of h.state) (K.events_of k.state)
+            × Tells (K.told_of result.0) (K.events_of h.state) (K.events_of k.state)
+            × K.answers seat.old.me.0.start.job (K.events_of k.state) result.0
+            × (result.1 ≡ length (K.events_of k.state)))) }
         ensures amounts { (commits.new.share.amount ≡ commits.old.share.amount + once (K.told_of result.0).committed)
             × (stale.new.share.amount ≡ stale.old.share.amount + once (K.told_of result.0).stale) }
         ensures parts { (commits.new.share.parts ≡ commits.old.share.parts) × (stale.new.share.parts ≡ stale.old.share.parts) }
@@ -232,10 +232,10 @@ impl<K: Kept, C: Ledger, S: Ledger> Floor<K, C, S> {
     fn show(&self, seat: &mut Place<K, C, S>, len: u64)
         requires id { seat.old.table_id ≡ self.now.table }
         requires live { (seat.old.me.0.holds ≡ true) × (0 < seat.old.me.0.seats) }
-        requires holds { Carries seat.old.me (λ k. (len ≡ length (K.journal_of k.state).events)
-            × Adds seat.old.me.0.worker seat.old.me.0.seen (K.journal_of k.state).events) }
+        requires holds { Carries seat.old.me (λ k. (len ≡ length (K.events_of k.state))
+            × Adds seat.old.me.0.worker seat.old.me.0.seen (K.events_of k.state)) }
         ensures id { seat.new.table_id ≡ seat.old.table_id }
-        ensures shown { Carries seat.old.me (λ k. seat.new.me ≡ (showing seat.old.me.0 (K.journal_of k.state).events, seat.old.me.1)) }
+        ensures shown { Carries seat.old.me (λ k. seat.new.me ≡ (showing seat.old.me.0 (K.events_of k.state), seat.old.me.1)) }
     {
         self.table.shared.store::<Show<K, C, S>>(seat, FRONT, len);
     }
@@ -245,7 +245,7 @@ impl<K: Kept, C: Ledger, S: Ledger> Floor<K, C, S> {
         requires id { seat.old.table_id ≡ self.now.table }
         requires live { (seat.old.me.0.holds ≡ true) × (0 < seat.old.me.0.seats) }
         requires holds { Carries seat.old.me (λ k. Keeps K.job_of K.commits_of K.stale_of seat.old.me.0.start k
-            × ((K.journal_of k.state).events ≡ seat.old.me.0.seen)) }
+            × (K.events_of k.state ≡ seat.old.me.0.seen)) }
         ensures id { seat.new.table_id ≡ seat.old.table_id }
         ensures given { seat.new.me ≡ (giving seat.old.me.0, []) }
     {

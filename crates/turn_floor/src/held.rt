@@ -30,9 +30,9 @@ impl<K: Kept, C: Ledger, S: Ledger> Held<K, C, S> {
         requires parts { (0 < commits.old.share.parts) × (0 < stale.old.share.parts) }
         ensures serves { K.serves self.old.state worker ask result self.new.state }
         ensures job { K.job_of self.new.state ≡ K.job_of self.old.state }
-        ensures adds { Adds worker (K.journal_of self.old.state).events (K.journal_of self.new.state).events }
-        ensures tells { Tells (K.told_of result) (K.journal_of self.old.state).events (K.journal_of self.new.state).events }
-        ensures fits { K.answers (K.job_of self.new.state) (K.journal_of self.new.state).events result }
+        ensures adds { Adds worker (K.events_of self.old.state) (K.events_of self.new.state) }
+        ensures tells { Tells (K.told_of result) (K.events_of self.old.state) (K.events_of self.new.state) }
+        ensures fits { K.answers (K.job_of self.new.state) (K.events_of self.new.state) result }
         ensures counts { (K.commits_of self.new.state ≡ risen (once (K.told_of result).committed) (K.commits_of self.old.state))
             × (K.stale_of self.new.state ≡ risen (once (K.told_of result).stale) (K.stale_of self.old.state)) }
         ensures totals { (self.new.commits.total ≡ self.old.commits.total + once (K.told_of result).committed)

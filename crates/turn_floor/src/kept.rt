@@ -27,7 +27,6 @@ pub struct Tally {
 pub trait Kept {
     ghost use Rattle.std.specs.Prelude.{◌≡◌, ℕ, List};
     ghost use Rattle.stab_code.specs.JobParts.{JobParts};
-    ghost use Rattle.stab_journal.specs.Journal.{Journal};
     ghost use Rattle.stab_journal.specs.Event.{IsWorker};
     ghost use Rattle.stab_journal.specs.declared.event.Event.{Event};
     ghost use Rattle.turn_floor.specs.declared.kept.Told.{Told};
@@ -43,7 +42,7 @@ pub trait Kept {
     // Its job, its history, how many calls committed, and how many were stale.
     ghost job_of: { Self → JobParts };
 
-    ghost journal_of: { Self → Journal };
+    ghost events_of: { Self → List Event };
 
     ghost commits_of: { Self → ℕ };
 
@@ -66,7 +65,7 @@ pub trait Kept {
 
     /// What happened so far.
     fn history(&self) -> &History
-        ensures { result.now ≡ journal_of self.now };
+        ensures { result.now.events ≡ events_of self.now };
 
     /// What an answer tells of its call.
     fn told(answer: &Self::Answer) -> Told
@@ -78,9 +77,9 @@ pub trait Kept {
         requires fits { asks (job_of self.old) worker ask }
         ensures serves { serves self.old worker ask result self.new }
         ensures job { job_of self.new ≡ job_of self.old }
-        ensures adds { Adds worker (journal_of self.old).events (journal_of self.new).events }
-        ensures tells { Tells (told_of result) (journal_of self.old).events (journal_of self.new).events }
+        ensures adds { Adds worker (events_of self.old) (events_of self.new) }
+        ensures tells { Tells (told_of result) (events_of self.old) (events_of self.new) }
         ensures commits { commits_of self.new ≡ risen (once (told_of result).committed) (commits_of self.old) }
         ensures stale { stale_of self.new ≡ risen (once (told_of result).stale) (stale_of self.old) }
-        ensures fits { answers (job_of self.new) (journal_of self.new).events result };
+        ensures fits { answers (job_of self.new) (events_of self.new) result };
 }

@@ -43,7 +43,7 @@ impl<K: Kept, C: Ledger, S: Ledger> Floor<K, C, S> {
         stale: Blank,
     ) -> Result<(Floor<K, C, S>, Vec<Pass<K, C, S>>), FloorRefused<K>>
         requires workers { IsWorker workers }
-        requires empty { (K.journal_of state).events ≡ [] }
+        requires empty { K.events_of state ≡ [] }
         requires commits { (commits.name ≡ C.name) × (commits.parts ≡ C.parts) × (commits.parts ≡ workers) }
         requires stale { (stale.name ≡ S.name) × (stale.parts ≡ S.parts) × (stale.parts ≡ workers) }
         ensures start { IfOk result (λ r. r.0.start
@@ -108,7 +108,7 @@ fn open_table<K: Kept, C: Ledger, S: Ledger>(
     stale: Blank,
 ) -> Result<Opened<K, C, S>, FloorRefused<K>>
     requires workers { IsWorker workers }
-    requires empty { (K.journal_of state).events ≡ [] }
+    requires empty { K.events_of state ≡ [] }
     requires commits { (commits.name ≡ C.name) × (commits.parts ≡ C.parts) }
     requires stale { (stale.name ≡ S.name) × (stale.parts ≡ S.parts) }
     ensures start { IfOk result (λ o. o.floor.start

@@ -25,7 +25,7 @@ impl<K: Kept, C: Ledger, S: Ledger> TableRule<Held<K, C, S>, View, About<K>> for
     ghost use Rattle.turn_floor.specs.Turn.{Turned, first_view};
 
     ghost holds = { λ key. Turned
-        (Keeps K.job_of K.commits_of K.stale_of) (events_in K.journal_of)
+        (Keeps K.job_of K.commits_of K.stale_of) (events_in K.events_of)
         (start_of (K.job_of key.state.value) (K.commits_of key.state.value) (K.stale_of key.state.value) key.workers) };
 
     ghost first = { λ key. first_view (start_of (K.job_of key.state.value) (K.commits_of key.state.value) (K.stale_of key.state.value) key.workers) };
@@ -41,7 +41,7 @@ impl<K: Kept, C: Ledger, S: Ledger> Play<Held<K, C, S>, View> for Take<K, C, S> 
     ghost use Rattle.turn_floor.specs.Plays.{taken};
 
     ghost then = { taken
-        (Keeps K.job_of K.commits_of K.stale_of) (events_in K.journal_of) };
+        (Keeps K.job_of K.commits_of K.stale_of) (events_in K.events_of) };
 }
 
 /// A store of the history's length in the front word, by the holder.
@@ -54,7 +54,7 @@ impl<K: Kept, C: Ledger, S: Ledger> Play<Held<K, C, S>, View> for Show<K, C, S> 
     ghost use Rattle.turn_floor.specs.Plays.{shown};
 
     ghost then = { shown
-        (Keeps K.job_of K.commits_of K.stale_of) (events_in K.journal_of) };
+        (Keeps K.job_of K.commits_of K.stale_of) (events_in K.events_of) };
 }
 
 /// A store of 0 in the turn word, by the holder.

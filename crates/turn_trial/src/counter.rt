@@ -76,7 +76,7 @@ impl Kept for Counter {
 
     ghost job_of = { λ c. c.job };
 
-    ghost journal_of = { λ c. c.history };
+    ghost events_of = { λ c. c.history.events };
 
     ghost commits_of = { λ c. c.commits };
 

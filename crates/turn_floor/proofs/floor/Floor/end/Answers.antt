@@ -14,7 +14,7 @@ returns g c =
     let e = c.requires.every in
     let fin = ends _ _ _ _ _ _ _ e.0 e.1 e.2 c.close_with-closed.ensures.values.2 in
     let same : fin.0 ≡ c.take-held.result = some-injective _ _ (sym fin.1 ∙ c.take-held.ensures.value) in
-    let events = ap (events_in K.journal_of) same in
+    let events = ap (events_in K.events_of) same in
     record {
       keeps = subst (λ s. Keeps K.job_of K.commits_of K.stale_of s c.take-held.result) (ap (λ f. f.start) c.self.view_is) (subst (Keeps K.job_of K.commits_of K.stale_of _) same fin.2);
       seen = (subst (IsPrefix c.args.seat.me.0.seen) events fin.3, subst (λ l. AllByRecursion (λ old. IsPrefix old l) c.args.seat.me.0.olds) events fin.4);

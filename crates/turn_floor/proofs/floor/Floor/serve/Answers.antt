@@ -36,8 +36,8 @@ returns-clause-served g c =
           },
           e.adds,
           e.tells,
-          subst (λ j. g.K.Kept.answers j (g.K.Kept.journal_of k.state).events c.serve-answer.result) job e.fits,
-          c.len-len.ensures.len ∙ ap (λ j. length j.events) c.history.ensures,
+          subst (λ j. g.K.Kept.answers j (g.K.Kept.events_of k.state) c.serve-answer.result) job e.fits,
+          c.len-len.ensures.len ∙ ap length c.history.ensures,
         ),
       ),
     )

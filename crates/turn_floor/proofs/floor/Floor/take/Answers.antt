@@ -13,5 +13,5 @@ compare_exchange-found-requires g c = let since = c.loop.invariant in (
 
 pub returns-then-found-eq0-clause-took : goal.returns-then-found-eq0-clause-took
 returns-then-found-eq0-clause-took g c = let since = c.loop.invariant in
-    subst (λ m. Took (Keeps g.K.Kept.job_of g.K.Kept.commits_of g.K.Kept.stale_of) (events_in g.K.Kept.journal_of) m c.compare_exchange-found.new.seat.me) since.4
+    subst (λ m. Took (Keeps g.K.Kept.job_of g.K.Kept.commits_of g.K.Kept.stale_of) (events_in g.K.Kept.events_of) m c.compare_exchange-found.new.seat.me) since.4
     (c.compare_exchange-found.ensures.2.0 c.if-found-eq0.true)

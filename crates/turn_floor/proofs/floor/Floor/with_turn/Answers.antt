@@ -42,7 +42,7 @@ returns-clause-served g c =
     let job = ap (λ f. f.start.job) floor in
     let worker = ap (λ p. p.worker) view in
     let seen = ap (λ p. p.seen) view in
-    subst (λ (z : JobParts × ℕ × List Event). (before : g.row.K.Denot) × (after : g.row.K.Denot) × K.serves before z.1 c.args.ask c.turn-answer.result.0 after × IsTurn K.job_of K.journal_of z.0 z.1 z.2 (K.told_of c.turn-answer.result.0) c.turn-answer.new.seat.me.0.seen before after)
+    subst (λ (z : JobParts × ℕ × List Event). (before : g.row.K.Denot) × (after : g.row.K.Denot) × K.serves before z.1 c.args.ask c.turn-answer.result.0 after × IsTurn K.job_of K.events_of z.0 z.1 z.2 (K.told_of c.turn-answer.result.0) c.turn-answer.new.seat.me.0.seen before after)
     (λ i. (job i, worker i, seen i)) c.turn-answer.ensures.served
 
 pub returns-clause-fits : goal.returns-clause-fits
