@@ -15,6 +15,7 @@ pub mod Starting
 pub mod Lasted
 pub mod Lasting
 pub mod Lending
+pub mod Recalled
 pub mod Choosing
 pub mod Telling
 pub mod Changed

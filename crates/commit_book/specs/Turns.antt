@@ -1,5 +1,5 @@
 -- Which turn comes next, and what a lease leaves.
-use Rattle.std.specs.Prelude.{◌≡◌, ℕ, Bool, true, false, ◌&&◌, nat_eq, nat_lt, nat_le, List, [], ◌∷◌, ◌++◌, Some, IsSomeAnd, option_map, if◌then◌else◌}
+use Rattle.std.specs.Prelude.{◌≡◌, ◌≤◌, ℕ, Bool, true, false, ◌&&◌, nat_eq, nat_lt, nat_le, List, [], ◌∷◌, ◌++◌, Some, IsSomeAnd, option_map, if◌then◌else◌}
 use Rattle.std.specs.Option.{option_map_or}
 use Rattle.std.specs.Ordering.{nat_cmp}
 use Rattle.std.specs.FinMap as map
@@ -106,3 +106,8 @@ CanRest b = (s : PlainState) → end_of b.job.program (survivors b.history) ≡ 
 abbrev pub RestsIfQuiet : BookView → Turn → Type 0
 RestsIfQuiet b Quiet = CanRest b
 RestsIfQuiet b turn = Unit {0}
+
+-- at Spent the fuel is used up, also where somebody has a lease
+abbrev pub SpentIfSo : BookView → Turn → Type 0
+SpentIfSo b Spent = b.job.fuel ≤ weight_of b.history.events
+SpentIfSo b turn = Unit {0}

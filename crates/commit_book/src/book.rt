@@ -2,11 +2,12 @@
 ghost use Rattle.std.specs.Prelude.{◌≡◌, ◌+◌, ◌≤◌, drop, length, option_copied, IfOk, OnErr};
 ghost use Rattle.stab_journal.specs.Due.{due, released};
 ghost use Rattle.stab_journal.specs.Event.{IsWorker};
+ghost use Rattle.thread_slots.specs.declared.state.State.TheVariants.{Leased};
 ghost use Rattle.commit_book.specs.Book.{IsShown, IsAtStart, fault_at};
-ghost use Rattle.commit_book.specs.Counts.{AreCounts};
+ghost use Rattle.commit_book.specs.Counts.{AreCounts, in_state};
 ghost use Rattle.commit_book.specs.Layout.{without_spare};
 ghost use Rattle.commit_book.specs.References.{value_at};
-ghost use Rattle.commit_book.specs.Turns.{choice_of, IsTurn, IsWork, Lends, RestsIfQuiet, given_back, IsRecalled};
+ghost use Rattle.commit_book.specs.Turns.{choice_of, IsTurn, IsWork, Lends, RestsIfQuiet, SpentIfSo, given_back, IsRecalled};
 ghost use Rattle.commit_book.specs.declared.turn.Choice.TheVariants as choice;
 
 use crate::counts::Counts;
@@ -166,6 +167,7 @@ impl Book {
         requires { IsWorker worker }
         ensures turn { IfOk result (IsTurn self.old self.new worker) }
         ensures rests { IfOk result (RestsIfQuiet self.old) }
+        ensures spent { IfOk result (SpentIfSo self.old) }
         ensures err { OnErr result (self.new ≡ self.old) }
         ensures memory { OnErr result (Lends (choice_of self.old)) }
         ensures shown { IsShown self.new }
@@ -225,6 +227,7 @@ impl Book {
     /// Lets each leased thread be ready again. The leases that are out are then judged as any other.
     pub fn recall(&mut self)
         ensures recalled { IsRecalled self.old self.new }
+        ensures free { in_state Leased self.new ≡ 0 }
         ensures shown { IsShown self.new }
     {
         self.parts.slots.recall();
