@@ -1,0 +1,15 @@
+pub mod Deciding
+pub mod Going
+pub mod Judging
+pub mod Lets
+pub mod Numbering
+pub mod Outcomes
+pub mod Putting
+pub mod Redexes
+pub mod Rising
+pub mod RowLemmas
+pub mod Running
+pub mod Runs
+pub mod Steps
+pub mod Texts
+pub mod World
