@@ -16,7 +16,7 @@ use stab_base::{Fault, NoMemory, Value};
 use std::collections::BTreeMap;
 
 impl PlainState {
-    /// Lets a thread that is there stand at an expression.
+    /// Puts a thread that is there at an expression.
     pub(crate) fn stand(&mut self, t: u32, e: Expr)
         requires { IsSome (standing self.old.state t) }
         ensures { self.new ≡ with_thread self.old t e }
@@ -32,7 +32,7 @@ impl PlainState {
         make_at(&mut self.threads, t, next);
     }
 
-    /// Lets a thread stand at an expression, also where it is new.
+    /// Puts a thread at an expression, also where it is new.
     pub(crate) fn put_thread(&mut self, t: u32, e: Expr) -> Result<(), NoMemory>
         ensures { MatchResult result (λ _. self.new ≡ with_thread self.old t e) (λ _. self.new ≡ self.old) }
     {
@@ -81,7 +81,7 @@ impl PlainState {
     }
 }
 
-// Lets the redex of the expression under a number make its step. Meanwhile a fault stands there.
+// Lets the redex of the expression under a number make its step. Meanwhile a fault is there.
 fn make_at(threads: &mut BTreeMap<u32, Expr>, t: u32, next: Next)
     requires { IsSomeAnd (map.get (map.from_entries {R = nat_cmp} threads.old.entries) t) (λ e. IsSome (redex e)) }
     ensures { let old = map.from_entries {R = nat_cmp} threads.old.entries in

@@ -1,4 +1,4 @@
-//! What steps make that change more than where one thread stands.
+//! What steps make that change more than one thread's expression.
 ghost use Rattle.std.specs.Prelude.{◌≡◌, ℕ, IfOk, IsSome, option_map};
 ghost use Rattle.std.specs.Option.{option_copied};
 ghost use Rattle.plain_language.specs.Effects.{picked_at, picked_by, printed_of, spawned_of, written_of};

@@ -5,7 +5,7 @@ use stab_base::{FnId, NoMemory, Seq};
 use stab_code::{Op, Slots};
 use std::alloc::Global;
 
-/// What a form of an expression is, apart from its parts: a form of a program that is no literal and no variable,
+/// What a form of an expression is, apart from its parts: a form of a program that isn't a literal or a variable,
 /// or what is left of the section that was entered at a number. A block names the slots of the items that are left.
 #[derive(Debug, Drop)]
 pub enum Head {

@@ -14,7 +14,7 @@ use stab_code::Slots;
 #[derive(Drop)]
 pub(crate) enum Instead {
     Put(Expr),
-    /// What is left of the redex, a block, behind its first item: it stays where it is, under the slots of the other items.
+    /// What is left of the redex, a block, after its first item: it stays where it is, under the slots of the other items.
     Pass(Slots),
 }
 

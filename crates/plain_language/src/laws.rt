@@ -22,7 +22,7 @@ ghost use Rattle.plain_language.specs.Shown.{shown};
 ghost use Rattle.plain_language.specs.Touches.{ChangesOnly};
 
 /// An expression has one redex at most: however forms round a redex are found in it, they are the same, and so
-/// is the redex. And the redex that stands within forms is the one that is found.
+/// is the redex. And the redex within forms is the one that is found.
 pub fn one_redex()
     ensures found { (fs : List Frame) (e : Expression) (r : Redex) → AreFrames fs → IsRedexItself e r
         → redex (within fs e) ≡ Some (record r { round = fs }) }
@@ -74,8 +74,8 @@ pub fn counts_of_a_history()
     ensures floor { (floor (run_of sample) ≡ 9) × (floor (run_of more_released) ≡ 12) }
 {}
 
-/// When the section of that history can be taken back, after its first six steps and one more: not behind a cut, nor where
-/// what depends on it made a pin. A pin of another thread changes nothing. A step that is no Enter is no section, and where there
+/// When the section of that history can be taken back, after its first six steps and one more: not after a cut, nor where
+/// what depends on it made a pin. A pin of another thread changes nothing. A step other than Enter is no section, and where there
 /// is none, none can be taken back.
 pub fn sections_of_a_history()
     ensures section { is_revocable (sample_with (Print (by_hand.thread 3))) 2 ≡ true }

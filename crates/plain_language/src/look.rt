@@ -53,7 +53,7 @@ pub enum Look {
     Act(ActKind),
 }
 
-/// How many forms may stand round a redex.
+/// How many forms may be round a redex.
 const MAX_SPINE: usize = 1000;
 
 impl Act<'_> {
@@ -99,7 +99,7 @@ impl Expr {
         }
     }
 
-    /// The act at which the expression stands, if it stands at one.
+    /// The act at which the expression is, if it is at one.
     pub(crate) fn act(&self) -> Option<Act<'_>>
         ensures act { (body : ℕ → Expression) → option_map (act_of body) result ≡ act_in (look body self.now) }
         ensures values { IfSome result HasValues }
@@ -109,7 +109,7 @@ impl Expr {
         act_at(head, parts)
     }
 
-    /// The expression, or a fault where too many forms stand round its redex.
+    /// The expression, or a fault where too many forms are round its redex.
     pub(crate) fn capped(self) -> Expr
         ensures { result ≡ cap self }
     {
@@ -119,7 +119,7 @@ impl Expr {
         }
     }
 
-    /// What the redex makes, where there is one and it is no act.
+    /// What the redex makes, where there is one and it isn't an act.
     pub(crate) fn next_pure(
         &self,
         alloc: Global,
@@ -159,7 +159,7 @@ impl Expr {
         }
     }
 
-    /// The expression after so many pure steps, if it has them.
+    /// The expression after this many pure steps, if it has them.
     pub(crate) fn stepped_times(
         self,
         alloc: Global,

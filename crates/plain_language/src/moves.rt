@@ -15,7 +15,7 @@ use stab_code::Program;
 use std::alloc::Global;
 
 impl Expr {
-    /// After so many pure steps, one at least.
+    /// After this many pure steps, one at least.
     pub(crate) fn after_local(
         &self,
         alloc: Global,
@@ -133,7 +133,7 @@ impl Expr {
         Some(Expr::fault(Fault::NoSection))
     }
 
-    /// With the number that an attempt got.
+    /// The expression after `attempt()` gave `n`.
     pub(crate) fn after_attempt(&self, alloc: Global, n: u64) -> Result<Option<Expr>, NoMemory>
         ensures { (fs : ℕ → Expression) → let g = language fs in IfOk result (λ o. option_map (to g) o ≡ attempt_by g n self.now (look fs self.now)) }
     {

@@ -18,7 +18,7 @@ use std::collections::{BTreeMap, BTreeSet};
 use std::sync::Arc;
 
 impl PlainState {
-    /// The state with these parts. Where a number stands twice in one list, the first counts. An expression may have any form,
+    /// The state with these parts. Where a number is in one list twice, the first counts. An expression may have any form,
     /// also one that no program has, but it may be no deeper than `MAX_EXPR_DEPTH`, which
     /// `are_flat` tests.
     pub fn from_parts(

@@ -1,4 +1,4 @@
-//! What a redex that is no act makes.
+//! What a redex that isn't an act makes.
 ghost use Rattle.std.specs.Prelude.{◌≡◌, ◌&&◌, nat_eq, length, option_and_then, pos, ◌-ℤ◌, not, false, true, None, IfOk, if◌then◌else◌};
 ghost use Rattle.plain_language.specs.Busy.{busy_at, counted, values_in, waiting_parts};
 ghost use Rattle.plain_language.specs.Expression.{value, parts_of, put_parts};
@@ -23,14 +23,14 @@ use stab_base::{Fault, NoMemory, PairFault, Shape, Value};
 use stab_code::{Op, Program, Slots};
 use std::alloc::Global;
 
-/// What a redex that is no act makes: an expression in its place, or a fault.
+/// What a redex that isn't an act makes: an expression in its place, or a fault.
 #[derive(Drop)]
 pub(crate) enum Pure {
     Becomes(Expr),
     Fails(Fault),
 }
 
-/// What a redex that is no act makes, or that it is a block whose first item is passed, with the slots of the others.
+/// What a redex that isn't an act makes, or that it is a block whose first item is passed, with the slots of the others.
 #[derive(Drop)]
 pub(crate) enum Next {
     Makes(Pure),
@@ -226,7 +226,7 @@ fn left_section(alloc: Global, parts: &[Expr]) -> Result<Pure, NoMemory>
     }
 }
 
-/// What a redex that is no act makes.
+/// What a redex that isn't an act makes.
 pub(crate) fn next_at(
     alloc: Global,
     program: &Program,

@@ -69,7 +69,7 @@ impl Expr {
         }
     }
 
-    /// Whether more than so many forms stand round the redex, if there is one.
+    /// Whether more than this many forms are round the redex, if there is one.
     pub(crate) fn passes(&self, limit: usize) -> Option<bool>
         ensures { result ≡ option_map (passes limit) (redex self.now) }
     {

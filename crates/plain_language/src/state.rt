@@ -55,7 +55,7 @@ impl Model for PlainState {
 }
 
 impl PlainState {
-    /// Thread 1 stands at the body of `main`, and there is nothing else. The program is shared and not copied.
+    /// Thread 1 is at the body of `main`, and there is nothing else. The program is shared and not copied.
     pub fn start(alloc: Global, program: &Arc<Program>) -> Result<PlainState, NoMemory>
         ensures { IfOk result (λ s. s ≡ held (arc_value program.now) (start (arc_value program.now))) }
     {
@@ -71,7 +71,7 @@ impl PlainState {
         })
     }
 
-    /// The expression at which a thread stands, if the thread is there.
+    /// The expression of a thread, if the thread is there.
     pub fn expr(&self, t: ThreadId) -> Option<&Expr>
         ensures { option_copied result ≡ standing self.now.state t.0 }
     {

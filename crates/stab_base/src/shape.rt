@@ -5,7 +5,7 @@ ghost use Rattle.stab_base.specs.Datum.{datum_eq, datum_of, depth_of, leaves_of,
 use crate::numbers::{ChanId, NoMemory, RefId, TextId};
 use std::alloc::Global;
 
-/// How deep pairs may stand in each other.
+/// How deep pairs may be nested.
 pub const MAX_DEPTH: u32 = 64;
 
 /// How many parts a value may have that aren't pairs.

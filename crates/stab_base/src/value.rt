@@ -82,7 +82,7 @@ impl Value {
         Value::leaf(Shape::Chan(c))
     }
 
-    /// A reference, by its number. What it holds is no part of the value.
+    /// A reference, by its number. What it holds isn't part of the value.
     pub fn reference(r: RefId) -> Value
         ensures { result ≡ reference_datum r.0 }
     {
@@ -109,7 +109,7 @@ impl Value {
         &self.shape
     }
 
-    /// How deep pairs stand in each other: 0 for what isn't a pair.
+    /// How deep pairs are nested: 0 for what isn't a pair.
     pub fn depth(&self) -> u32
         ensures exact { result ≡ depth_of self.now }
         ensures limit { result ≤ MAX_DEPTH }

@@ -16,7 +16,7 @@ pub fn order_of_writing()
     ensures last_form { (x y : ℕ) → lets_of (let_block x (leaf Unit) (let_block y (leaf Unit) (leaf Unit))) ≡ x ∷ y ∷ [] }
 {}
 
-/// A let is seen behind its own form, to the end of its block.
+/// A let is seen after its own form, to the end of its block.
 pub fn where_lets_are_seen()
     ensures not_in_its_own { (x : ℕ) → open_in (let_block x (leaf (Var x)) (leaf Unit)) ≡ x ∷ [] }
     ensures behind { (x : ℕ) → open_in (let_block x (leaf Unit) (leaf (Var x))) ≡ [] }

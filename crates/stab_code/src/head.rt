@@ -8,7 +8,7 @@ use std::alloc::Global;
 use std::marker::Model;
 use std::sync::Arc;
 
-/// How deep forms may stand in each other. A form without parts has depth 1.
+/// How deep forms may be nested. A form without parts has depth 1.
 pub const MAX_FORM_DEPTH: u32 = 200;
 
 /// An operator between two operands.
@@ -77,7 +77,7 @@ impl Slots {
 }
 
 /// What a form is, apart from its parts: `Block` names the slots of its items, whose forms are its first parts,
-/// and its last part is the form behind them. A `u32` is a slot.
+/// and its last part is the form after them. A `u32` is a slot.
 #[derive(Debug, Drop)]
 pub enum Head {
     Unit,

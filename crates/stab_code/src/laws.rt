@@ -27,7 +27,7 @@ pub fn limits()
     ensures script { MAX_SCRIPT ≡ max_script }
 {}
 
-/// Of a valid program the tree of a node is its head over the trees of its parts, which stand before it, and what it
+/// Of a valid program the tree of a node is its head over the trees of its parts, which come before it, and what it
 /// has follows from what they have.
 pub fn nodes_are_trees()
     ensures below { (p : ProgramParts) → IsValid p → (n : ℕ) (node : NodeParts) → slice_get p.nodes n ≡ Some node → All (λ part. part.0 < n) node.parts }
@@ -70,7 +70,7 @@ pub fn trees_in_order()
     ensures bodies { (p : ProgramParts) (ts : Trees) → p.nodes ≡ nodes_of_all 0 ts → bodies_of p ≡ own_nodes 0 ts → trees_at p (bodies_of p) ≡ ts }
 {}
 
-/// Of a valid program a block has a form for each of its items, of which there is at least one, and one behind them; the
+/// Of a valid program a block has a form for each of its items, of which there is at least one, and one after them; the
 /// function that a node names is there and takes as many arguments as the node has parts; the text is there.
 pub fn heads_fit()
     ensures items { (p : ProgramParts) → IsValid p → (n : ℕ) (node : NodeParts) → slice_get p.nodes n ≡ Some node

@@ -13,7 +13,7 @@ use std::marker::Model;
 /// The parts of each form, by the form's number; each part is the number of a node.
 pub type PartLists = FlatLists<NodeId>;
 
-/// A list of nodes, made of their heads and lists of parts, or by adding one behind the others. Contracts see it as the list.
+/// A list of nodes, made of their heads and lists of parts, or by adding one after the others. Contracts see it as the list.
 #[derive(Drop)]
 pub struct Nodes {
     heads: Vec<Head>,
@@ -70,7 +70,7 @@ impl Nodes {
         self.heads.len()
     }
 
-    /// Adds a node behind the others. `NoMemory` comes also where all nodes together would have more than 4,294,967,295 parts.
+    /// Adds a node after the others. `NoMemory` comes also where all nodes together would have more than 4,294,967,295 parts.
     #[inline(always)]
     pub fn push(&mut self, head: Head, parts: &[NodeId]) -> Result<(), NoMemory>
         ensures { MatchResult result (λ _. self.new ≡ self.old ++ node_of head parts.now ∷ []) (λ _. self.new ≡ self.old) }

@@ -5,7 +5,7 @@ use stab_base::{ChanId, RefId, Seq, ThreadId};
 /// A step of the language. The thread that a label names first makes the step; a `Comm` is made by two.
 #[derive(Clone, Copy, PartialEq, Eq, Debug)]
 pub enum Label {
-    /// So many pure steps.
+    /// A number of pure steps.
     Local(ThreadId, u32),
     /// The second thread is started.
     Spawn(ThreadId, ThreadId),
@@ -36,7 +36,7 @@ pub enum What {
     Step(Label),
     /// The thread took back the section that it entered at this number.
     Undo(ThreadId, Seq),
-    /// So many printed values were handed out by now.
+    /// How many printed values were handed out by now.
     Release(u64),
 }
 

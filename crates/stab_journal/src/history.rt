@@ -92,7 +92,7 @@ impl History {
         Some(&entry.event)
     }
 
-    /// The steps that weren't struck, in order, read where they stand.
+    /// The steps that weren't struck, in order, read in place.
     pub fn survivors(&self) -> Survivors<'_>
         ensures { result ≡ survivors self.now }
     {
@@ -102,7 +102,7 @@ impl History {
         }
     }
 
-    /// The events that a worker made, in order, struck steps included, read where they stand.
+    /// The events that a worker made, in order, struck steps included, read in place.
     pub fn own(&self, worker: u32) -> Own<'_>
         ensures { result ≡ own worker self.now.events }
     {
@@ -123,7 +123,7 @@ impl History {
         }
     }
 
-    /// Adds an event at the end, and answers its number.
+    /// Adds an event at the end. Returns its number.
     pub fn push(&mut self, event: Event) -> Seq
         requires spare { 1 ≤ self.old.spare }
         requires weight { weight_of self.old.events + weigh event.what < 2 ^ 64 }

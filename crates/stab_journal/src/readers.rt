@@ -13,7 +13,7 @@ use std::marker::Model;
 #[derive(Drop)]
 pub struct Survivors<'a> {
     pub(crate) entries: &'a [Entry],
-    /// How many events stand before the first of `entries`.
+    /// How many events come before the first of `entries`.
     pub(crate) passed: u64,
 }
 
@@ -58,7 +58,7 @@ impl<'a> FusedIterator for Survivors<'a> {}
 pub struct Own<'a> {
     pub(crate) worker: u32,
     pub(crate) entries: &'a [Entry],
-    /// How many events stand before the first of `entries`.
+    /// How many events come before the first of `entries`.
     pub(crate) passed: u64,
 }
 

@@ -16,7 +16,7 @@ use plain_language::{as_chan, as_reference};
 use stab_base::{ChanId, FnId, RefId, Value};
 use stab_code::Head;
 
-/// What a thread does to others than itself. Its values are the control's operands.
+/// A step that other threads or a reader of the journal can observe. Its values are the control's operands.
 #[derive(Clone, Copy, PartialEq, Eq, Debug)]
 pub enum Act {
     Spawn(FnId),

@@ -137,7 +137,7 @@ impl Control {
     }
 
     /// The act gets a value. Its place in the text is looked for by the next advance, but where too many forms
-    /// would then stand round what is next, the control is a fault at once.
+    /// would then be round what is next, the control is a fault at once.
     pub fn answer(&mut self, program: &Program, v: Value)
         requires fits { Fits program.now self.old }
         requires act { IsSome (act_next self.old) }

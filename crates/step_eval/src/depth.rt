@@ -1,4 +1,4 @@
-//! How many forms stand round a redex that is still to be found. This takes no memory.
+//! How many forms are round a redex that is still to be found. This takes no memory.
 ghost use Rattle.std.specs.Prelude.{◌≡◌, ◌+◌, ◌<◌, ℕ, IfSome, List, Option, length, nat_lt};
 ghost use Rattle.std.specs.Bool.{OnFalse, OnTrue};
 ghost use Rattle.stab_base.specs.Datum.{Datum};
@@ -37,7 +37,7 @@ fn is_form(p: &Program, n: NodeId) -> bool
     }
 }
 
-/// The first part that counts, is a form and has no value yet, where so many parts have one.
+/// The first part that counts, is a form and has no value yet, where this many parts have one.
 fn form_from(p: &Program, n: NodeId, from: usize, taken: usize) -> Option<NodeId>
     requires there { n.0 < length p.now.nodes }
     requires left { 0 < from → IsLeft (node_at p.now n).head from }
@@ -57,7 +57,7 @@ fn form_from(p: &Program, n: NodeId, from: usize, taken: usize) -> Option<NodeId
     None
 }
 
-/// How many forms stand round the redex within a node's form, where so many parts have values.
+/// How many forms are round the redex within a node's form, where this many parts have values.
 fn depth_of(p: &Program, n: NodeId, from: usize, taken: usize) -> usize
     requires there { n.0 < length p.now.nodes }
     requires left { 0 < from → IsLeft (node_at p.now n).head from }
@@ -86,7 +86,7 @@ fn exceeds(depth: usize, round: usize) -> bool
 }
 
 impl Machine {
-    /// Whether too many forms stand round the redex, where a value is to go into the innermost frame.
+    /// Whether too many forms are round the redex, where a value is to go into the innermost frame.
     fn is_value_too_deep(&self, p: &Program) -> bool
         requires { FramesFit p.now self.now.mark (round_of self.now) }
         ensures { (v : Datum) → result ≡ nat_lt 1000 (spine (within_forms p.now (round_of self.now) (value v))) }
@@ -102,7 +102,7 @@ impl Machine {
         }
     }
 
-    /// Whether too many forms stand round the redex.
+    /// Whether too many forms are round the redex.
     fn is_too_deep(&self, p: &Program) -> bool
         requires { Fits p.now (view_of self.now) }
         ensures { result ≡ nat_lt 1000 (spine (expr_of p.now (view_of self.now))) }
@@ -114,7 +114,7 @@ impl Machine {
         }
     }
 
-    /// A fault, where too many forms stand round the redex that is still to be found.
+    /// A fault, where too many forms are round the redex that is still to be found.
     pub(crate) fn cap_ahead(&mut self, p: &Program)
         requires { Fits p.now (view_of self.old) }
         ensures expr { expr_of p.now (view_of self.new) ≡ cap (expr_of p.now (view_of self.old)) }

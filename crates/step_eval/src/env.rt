@@ -51,7 +51,7 @@ impl Env {
         old
     }
 
-    /// The value of a slot behind the others; those in between, which no variable of what is left names, get unit.
+    /// The value of a slot after the others; those in between, which no variable of what is left names, get unit.
     pub(crate) fn bind(&mut self, slot: u32, v: Value) -> Result<(), NoMemory>
         requires { length self.old ≤ slot }
         ensures { OnOk result (self.new ≡ bound self.old slot v) }
@@ -91,7 +91,7 @@ pub(crate) fn twin(alloc: Global, v: &Value) -> Result<Value, NoMemory>
     }
 }
 
-/// Puts equal values behind those that are there.
+/// Puts equal values after those that are there.
 pub(crate) fn add_copies(
     alloc: Global,
     values: &[Value],

@@ -23,7 +23,7 @@ use std::sync::Arc;
 use std::sync::ledger::Ledger;
 use step_counter::Steps;
 
-/// How many forms may stand round a redex.
+/// How many forms may be round a redex.
 pub(crate) const MAX_SPINE: usize = 1000;
 
 /// What is looked at.
@@ -119,7 +119,7 @@ impl Machine {
         }
     }
 
-    /// Whether no frame stands round the focus.
+    /// Whether there is no frame round the focus.
     pub(crate) fn is_alone(&self) -> bool
         ensures alone { OnTrue result (round_of self.now ≡ []) }
         ensures some { OnFalse result (round_of self.now ≢ []) }

@@ -116,7 +116,7 @@ impl Machine {
         matches!(&self.focus, Focus::Form)
     }
 
-    /// Makes pure steps until so many are made or none is left, and tells how many.
+    /// Makes pure steps until this many are made or none is left. Returns how many.
     fn run(&mut self, p: &Program, quantum: u32) -> Result<u32, NoMemory>
         requires fits { Fits p.now (view_of self.old) }
         requires found { RedexIsFound (view_of self.old) }
@@ -134,7 +134,7 @@ impl Machine {
     }
 }
 
-/// So many pure steps of an equal control, and where they lead.
+/// This many pure steps of an equal control, and where they lead.
 fn advanced<L: Ledger>(
     p: &Program,
     control: &Control,
@@ -149,7 +149,7 @@ fn advanced<L: Ledger>(
     ensures within { IfOk result (λ r. r.0 ≤ quantum) }
     ensures stops { IfOk result (λ r. r.0 < quantum → Rests p.now r.1) }
 {
-    // Nobody reads this count.
+    // The step counter is discarded.
     let mut count: Steps<L> = Steps::new(blank);
     let mut machine = control.machine.boxed_copy(&mut count)?;
     machine.find(p)?;
@@ -157,7 +157,7 @@ fn advanced<L: Ledger>(
     Ok((steps, Control { machine }))
 }
 
-/// Makes pure steps of a control that fits the program until so many are made or none is left.
+/// Makes pure steps of a control that fits the program until the quantum is used or none is left.
 pub fn advance(
     program: &Arc<Program>,
     control: Control,

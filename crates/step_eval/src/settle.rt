@@ -31,7 +31,7 @@ use std::alloc::Global;
 use std::mem;
 use std::sync::Arc;
 
-/// Room for so many values, and for two at least, in a list that has none yet.
+/// Room for this many values, and for two at least, in a list that has none yet.
 #[inline(always)]
 fn make_room(values: &mut Vec<Value>, many: usize) -> Result<(), NoMemory>
     ensures { values.new.items ≡ values.old.items }
@@ -42,7 +42,7 @@ fn make_room(values: &mut Vec<Value>, many: usize) -> Result<(), NoMemory>
     Ok(())
 }
 
-/// Puts the values of the next parts behind those so far, as long as they are literals or variables. Answers
+/// Puts the values of the next parts after those so far, as long as they are literals or variables. Answers
 /// the first part that has to be a value and isn't, if there is one.
 #[inline(always)]
 fn take_leaves(
@@ -180,7 +180,7 @@ impl Machine {
         Ok(())
     }
 
-    /// The innermost frame, which stands round the focus no more.
+    /// The innermost frame, which is no longer round the focus.
     #[inline(always)]
     fn pop_frame(&mut self) -> Result<Option<Popped<Frame>>, NoMemory>
         ensures round { IfOk result (λ popped. round_of self.old ≡ option_to_list (option_map popped_of popped) ++ round_of self.new) }

@@ -30,7 +30,7 @@ use std::mem;
 use std::sync::Arc;
 
 impl Machine {
-    /// A value takes the place of the focus, or the whole is a fault.
+    /// Puts the value at the focus, or ends the thread with the fault.
     fn take(&mut self, p: &Program, made: Result<Value, Fault>) -> Result<(), NoMemory>
         requires { FramesFit p.now self.old.mark (round_of self.old) }
         ensures { OnOk result (Arrives p.now (view_of self.new) (turned p.now (round_of self.old) (outcome_of made))) }
@@ -142,7 +142,7 @@ impl Machine {
         Ok(())
     }
 
-    /// The block at hand is without so many items, and its next has no value yet.
+    /// Drops the first `from` items of the current block.
     fn next_item(&mut self, n: NodeId, from: usize)
         ensures here { here_of self.new ≡ at_form n from [] (arc_value self.old.env) }
         ensures round { round_of self.new ≡ round_of self.old }
@@ -218,7 +218,7 @@ impl Machine {
         }
     }
 
-    /// A fault, where too many forms stand round the redex.
+    /// A fault, where too many forms are round the redex.
     fn cap(&mut self)
         ensures { (p : ProgramParts) (e : Expr) → Arrives p (view_of self.old) e → Arrives p (view_of self.new) (cap e) }
     {

@@ -130,7 +130,7 @@ fn part_of(values: &mut Vec<Value>, second: bool) -> Result<Value, Fault>
     }
 }
 
-/// What a form that is no act makes of the values of its parts, where all its parts count.
+/// What a form that isn't an act makes of the values of its parts, where all its parts count.
 #[inline(always)]
 pub(crate) fn made(
     alloc: Global,

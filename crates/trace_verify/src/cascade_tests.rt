@@ -73,7 +73,7 @@ fn one_number_changed(rt: HostRuntime) -> Result<(), Fail> {
     Ok(())
 }
 
-// The event that fails where this one is dropped, those behind it being numbered anew: mostly the next one of its threads,
+// The event that fails where this one is dropped, those after it being numbered anew: mostly the next one of its threads,
 // for which the language then has no step. 0 where none fails.
 const DROPPED: [usize; 48] = [
     1, 2, 3, 4, 5, 6, 7, 8, 9, 12, 11, 14, 13, 17, 31, 16, 19, 18, 20, 22, 21, 24, 27, 27, 25, 26,

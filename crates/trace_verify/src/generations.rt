@@ -85,7 +85,7 @@ impl Generations {
     }
 }
 
-// The threads that act in a step; one that acts alone stands twice.
+// The threads that act in a step; one that acts alone is given twice.
 fn actors_of(label: Label) -> (ThreadId, ThreadId)
     ensures { (q : ℕ) → has (actors label) q ≡ (nat_eq q result.0.0 || nat_eq q result.1.0) }
 {

@@ -1,4 +1,4 @@
-//! What verdicts say together. The call does nothing, takes no memory and answers nothing; what it says is its contract.
+//! What verdicts say together. The call does nothing, takes no memory and returns nothing; what it says is its contract.
 ghost use Rattle.std.specs.Prelude.{◌≡◌, ℤ, List};
 ghost use Rattle.stab_code.specs.Program.{ProgramParts};
 ghost use Rattle.stab_journal.specs.Journal.{Journal};

@@ -16,12 +16,12 @@ use stab_base::{NoMemory, Seq};
 use stab_journal::{Label, Numbered};
 use std::alloc::Global;
 
-/// The surviving steps up to the last cut, which stay, and those behind it, of which an undo may take some away.
+/// The surviving steps up to the last cut, which stay, and those after it, of which an undo may take some away.
 #[derive(Drop)]
 pub(crate) struct Parts {
     pub(crate) settled: Vec<Numbered>,
     pub(crate) recent: Vec<Numbered>,
-    /// The number of the cut behind which the first step stands, 0 where that is the start.
+    /// The number of the cut after which the first step stands, 0 where that is the start.
     since: u64,
     /// The number of the last cut, that of `since` before the first.
     floor: u64,
@@ -30,7 +30,7 @@ pub(crate) struct Parts {
 }
 
 impl Parts {
-    /// No steps yet, behind the cut with this number.
+    /// No steps yet, after the cut with this number.
     pub(crate) fn new(alloc: Global, since: u64) -> Parts
         ensures parted { IsParted result }
         ensures none { run_in result ≡ [] }
@@ -94,7 +94,7 @@ impl Parts {
         Ok(!has_pin(&divided.goes))
     }
 
-    /// Takes away what is reached from m, which stands behind the last cut, and answers it.
+    /// Removes what is reached from m, which comes after the last cut, and returns it.
     pub(crate) fn lose(&mut self, alloc: Global, m: Seq) -> Result<Vec<Numbered>, NoMemory>
         requires parted { IsParted self.old }
         requires rise { RiseFrom 1 (run_in self.old) }

@@ -48,7 +48,7 @@ impl Replay {
         })
     }
 
-    /// Goes on by an event, or tells what is wrong with it.
+    /// Goes on by an event, or returns what is wrong with it.
     pub(crate) fn follow(
         &mut self,
         alloc: Global,

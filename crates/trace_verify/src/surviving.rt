@@ -14,7 +14,7 @@ use stab_base::{NoMemory, Seq, ThreadId};
 use stab_journal::{Label, Numbered};
 use std::alloc::Global;
 
-/// The steps that no undo took away so far, from the start of a program or from a later state behind a cut, and two states
+/// The steps that no undo took away so far, from the start of a program or from a later state after a cut, and two states
 /// on their way.
 #[derive(Drop)]
 pub struct Surviving {
@@ -68,7 +68,7 @@ impl Surviving {
     }
 
     /// Takes back the section that was entered at m, if the thread is at a stabilize in it and it can be taken back, and
-    /// answers the steps that went.
+    /// returns the steps that went.
     pub fn take_back(
         &mut self,
         alloc: Global,

@@ -37,7 +37,7 @@ pub enum Verdict {
 }
 
 /// Replays a history on the machine of the plain language and judges it. Each step is played once, at an undo again those that
-/// stand behind the last cut, and those up to it once more at most.
+/// come after the last cut, and those up to it once more at most.
 pub fn verify(alloc: Global, job: &Job, history: &History) -> Result<Verdict, NoMemory>
     ensures { IfOk result (IsVerdict job.now.program job.now.script history.now) }
 {

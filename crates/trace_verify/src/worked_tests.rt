@@ -70,7 +70,7 @@ fn sections_of_one_thread(rt: HostRuntime) -> Result<(), Fail> {
     verdicts(alloc, NESTED, &[-1, 0, -1], NESTED_ROWS)
 }
 
-// Another thread writes the reference without having read it: behind the section's write, and before it.
+// Another thread writes the reference without having read it: after the section's write, and before it.
 const BLIND: &str = "
 fn a(r: ref[int]): unit { if probe() < 0 { set(r, 1); stabilize() } else { () } }
 fn d(r: ref[int]): unit { chan[int](); chan[int](); set(r, 2) }

@@ -17,7 +17,7 @@ pub struct Held<K: Kept, C: Ledger, S: Ledger> {
 }
 
 impl<K: Kept, C: Ledger, S: Ledger> Held<K, C, S> {
-    /// Serves the ask, and counts what the answer tells.
+    /// Serves the ask, and counts what the answer says.
     pub(crate) fn serve(
         &mut self,
         worker: u32,

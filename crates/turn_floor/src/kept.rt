@@ -3,7 +3,7 @@ use stab_base::Seq;
 use stab_code::Job;
 use stab_journal::History;
 
-/// What an answer tells of its call: which events it added, and which of the state's counts it raised.
+/// What an answer says of its call: which events it added, and which of the state's counts it raised.
 #[derive(Clone, Copy, PartialEq, Eq, Debug)]
 pub struct Told {
     /// The number of the first event that was added. Where none was it says nothing.
@@ -48,7 +48,7 @@ pub trait Kept {
 
     ghost stale_of: { Self → ℕ };
 
-    // What an answer tells.
+    // What an answer says.
     ghost told_of: { Self.Answer → Told };
 
     // Whether an ask fits a job and a worker, and an answer a job and a history.
@@ -67,7 +67,7 @@ pub trait Kept {
     fn history(&self) -> &History
         ensures { result.now.events ≡ events_of self.now };
 
-    /// What an answer tells of its call.
+    /// What an answer says of its call.
     fn told(answer: &Self::Answer) -> Told
         ensures { result ≡ told_of answer.now };
 
