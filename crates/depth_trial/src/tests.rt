@@ -11,8 +11,9 @@ use std::sync::Arc;
 use std::test::Fail;
 use std::thread::Builder;
 
-// The stack of the thread that goes through the expressions, in bytes.
-const STACK: usize = 0x20_0000;
+// The stack of the thread that goes through the expressions, in bytes: 16 MiB. The build that looks for wrong accesses, whose
+// calls take more of it, needs more than 2 MiB.
+const STACK: usize = 0x100_0000;
 
 // Forms round the redex of a thread that may step.
 const MOST_ROUND: u32 = 1000;
