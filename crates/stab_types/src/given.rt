@@ -3,7 +3,7 @@
 use type_table::TypeId;
 
 /// What an expression gives: a value of a type of the table, or never a value.
-#[derive(Clone, Copy, PartialEq, Eq, Debug)]
+#[derive(Clone, Copy)]
 pub(crate) enum Given {
     Of(TypeId),
     Never,

@@ -12,7 +12,7 @@ use std::alloc::Global;
 use type_table::TypeId;
 
 /// What was seen in a slot before a let took it.
-#[derive(Clone, Copy, Debug)]
+#[derive(Clone, Copy)]
 pub(crate) struct Hidden {
     pub slot: u32,
     pub given: Option<Given>,
