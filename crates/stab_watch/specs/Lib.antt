@@ -1,0 +1,4 @@
+pub mod Counts
+pub mod Known
+pub mod Board
+pub mod Passes
