@@ -1,8 +1,13 @@
 //! Calls, equal controls, faults, and pure steps.
 
 mod alone;
+mod language;
+mod law_calls;
+mod played;
+mod reaching;
 mod thread;
 mod walks;
+mod whole_runs;
 
 use stab_base::{Fault, FnId, NoMemory, Value};
 use stab_code::Program;

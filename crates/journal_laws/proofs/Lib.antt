@@ -22,4 +22,3 @@ pub mod Without
 pub mod Spawned
 pub mod SpawnLost
 pub mod Entries
-pub mod Alone

@@ -1,4 +1,3 @@
-pub mod Alone
 pub mod Entered
 pub mod Known
 pub mod Lines

@@ -6,6 +6,3 @@ mod text;
 
 pub use script::mill_script;
 pub use text::mill_text;
-
-#[cfg(test)]
-mod tests;

@@ -3,8 +3,6 @@
 
 mod log;
 mod recent;
-#[cfg(test)]
-mod tests;
 mod values;
 
 pub use log::PrintLog;

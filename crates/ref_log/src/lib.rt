@@ -6,8 +6,6 @@ mod law;
 mod log;
 mod places;
 mod strike;
-#[cfg(test)]
-mod tests;
 
 pub use law::{last_write_law, sound_law};
 pub use log::RefLog;

@@ -15,6 +15,3 @@ pub use laws::{
     one_step, one_worker,
 };
 pub use whole::{DrillEnd, drill};
-
-#[cfg(test)]
-mod tests;

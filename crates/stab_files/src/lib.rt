@@ -15,6 +15,3 @@ pub use disk_files::DiskFiles;
 pub use mem_files::MemFiles;
 pub use mem_sink::{MemSink, SinkRefused};
 pub use out_sink::OutSink;
-
-#[cfg(test)]
-mod tests;

@@ -22,12 +22,6 @@ impl<D: Drop> Retrying<D> {
     {
         Retrying { device, faults: 0 }
     }
-
-    /// The device, to look at.
-    #[cfg(test)]
-    pub(crate) fn device(&self) -> &D {
-        &self.device
-    }
 }
 
 impl<R: Read + Drop> Retrying<R> {

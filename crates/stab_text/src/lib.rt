@@ -5,8 +5,6 @@ mod fault;
 mod laws;
 mod naming;
 mod program;
-#[cfg(test)]
-mod tests;
 
 pub use fault::TextFault;
 pub use laws::{not_both, one_fault, one_program, program_or_fault};

@@ -2,8 +2,6 @@
 #![tactic(auto)]
 
 mod checking;
-#[cfg(test)]
-mod drill_tests;
 mod drilling;
 mod judging;
 mod laws;
@@ -16,22 +14,8 @@ mod reason_line;
 mod report;
 mod rounds;
 mod running;
-#[cfg(test)]
-mod section_tests;
 mod silent;
-#[cfg(test)]
-mod tests;
-#[cfg(test)]
-mod text_tests;
-#[cfg(test)]
-mod thread_tests;
 mod top;
-#[cfg(test)]
-mod trace_tests;
-#[cfg(test)]
-mod trial;
-#[cfg(test)]
-mod word_tests;
 mod words;
 mod writing;
 

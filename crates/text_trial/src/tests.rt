@@ -1,9 +1,14 @@
-//! Tables of texts, each with what is read from it.
+//! Tables of texts, each with what is read from it, and the files that texts come from.
 
 mod depths;
+mod files;
+mod jobs;
+mod mill;
 mod orders;
 mod probes;
+mod small_stack;
 mod tokens;
+mod traces;
 mod words;
 
 use std::alloc::Global;

@@ -17,6 +17,3 @@ pub use fault::{TraceFault, TraceWriteFault};
 pub use laws::{faults_are_of_no_trace, one_history, traces_are_read, what_is_read_is_text};
 pub use read::read_trace;
 pub use write::write_trace;
-
-#[cfg(test)]
-mod tests;

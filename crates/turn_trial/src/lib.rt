@@ -2,8 +2,6 @@
 #![tactic(auto)]
 
 mod counter;
-#[cfg(test)]
-mod tests;
 mod workers;
 
 pub use counter::{Call, Counter, Reply};

@@ -1,0 +1,195 @@
+//! Counters that real threads serve in turns.
+ghost use Rattle.std.specs.Prelude.{◌≡◌, ◌≤◌};
+ghost use Rattle.stab_journal.specs.Event.{IsWorker};
+
+use stab_base::NoMemory;
+use stab_code::MAX_FUEL;
+use std::alloc::Global;
+use std::marker::Brand;
+use std::sync::Wait;
+use std::sync::ledger::{Blank, Ledger};
+use std::test::Fail;
+use std::thread::Threads;
+use turn_floor::{Floor, Tally};
+use turn_trial::{Counter, Heard, Plan, parted, work_all};
+
+// What is left of a floor.
+#[derive(Drop)]
+struct Closed {
+    state: Counter,
+    tally: Tally,
+    heard: Vec<Heard>,
+}
+
+fn plan(workers: u32, turns: u32) -> Plan
+    requires { IsWorker workers }
+    ensures { result.workers ≡ workers }
+{
+    Plan {
+        workers,
+        turns,
+        last_rests: false,
+    }
+}
+
+// A floor over a counter is made, its workers work in threads of their own, and it is closed.
+fn run<C: Ledger + Send + Sync, S: Ledger + Send + Sync, R: Threads + Wait + Sync>(
+    rt: &R,
+    alloc: Global,
+    commits: Blank,
+    stale: Blank,
+    plan: Plan,
+    fuel: u64,
+) -> Result<Closed, NoMemory>
+    requires workers { IsWorker plan.workers }
+    requires fuel { (1 ≤ fuel) × (fuel ≤ MAX_FUEL) }
+    requires commits { (commits.name ≡ C.name) × (commits.parts ≡ C.parts) × (commits.parts ≡ plan.workers) }
+    requires stale { (stale.name ≡ S.name) × (stale.parts ≡ S.parts) × (stale.parts ≡ plan.workers) }
+{
+    let state = Counter::new(alloc, fuel, 2)?;
+    let Ok((floor, passes)) = Floor::<Counter, C, S>::new(
+        alloc,
+        state,
+        plan.workers,
+        commits,
+        stale,
+    ) else {
+        return Err(NoMemory);
+    };
+    let workers = work_all(rt, alloc, &floor, passes, plan)?;
+    let (passes, heard) = parted(alloc, workers)?;
+    let (state, tally) = floor.close(passes);
+    Ok(Closed {
+        state,
+        tally,
+        heard,
+    })
+}
+
+fn blank(workers: u32) -> Blank
+    ensures { result.parts ≡ workers }
+{
+    Blank::new(u64::from(workers))
+}
+
+fn trial<R: Threads + Wait + Sync>(
+    rt: &R,
+    alloc: Global,
+    plan: Plan,
+    fuel: u64,
+) -> Result<Closed, NoMemory>
+    requires workers { IsWorker plan.workers }
+    requires fuel { (1 ≤ fuel) × (fuel ≤ MAX_FUEL) }
+{
+    let (commits, stale) = (blank(plan.workers), blank(plan.workers));
+    run::<Brand, Brand, R>(rt, alloc, commits, stale, plan, fuel)
+}
+
+// The numbers of a worker's events.
+fn own_numbers(alloc: Global, state: &Counter, worker: u32) -> Result<Vec<u64>, NoMemory> {
+    let mut numbers = Vec::new(alloc);
+    for recorded in state.history.own(worker) {
+        numbers.push(recorded.seq.0)?;
+    }
+    Ok(numbers)
+}
+
+// Whether the state, its history, the tally and what the workers heard agree.
+fn agree(alloc: Global, closed: &Closed) -> Result<bool, NoMemory> {
+    let (mut commits, mut stale, mut events) = (0u64, 0u64, 0u64);
+    let mut worker = 0u32;
+    for heard in &closed.heard {
+        worker = worker.wrapping_add(1);
+        if own_numbers(alloc, &closed.state, worker)? != heard.numbers {
+            return Ok(false);
+        }
+        commits = commits.wrapping_add(heard.commits);
+        stale = stale.wrapping_add(heard.stale);
+        events = events.wrapping_add(heard.numbers.len() as u64);
+    }
+    let state = &closed.state;
+    Ok(
+        closed.tally == Tally { commits, stale }
+            && (state.commits, state.stale) == (commits, stale)
+            && state.history.len() == events,
+    )
+}
+
+// Zero, one and two events by turns, so three turns add three events; every second call commits, and every fifth is stale.
+#[test]
+fn threads_count_together(rt: HostRuntime) -> Result<(), Fail> {
+    for (workers, turns, commits, stale, events) in [
+        (2, 100_000, 100_000, 40_000, 199_998),
+        (4, 100_000, 200_000, 80_000, 399_996),
+        (8, 100_000, 400_000, 160_000, 799_992),
+        (64, 3_000, 96_000, 38_400, 192_000),
+    ] {
+        let closed = trial(&rt, rt.alloc(), plan(workers, turns), MAX_FUEL)?;
+        assert_eq!(rt; closed.tally, Tally { commits, stale });
+        assert_eq!(rt; closed.state.history.len(), events);
+        assert_eq!(rt; closed.heard.len(), workers as usize);
+        assert!(rt; agree(rt.alloc(), &closed)?);
+    }
+    Ok(())
+}
+
+// Three workers add 19,999 events each in 20,000 turns, the last of them in the last turn.
+#[test]
+fn a_pass_rests_while_others_work(rt: HostRuntime) -> Result<(), Fail> {
+    let plan = Plan {
+        last_rests: true,
+        ..plan(4, 20_000)
+    };
+    let closed = trial(&rt, rt.alloc(), plan, 59_997)?;
+    assert_eq!(rt;
+        closed.tally,
+        Tally {
+            commits: 30_000,
+            stale: 12_000
+        }
+    );
+    assert_eq!(rt; closed.state.history.len(), 59_997);
+    assert!(rt; agree(rt.alloc(), &closed)?);
+    let last = closed
+        .heard
+        .last()
+        .map(|heard| (heard.numbers.len(), heard.spent));
+    assert_eq!(rt; last, Some((0, true)));
+    Ok(())
+}
+
+// A counter that isn't spent adds two events at most, and one that is spent none.
+#[test]
+fn a_floor_is_closed_early(rt: HostRuntime) -> Result<(), Fail> {
+    for (fuel, turns, least, greatest) in [
+        (1_000, 100_000, 1_000, 1_001),
+        (1, 1, 0, 0),
+        (1_000, 0, 0, 0),
+    ] {
+        let closed = trial(&rt, rt.alloc(), plan(4, turns), fuel)?;
+        let events = closed.state.history.len();
+        assert!(rt; least <= events && events <= greatest, "{events} events");
+        let spent = closed.heard.iter().all(|heard| heard.spent);
+        assert_eq!(rt; spent, events >= fuel);
+        assert!(rt; agree(rt.alloc(), &closed)?);
+    }
+    Ok(())
+}
+
+#[test]
+fn calls_add_none_one_and_two_events(rt: HostRuntime) -> Result<(), Fail> {
+    // Turns 0 to 5 add 0, 1, 2, 0, 1 and 2 events.
+    for (turns, numbers) in [
+        (1, [].as_slice()),
+        (2, [1].as_slice()),
+        (3, [1, 2, 3].as_slice()),
+        (4, [1, 2, 3].as_slice()),
+        (6, [1, 2, 3, 4, 5, 6].as_slice()),
+    ] {
+        let closed = trial(&rt, rt.alloc(), plan(1, turns), 100)?;
+        let heard = closed.heard.first().map(|heard| heard.numbers.as_slice());
+        assert_eq!(rt; heard, Some(numbers));
+        assert!(rt; agree(rt.alloc(), &closed)?);
+    }
+    Ok(())
+}

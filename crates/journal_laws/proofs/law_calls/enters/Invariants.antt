@@ -1,6 +1,0 @@
-use Rattle.std.proofs.Common.{◌≡◌, drop}
-use Rattle.stab_journal.specs.Floor.{is_entered}
-use Rattle.journal_laws.proofs.law_calls.enters.Given as goal
-
-abbrev pub invariant-loop-step : goal.invariant-loop-step
-invariant-loop-step l = is_entered l.m.0 l.run ≡ is_entered l.m.0 (drop l.step-index l.run)

@@ -1,8 +1,0 @@
-mod hostile;
-mod limits;
-mod missing;
-mod nodes;
-mod productions;
-mod programs;
-mod read;
-mod small_stack;
