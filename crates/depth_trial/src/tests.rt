@@ -57,7 +57,11 @@ fn state_of(
 }
 
 // What is next for thread 1 and thread 2 at the start, and after their steps on a copy.
-fn goes_through(alloc: Global, program: Arc<Program>) -> Result<[Option<Look>; 4], NoMemory> {
+fn goes_through(alloc: Global) -> Result<[Option<Look>; 4], NoMemory> {
+    let Ok(program) = read_program(alloc, b"fn main(): unit {}") else {
+        return Ok([None; 4]);
+    };
+    let program = Arc::new(alloc, program)?;
     let threads = vec![in alloc;
         (ThreadId(1), deepest(alloc)?),
         (ThreadId(2), negations(alloc, MOST_ROUND)?),
@@ -79,13 +83,9 @@ fn goes_through(alloc: Global, program: Arc<Program>) -> Result<[Option<Look>; 4
 #[test]
 fn as_deep_as_may_be(rt: HostRuntime) -> Result<(), Fail> {
     let alloc = rt.alloc();
-    let Ok(program) = read_program(alloc, b"fn main(): unit {}") else {
-        return Err(Fail::from("the text of a program"));
-    };
-    let program = Arc::new(alloc, program)?;
     let thread = Builder::new()
         .stack_size(STACK)
-        .spawn(&rt, move || goes_through(alloc, program))?;
+        .spawn(&rt, move || goes_through(alloc))?;
     // The block's last part has more than 1,000 forms round its redex.
     let wanted = [
         Some(Look::Pure),
