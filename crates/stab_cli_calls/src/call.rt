@@ -27,11 +27,7 @@ impl Gate for Counting {
 }
 
 /// Makes the call that was begun, and keeps what it did.
-pub fn call<R: Threads + Wait + Sync>(
-    rt: &R,
-    alloc: Global,
-    table: &mut Table,
-) -> io::Result<()> {
+pub fn call<R: Threads + Wait + Sync>(rt: &R, alloc: Global, table: &mut Table) -> io::Result<()> {
     let mut files = files_of(alloc, table)?;
     let mut sink = sink_of(alloc, table)?;
     let words = words_of(alloc, table)?;
@@ -50,7 +46,12 @@ fn told<R: Threads + Wait + Sync>(
         calls: AtomicU32::new(0),
     };
     let report = stab(rt, alloc, words, files, sink, &gate);
-    told_of(alloc, &report, sink.bytes(), gate.calls.load(Ordering::SeqCst))
+    told_of(
+        alloc,
+        &report,
+        sink.bytes(),
+        gate.calls.load(Ordering::SeqCst),
+    )
 }
 
 fn told_of(alloc: Global, report: &Report, written: &[u8], waits: u32) -> io::Result<Told> {

@@ -9,7 +9,12 @@ use std::alloc::{AllocError, Global};
 use std::str;
 
 /// What the word asks for of the text's program.
-pub fn of_program(alloc: Global, text: &[u8], word: &str, rest: &str) -> Result<String, AllocError> {
+pub fn of_program(
+    alloc: Global,
+    text: &[u8],
+    word: &str,
+    rest: &str,
+) -> Result<String, AllocError> {
     match program_of(alloc, text) {
         Ok(program) => told(alloc, word, rest, &program),
         Err(_) => String::from_str(alloc, "no program"),
@@ -50,7 +55,10 @@ fn add_program(line: &mut String, program: &Program) -> Result<(), AllocError> {
     let main = program.main().0;
     let nodes = nodes(program);
     let texts = program.texts().len();
-    write!(line, " functions {functions} main {main} nodes {nodes} texts {texts}")
+    write!(
+        line,
+        " functions {functions} main {main} nodes {nodes} texts {texts}"
+    )
 }
 
 // How many nodes there are.

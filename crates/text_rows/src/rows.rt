@@ -34,12 +34,7 @@ fn take<R: AllocGlobal + Print>(rt: &R, text: &mut Vec<u8>, line: &str) -> io::R
 }
 
 // Makes the text, if the line says how.
-fn build(
-    alloc: Global,
-    text: &mut Vec<u8>,
-    word: &str,
-    rest: &str,
-) -> Result<bool, AllocError> {
+fn build(alloc: Global, text: &mut Vec<u8>, word: &str, rest: &str) -> Result<bool, AllocError> {
     let (first, behind) = cut(rest);
     if word == "text" {
         text.clear();

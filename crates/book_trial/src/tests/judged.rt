@@ -57,7 +57,12 @@ pub(super) fn verdict_on(
 }
 
 // The verdict on events is the expected one.
-pub(super) fn is_verdict(alloc: Global, events: &str, verdict: &str, expected: &str) -> Result<(), Fail> {
+pub(super) fn is_verdict(
+    alloc: Global,
+    events: &str,
+    verdict: &str,
+    expected: &str,
+) -> Result<(), Fail> {
     if verdict == expected {
         return Ok(());
     }

@@ -100,10 +100,7 @@ fn every_word_is_read_and_written(rt: HostRuntime) -> Result<(), Fail> {
 #[test]
 fn the_first_header(rt: HostRuntime) -> Result<(), Fail> {
     let table: [(&[u8], &[u8]); 2] = [
-        (
-            b"stab trace 1\nend 0\n",
-            b"stab trace 2\nend 0\n",
-        ),
+        (b"stab trace 1\nend 0\n", b"stab trace 2\nend 0\n"),
         (
             b"stab trace 1\n- 1 w1 print 1\n+ 2 w1 pin 1\nend 2\n",
             b"stab trace 2\n- 1 w1 print 1\n+ 2 w1 pin 1\nend 2\n",
