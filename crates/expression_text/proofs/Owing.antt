@@ -1,11 +1,10 @@
 -- What is owed, in memory.
-use Rattle.std.proofs.Common.{◌≡◌, ℕ, zero, suc, ◌+◌, ◌-◌, ◌<◌, ◌≤◌, Bool, true, false, List, [], ◌∷◌, ◌++◌, length, drop, get_or, add-one, drop-cons, Option, Some, None, refl, sym, ap, subst, ◌∙◌, arith}
-use Rattle.std.specs.List.{AllByRecursion}
+use Rattle.std.proofs.Common.{◌≡◌, ℕ, zero, suc, ◌+◌, ◌-◌, ◌<◌, ◌≤◌, Bool, true, false, List, [], ◌∷◌, ◌++◌, length, drop, get_or, add-one, drop-cons, Some, None, refl, sym, ap, subst, ◌∙◌, arith}
 use Rattle.std.specs.Prelude.{◌==◌}
 use Rattle.std.proofs.lemmas.Bool.{ne_eqb}
 use Rattle.expression_text.specs.Shape as shape
 use Rattle.expression_text.specs.Shape.{expression, val, item, many, next, after, is_done}
-use Rattle.expression_text.specs.Owing.{owed, owed_onto, owed_by, AreSome, Takes, BeginsBy}
+use Rattle.expression_text.specs.Owing.{owed, owed_onto, owed_by, AreSome, BeginsBy}
 use Rattle.expression_text.specs.declared.shaping.Owed.{Owed}
 use Rattle.expression_text.specs.declared.shaping.Owes.{Owes}
 use Rattle.expression_text.specs.declared.word.Word.{Word}

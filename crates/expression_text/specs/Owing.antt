@@ -1,5 +1,5 @@
 -- How what is owed lies in memory: of each kind so many, what is owed first last.
-use Rattle.std.specs.Prelude.{◌≡◌, ℕ, ◌≤◌, Bool, true, false, List, [], ◌∷◌, Option, Some, None}
+use Rattle.std.specs.Prelude.{◌≡◌, ◌≤◌, Bool, true, false, List, [], ◌∷◌, Option, Some, None}
 use Rattle.std.specs.List.{AllByRecursion}
 use Rattle.expression_text.specs.Reading.{Plan}
 use Rattle.expression_text.specs.Shape as shape

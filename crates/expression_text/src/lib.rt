@@ -5,8 +5,10 @@ mod laws;
 mod reading;
 mod shaping;
 mod word;
+mod writing;
 
 pub use laws::texts_read_back;
 pub use reading::read;
 pub use shaping::has_shape;
 pub use word::Word;
+pub use writing::{put_expr, put_shape};

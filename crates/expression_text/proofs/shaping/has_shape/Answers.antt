@@ -1,8 +1,8 @@
-use Rattle.std.proofs.Common.{◌≡◌, ℕ, [], ◌∷◌, List, Some, true, false, refl, sym, ap, subst, ◌∙◌, length, drop, arith}
+use Rattle.std.proofs.Common.{◌≡◌, Some, sym, ap, ◌∙◌, length, arith}
 use Rattle.std.specs.Prelude.{vec_len}
 use Rattle.std.proofs.lemmas.List.{drop_all}
 use Rattle.expression_text.specs.Owing.{owed_by}
-use Rattle.expression_text.specs.Shape.{shape, expression, is_done}
+use Rattle.expression_text.specs.Shape.{shape}
 use Rattle.expression_text.proofs.Owing.{further, too_long, unfit, empty_is}
 use Rattle.expression_text.proofs.shaping.has_shape.Goals as goal
 

@@ -1,4 +1,4 @@
-use Rattle.std.proofs.Common.{◌≡◌, ◌≤◌, arith}
+use Rattle.std.proofs.Common.{◌≤◌, arith}
 use Rattle.expression_text.proofs.Owing.{pushed}
 use Rattle.expression_text.proofs.shaping.owe.Goals as goal
 
