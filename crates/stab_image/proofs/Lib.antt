@@ -1,0 +1,4 @@
+pub mod Naming
+pub mod Finding
+pub mod Cutting
+pub mod Imaging

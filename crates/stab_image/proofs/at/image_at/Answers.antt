@@ -1,0 +1,43 @@
+use Rattle.std.proofs.Common.{ℕ, ℤ, ◌+◌, ◌≤◌, List, length, take, refl, sym, ap, subst, ◌∙◌, arith}
+use Rattle.stab_code.specs.Limits.{max_script}
+use Rattle.stab_text.specs.Text.{IsTextOf}
+use Rattle.stab_image.proofs.Cutting.{events_front, is_there, no_thread_0}
+use Rattle.stab_image.proofs.Imaging.{all_known, few_used, image_stands, text_is}
+use Rattle.stab_image.proofs.at.image_at.Goals as goal
+
+pub replayed-requires-clause-there : goal.replayed-requires-clause-there
+replayed-requires-clause-there c = is_there c.args.history.now.events c.args.q.0 _ c.requires.cut.2
+
+pub by_first-named-requires : goal.by_first-named-requires
+by_first-named-requires c = is_there c.args.history.now.events c.args.q.0 _ c.requires.cut.2
+
+pub generations_of-requires : goal.generations_of-requires
+generations_of-requires c =
+    let es = c.args.history.now.events in
+    let led = c.in_ok-led.ensures in
+    no_thread_0 c.args.job.now.program (take c.args.q.0 es) led.run c.in_ok-led.led.state.state (events_front 1 c.args.q.0 es c.len.ensures.valid.in_range) led.stands
+
+pub invariant_of-result : goal.invariant_of-result
+invariant_of-result c =
+    let p = c.args.job.now.program in
+    let script = c.args.job.now.script in
+    let es = c.args.history.now.events in
+    let q = c.args.q.0 in
+    let led = c.in_ok-led.ensures in
+    let names = c.by_first-named.ensures.names in
+    record {
+      text = subst (λ (bytes : List ℕ). IsTextOf bytes c.in_ok-led.led.state.program) (sym c.in_ok-from_slice.ensures.items) (text_is p script es q c.args.text.now c.in_ok-led.led led c.requires.text);
+      script = subst (λ (ns : List ℤ). length ns ≤ max_script) (sym (c.in_ok-from_slice-2.ensures.items ∙ c.script.ensures.value)) c.script.ensures.limits.script_within;
+      used = few_used p script es q c.in_ok-led.led (is_there es q _ c.requires.cut.2) c.requires.small led;
+      cut = c.requires.small;
+      thread = (omega arith, omega (arith, c.max.ensures, names.thread));
+      chan = (omega arith, omega (arith, names.chan));
+      reference = (omega arith, omega (arith, names.reference));
+      known = all_known p script es q c.in_ok-led.led led;
+    }
+
+pub returns-clause-stands : goal.returns-clause-stands
+returns-clause-stands c =
+    image_stands c.args.job.now.program c.args.job.now.script c.args.history.now.events c.args.q.0 c.requires.cut.0 c.requires.cut.1 _ c.in_ok-led.led c.by_first-named.result
+    c.requires.cut.2 c.in_ok-led.ensures c.by_first-named.ensures.named
+    refl (c.in_ok-from_slice-2.ensures.items ∙ c.script.ensures.value) refl refl (ap (λ (k : ℕ). k + 1) c.max.ensures) refl refl refl c.in_ok-generations_of.ensures

@@ -1,0 +1,5 @@
+pub mod Limits
+pub mod ImageCode
+pub mod View
+pub mod Named
+pub mod Found

@@ -1,0 +1,9 @@
+//! A run at one of its cuts, from which it can go on later.
+#![tactic(auto)]
+
+mod at;
+mod image;
+mod named;
+
+pub use at::image_at;
+pub use image::Image;
