@@ -11,6 +11,8 @@
 #include <time.h>
 #include <unistd.h>
 
+enum { WAITS = 12 };
+
 void stop(const char *why) {
     perror(why);
     exit(2);
@@ -38,8 +40,10 @@ static int take(int file, struct text *text) {
     return count > 0;
 }
 
-static void become(char *const words[], char *const settings[], int out, int err) {
+static void become(char *const words[], char *const settings[], int seconds, int out, int err) {
+    struct rlimit time = {seconds, seconds};
     int nothing = open("/dev/null", O_RDONLY);
+    setrlimit(RLIMIT_CPU, &time);
     for (; *settings; settings++) putenv(*settings);
     dup2(nothing, 0);
     dup2(out, 1);
@@ -67,14 +71,15 @@ void run(char *const words[], char *const settings[], int seconds, struct ended 
     if (pipe2(out, O_CLOEXEC) || pipe2(err, O_CLOEXEC)) stop("pipe");
     pid_t child = fork();
     if (child < 0) stop("fork");
-    if (!child) become(words, settings, out[1], err[1]);
+    if (!child) become(words, settings, seconds, out[1], err[1]);
     close(out[1]);
     close(err[1]);
-    int in_time = listen(out[0], err[0], now() + seconds, ended);
+    int in_time = listen(out[0], err[0], now() + WAITS * seconds, ended);
     if (!in_time) kill(child, SIGKILL);
     close(out[0]);
     close(err[0]);
     if (wait4(child, &status, 0, &usage) != child) stop("wait");
     ended->kilobytes = usage.ru_maxrss;
+    if (WIFSIGNALED(status) && (WTERMSIG(status) == SIGXCPU || WTERMSIG(status) == SIGKILL)) in_time = 0;
     ended->status = !in_time ? OVERDUE : WIFEXITED(status) ? WEXITSTATUS(status) : 256 + WTERMSIG(status);
 }

@@ -14,7 +14,8 @@ struct ended {
 
 enum { OVERDUE = -1 };
 
-// Runs a command with these settings beside the environment's, for so many seconds at most. The texts of an earlier run are used again.
+// Runs a command with these settings beside the environment's, for so many seconds of processor time at most, and twelve times as many
+// by the clock. The texts of an earlier run are used again.
 void run(char *const words[], char *const settings[], int seconds, struct ended *ended);
 
 // Whether the text has these bytes.

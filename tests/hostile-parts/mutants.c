@@ -1,8 +1,8 @@
 // Gives a program files that were changed at random:
 //   mutants KIND SEED FIRST LAST PROGRAM BASE..
 // KIND is program, probes, trace, script or image. Of the files BASE.KIND (BASE.stab for a program) the FIRST-th to the LAST-th
-// change is made, and the program runs on each, beside BASE.stab and BASE.probes. Each run must end within ten seconds with a status
-// that may come, with the line on standard error that goes with it, and with a place in the file where it names one. It prints a
+// change is made, and the program runs on each, beside BASE.stab and BASE.probes. Each run must end within ten seconds of processor
+// time with a status that may come, with the line on standard error that goes with it, and with a place in the file where it names one. It prints a
 // line for each that doesn't and keeps the file as wrong.KIND.NUMBER, and then how often each answer came.
 #include "mutate.h"
 #include <ctype.h>

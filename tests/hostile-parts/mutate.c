@@ -70,20 +70,15 @@ static int is_no_digit(char byte) { return !isdigit((unsigned char)byte); }
 
 static int is_no_name(char byte) { return !isalnum((unsigned char)byte) && byte != '_'; }
 
-// The part of the text round a place that lies between two bytes of which `is_end` holds.
-static size_t part(const struct text *text, size_t place, int (*is_end)(char), size_t *from) {
-    size_t end = place;
-    while (end < text->length && !is_end(text->bytes[end])) end++;
+// A part of the text between two bytes of which `is_end` holds: the one that a place chosen at random lies in, or the next one.
+// A line has its end with it.
+static size_t some_part(const struct text *text, int (*is_end)(char), size_t *from) {
+    size_t place = below(text->length), end;
+    while (place < text->length && is_end(text->bytes[place])) place++;
+    for (end = place; end < text->length && !is_end(text->bytes[end]);) end++;
     while (place > 0 && !is_end(text->bytes[place - 1])) place--;
     *from = place;
-    return end - place;
-}
-
-// A part that a place chosen at random lies in, or the next one.
-static size_t some_part(const struct text *text, int (*is_end)(char), size_t *from) {
-    size_t place = below(text->length);
-    while (place < text->length && is_end(text->bytes[place])) place++;
-    return part(text, place, is_end, from);
+    return end - place + (is_end == is_break && end < text->length);
 }
 
 // Writes one part of the text in place of another, or before it.
@@ -111,6 +106,11 @@ static void repeat_run(struct text *text) {
     put(text, below(text->length + 1), 0, text->bytes + from, length);
 }
 
+static void remove_line(struct text *text) {
+    size_t from, length = some_part(text, is_break, &from);
+    put(text, from, length, "", 0);
+}
+
 static void remove_run(struct text *text, size_t most) {
     size_t from = below(text->length), length = below(most) + 1;
     if (length > text->length - from) length = text->length - from;
@@ -122,6 +122,17 @@ static void change_byte(struct text *text, size_t removed) {
     if (text->length) put(text, below(text->length), removed, &byte, 1);
 }
 
+// A change that mostly leaves lines and words in their forms.
+static void exchange(struct text *text) {
+    switch (below(6)) {
+    case 0: copy_part(text, is_break, 0); break;
+    case 1: copy_part(text, is_break, 1); break;
+    case 2: remove_line(text); break;
+    case 3: case 4: copy_part(text, is_no_digit, 0); break;
+    case 5: copy_part(text, is_no_name, 0);
+    }
+}
+
 static void change(struct text *text, const struct text *other, enum form form) {
     size_t from;
     switch (below(20)) {
@@ -131,8 +142,7 @@ static void change(struct text *text, const struct text *other, enum form form) 
     case 3: remove_run(text, 4); break;
     case 4: remove_run(text, 16); break;
     case 5: repeat_run(text); break;
-    case 6: case 7: copy_part(text, is_break, 0); break;
-    case 8: copy_part(text, is_break, 1); break;
+    case 6: case 7: case 8: exchange(text); break;
     case 9: case 10: copy_part(text, is_space, 0); break;
     case 11: case 12: case 13: copy_part(text, is_no_name, 0); break;
     case 14: put_word(text, form); break;
@@ -165,6 +175,10 @@ static void renumber(struct text *text) {
 
 void mutate(struct text *text, const struct text *other, enum form form, uint64_t seed, uint64_t number) {
     state = (seed * FORMS + form) * 1000003 + number;
-    for (size_t left = below(2) ? 1 : below(6) + 1; left > 0; left--) change(text, other, form);
-    if (form == TRACE && below(4)) renumber(text);
+    int is_gentle = below(2);
+    for (size_t left = below(2) ? 1 : below(6) + 1; left > 0; left--) {
+        if (is_gentle) exchange(text);
+        else change(text, other, form);
+    }
+    if (form == TRACE && below(8)) renumber(text);
 }
