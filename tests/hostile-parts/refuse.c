@@ -1,7 +1,8 @@
 // Comes between a program and the C library, and disturbs its calls:
 //   cc -O2 -shared -fPIC -o refuse.so refuse.c
 //   REFUSE=KIND [AT=N] [COUNTS=FILE] LD_PRELOAD=./refuse.so PROGRAM WORD..
-// The N-th call of one kind fails: alloc (no memory), open, read, write (to another file than 2), error (a write to file 2).
+// The N-th call of one kind fails: alloc (no memory), open, read, write (to another file than 2), error (a write to file 2), or takes
+// nothing: nothing (a write to another file than 2).
 // interrupt: each call of open, read and write fails first as a signal interrupts it, and so does the call after each that didn't.
 // short: each read and write moves one byte. scarce: after the N-th allocation each fails.
 // COUNTS gets how many calls there were: alloc open read write error.
@@ -21,7 +22,7 @@ static const char *const names[KINDS] = {"alloc", "open", "read", "write", "erro
 static long counts[KINDS];
 static long at;
 static enum kind refused = KINDS;
-static int is_on, interrupts, is_short, is_scarce, was_interrupted;
+static int is_on, interrupts, is_short, is_scarce, takes_nothing, was_interrupted;
 
 extern void *__libc_malloc(size_t);
 extern void *__libc_calloc(size_t, size_t);
@@ -44,6 +45,8 @@ __attribute__((constructor)) static void begin(void) {
     interrupts = kind && !strcmp(kind, "interrupt");
     is_short = kind && !strcmp(kind, "short");
     is_scarce = kind && !strcmp(kind, "scarce");
+    takes_nothing = kind && !strcmp(kind, "nothing");
+    if (takes_nothing) refused = WRITE;
     is_on = 1;
 }
 
@@ -95,7 +98,7 @@ ssize_t read(int file, void *bytes, size_t size) {
 }
 
 ssize_t write(int file, const void *bytes, size_t size) {
-    if (fails(file == 2 ? ERROR : WRITE, EIO)) return -1;
+    if (fails(file == 2 ? ERROR : WRITE, EIO)) return takes_nothing ? 0 : -1;
     return next_write(file, bytes, is_short && size > 1 ? 1 : size);
 }
 

@@ -18,6 +18,8 @@ static struct ended whole, ended;
 
 static int is_kind(const char *kind) { return !strcmp(refuse + strlen("REFUSE="), kind); }
 
+static int is_write(void) { return is_kind("write") || is_kind("nothing"); }
+
 // Whether standard error has a status's line, or nothing of it, as where there is no memory to write it.
 static int says(const char *name) {
     const char *text = ended.err.bytes;
@@ -49,8 +51,8 @@ static int is_due(long number) {
     if (is_kind("error") || is_kind("short") || is_kind("interrupt") || !is_beginning(&ended.out, &whole.out)) return 0;
     switch (ended.status) {
     case NO_MEMORY: return is_kind("alloc") || is_kind("scarce") ? says("NoMemory") : 0;
-    case FILE_FAULT: return is_kind("write") || ended.out.length ? 0 : says("FileFault");
-    case SINK_FAULT: return is_kind("write") && has_lines(number - 1) ? says("SinkFault") : 0;
+    case FILE_FAULT: return is_write() || ended.out.length ? 0 : says("FileFault");
+    case SINK_FAULT: return is_write() && has_lines(number - 1) ? says("SinkFault") : 0;
     default: return 0;
     }
 }
@@ -64,7 +66,7 @@ static long count_of(const char *path) {
     fclose(file);
     for (int k = 0; k < 5; k++)
         if (is_kind(kinds[k])) return count[k];
-    return is_kind("scarce") ? count[0] : 1;
+    return is_kind("scarce") ? count[0] : is_kind("nothing") ? count[3] : 1;
 }
 
 static int refuse_one(char **words, long number) {
