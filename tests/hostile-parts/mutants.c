@@ -2,8 +2,8 @@
 //   mutants KIND SEED FIRST LAST PROGRAM BASE..
 // KIND is program, probes, trace, script or image. Of the files BASE.KIND (BASE.stab for a program) the FIRST-th to the LAST-th
 // change is made, and the program runs on each, beside BASE.stab and BASE.probes. Each run must end within ten seconds of processor
-// time with a status that may come, with the line on standard error that goes with it, and with a place in the file where it names one. It prints a
-// line for each that doesn't and keeps the file as wrong.KIND.NUMBER, and then how often each answer came.
+// time with a status that may come, with the line on standard error that goes with it, and with a place in the file where it names
+// one. It prints a line for each that doesn't and keeps the file as wrong.KIND.NUMBER, and then how often each answer came.
 #include "mutate.h"
 #include <ctype.h>
 #include <stdio.h>
@@ -12,8 +12,9 @@
 
 enum { SECONDS = 10, ANSWERS = 64 };
 
-static const char *const names[] = {"Done", "Held", "BadWords", "BadText", "NoFile", "TooBig", "FileFault", "SinkFault", "Spent", "NoMemory",
-                                    "BadProbes", "BadTrace", "BadScript", "No", "NotBuilt", "Untyped", "NoCut", "BadImage"};
+static const char *const names[] = {
+    "Done", "Held", "BadWords", "BadText", "NoFile", "TooBig", "FileFault", "SinkFault", "Spent", "NoMemory",
+    "BadProbes", "BadTrace", "BadScript", "No", "NotBuilt", "Untyped", "NoCut", "BadImage"};
 
 static struct { char name[64]; long count; } answers[ANSWERS];
 static char program_file[4096], probes_file[4096], mutant_file[64];
@@ -37,13 +38,20 @@ static void count_answer(const char *line) {
     }
 }
 
+// How many lines the file has.
+static size_t lines(void) {
+    size_t count = 0;
+    for (size_t k = 0; k < mutant.length; k++) count += mutant.bytes[k] == '\n';
+    return count;
+}
+
 // Whether the numbers of the line lie in the file, or for a verdict among its events.
 static int is_within(const char *line, int status) {
     size_t numbers[2] = {0, 0};
     int count = 0;
     while ((line = strchr(line, ' ')) != NULL)
         if (isdigit((unsigned char)*++line) && count < 2) numbers[count++] = strtoull(line, NULL, 10);
-    if (status == 13) return count == 1 && numbers[0] >= 1;
+    if (status == 13) return count == 1 && numbers[0] >= 1 && numbers[0] < lines();
     if (count == 2 && status != 3) return 0;
     return count == 0 || (numbers[0] < mutant.length && numbers[1] <= mutant.length - numbers[0]);
 }
@@ -150,7 +158,8 @@ int main(int count, char **words) {
         return 2;
     }
     long first = atol(words[3]), last = atol(words[4]);
-    for (long number = first; number <= last; number++) wrong += try_one(words[5], form, strtoull(words[2], NULL, 10), number, words + 6, count - 6);
+    uint64_t seed = strtoull(words[2], NULL, 10);
+    for (long number = first; number <= last; number++) wrong += try_one(words[5], form, seed, number, words + 6, count - 6);
     printf("%s: %ld files, %ld wrong\n", words[1], last - first + 1, wrong);
     for (int k = 0; k < ANSWERS && answers[k].count; k++) printf("  %ld %s\n", answers[k].count, answers[k].name);
     return wrong > 0;

@@ -10,19 +10,21 @@ const char *const form_names[FORMS] = {"program", "probes", "trace", "script", "
 
 // What is put into a text of each form.
 static const char *const words[FORMS][33] = {
-    {"fn ", "let ", "if ", "else ", "true", "false", "unit", "int", "chan[", "ref(", "get(", "set(", "send(", "recv(", "pick(", "spawn ",
-     "stable ", "stabilize()", "cut()", "print(", "probe()", "fst(", "snd(", "pin()", "attempt()", "(", ")", "{", "}", ";", "//", "\""},
+    {"fn ", "let ", "if ", "else ", "true", "false", "unit", "int", "chan[", "ref(", "get(", "set(", "send(", "recv(", "pick(",
+     "spawn ", "stable ", "stabilize()", "cut()", "print(", "probe()", "fst(", "snd(", "pin()", "attempt()", "(", ")", "{", "}",
+     ";", "//", "\""},
     {"-", "\n", "\r\n", " ", "\t", "0", "-1", "+", "x", "\r", "--", "- 1", "00", "-0"},
-    {"+ ", "- ", "! ", "= ", "w1 ", "w64 ", "local ", "spawn ", "newchan ", "comm ", "newref ", "get ", "set ", "enter ", "cut ", "print ",
-     "probe ", "refuse ", "undo ", "pin ", "attempt ", "release ", "end ", "\n", "  ", "-", "stab trace 1\n", "stab trace 2\n"},
+    {"+ ", "- ", "! ", "= ", "w1 ", "w64 ", "local ", "spawn ", "newchan ", "comm ", "newref ", "get ", "set ", "enter ", "cut ",
+     "print ", "probe ", "refuse ", "undo ", "pin ", "attempt ", "release ", "end ", "\n", "  ", "-", "stab trace 1\n", "stab trace 2\n"},
     {"lease ", "step ", "commit ", "lease 1\n", "lease 2\n", "commit 1\n", "commit 2\n", "step 1\n", "64", "65", "\r\n", "\n\n", " ", "\t"},
     {"thread ", "chan ", "ref ", "out ", "probes ", "next ", "end\n", "sect ", "fault ", "b ", "l ", "e ", "v ", "u ", "t ", "f ", "i ", "s ",
      "c ", "r ", "p ", "? ", "call ", "spawn ", "stable ", "~ ", ", ", "\n", " ", "-"},
 };
 
-static const char *const numbers[] = {"0", "1", "2", "3", "63", "64", "65", "999", "1000", "1001", "10000", "2147483648", "4000000000", "4000000001",
-                                      "4294967295", "4294967296", "9223372036854775807", "9223372036854775808", "18446744073709551615",
-                                      "18446744073709551616", "999999999999999999999999999999", "007", "-0", "-1"};
+static const char *const numbers[] = {
+    "0", "1", "2", "3", "63", "64", "65", "999", "1000", "1001", "10000", "2147483648", "4000000000", "4000000001", "4294967295",
+    "4294967296", "9223372036854775807", "9223372036854775808", "18446744073709551615", "18446744073709551616",
+    "999999999999999999999999999999", "007", "-0", "-1"};
 
 static uint64_t state;
 

@@ -25,7 +25,8 @@ static int says(const char *name) {
     const char *text = ended.err.bytes;
     size_t length = ended.err.length, word = strlen(name);
     if (!length) return 1;
-    return length > word + 6 && !memcmp(text, "stab: ", 6) && !memcmp(text + 6, name, word) && memchr(text, '\n', length) == text + length - 1;
+    return length > word + 6 && !memcmp(text, "stab: ", 6) && !memcmp(text + 6, name, word) &&
+           memchr(text, '\n', length) == text + length - 1;
 }
 
 static int is_beginning(const struct text *text, const struct text *of) {
@@ -78,12 +79,25 @@ static int refuse_one(char **words, long number) {
     return 1;
 }
 
+// Disturbs one call after the other, and counts what came.
+static long refuse_all(char **words, long all, long first, long each) {
+    long runs = 0, wrong = 0, same = 0, answers[NO_MEMORY + 1] = {0};
+    for (long number = 1; number <= all; number += number < first ? 1 : each) {
+        runs++;
+        wrong += refuse_one(words, number);
+        if (is_as_undisturbed()) same++;
+        else if (ended.status >= 0 && ended.status <= NO_MEMORY) answers[ended.status]++;
+    }
+    printf("%s: %ld of %ld, %ld as undisturbed, %ld FileFault, %ld SinkFault, %ld NoMemory, %ld wrong\n", refuse + strlen("REFUSE="),
+           runs, all, same, answers[FILE_FAULT], answers[SINK_FAULT], answers[NO_MEMORY], wrong);
+    return wrong;
+}
+
 int main(int count, char **words) {
     if (count < 6) {
         fprintf(stderr, "sweep LIBRARY KIND FIRST EACH PROGRAM WORD..\n");
         return 2;
     }
-    long first = atol(words[3]), each = atol(words[4]), runs = 0, wrong = 0, answers[3] = {0}, same = 0;
     snprintf(preload, sizeof preload, "LD_PRELOAD=%s", words[1]);
     snprintf(refuse, sizeof refuse, "REFUSE=none");
     snprintf(counts, sizeof counts, "COUNTS=%s.counts", words[1]);
@@ -91,13 +105,5 @@ int main(int count, char **words) {
     snprintf(refuse, sizeof refuse, "REFUSE=%s", words[2]);
     long all = count_of(counts + strlen("COUNTS="));
     snprintf(counts, sizeof counts, "COUNTS=");
-    for (long number = 1; number <= all; number += number < first ? 1 : each) {
-        runs++;
-        wrong += refuse_one(words + 5, number);
-        same += is_as_undisturbed();
-        if (ended.status >= FILE_FAULT && ended.status <= NO_MEMORY && !is_as_undisturbed()) answers[ended.status == NO_MEMORY ? 2 : ended.status - FILE_FAULT]++;
-    }
-    printf("%s: %ld of %ld, %ld as undisturbed, %ld FileFault, %ld SinkFault, %ld NoMemory, %ld wrong\n", words[2], runs, all, same, answers[0],
-           answers[1], answers[2], wrong);
-    return wrong > 0;
+    return refuse_all(words + 5, all, atol(words[3]), atol(words[4])) > 0;
 }
