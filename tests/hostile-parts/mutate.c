@@ -17,8 +17,8 @@ static const char *const words[FORMS][33] = {
     {"+ ", "- ", "! ", "= ", "w1 ", "w64 ", "local ", "spawn ", "newchan ", "comm ", "newref ", "get ", "set ", "enter ", "cut ",
      "print ", "probe ", "refuse ", "undo ", "pin ", "attempt ", "release ", "end ", "\n", "  ", "-", "stab trace 1\n", "stab trace 2\n"},
     {"lease ", "step ", "commit ", "lease 1\n", "lease 2\n", "commit 1\n", "commit 2\n", "step 1\n", "64", "65", "\r\n", "\n\n", " ", "\t"},
-    {"thread ", "chan ", "ref ", "out ", "probes ", "next ", "end\n", "sect ", "fault ", "b ", "l ", "e ", "v ", "u ", "t ", "f ", "i ", "s ",
-     "c ", "r ", "p ", "? ", "call ", "spawn ", "stable ", "~ ", ", ", "\n", " ", "-"},
+    {"thread ", "chan ", "ref ", "out ", "probes ", "next ", "end\n", "sect ", "fault ", "b ", "l ", "e ", "v ", "u ", "t ", "f ", "i ",
+     "s ", "c ", "r ", "p ", "? ", "call ", "spawn ", "stable ", "~ ", ", ", "\n", " ", "-"},
 };
 
 static const char *const numbers[] = {
