@@ -147,10 +147,10 @@ fn a_value_of_4096_leaves_is_copied(rt: HostRuntime) -> Result<(), Fail> {
     let alloc = rt.alloc();
     let mut value = Value::int(7);
     for _ in 0..12 {
-        let half = value.copy(alloc).map_err(|_| Fail::from("no memory"))?;
+        let half = value.copy().map_err(|_| Fail::from("no memory"))?;
         value = Value::pair(alloc, half, value).map_err(|_| Fail::from("no pair"))?;
     }
-    let copy = value.copy(alloc).map_err(|_| Fail::from("no memory"))?;
+    let copy = value.copy().map_err(|_| Fail::from("no memory"))?;
     assert_eq!(rt; copy.leaves(), 4_096);
     assert!(rt; copy.same(&value));
     Ok(())

@@ -12,6 +12,7 @@ pub mod Whole
 pub mod Nodes
 pub mod Redexes
 pub mod Scopes
+pub mod Seen
 pub mod Searching
 pub mod Standing
 pub mod Stepping

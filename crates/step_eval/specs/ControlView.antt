@@ -48,6 +48,18 @@ focus_view (focus.Fault k) here = fault k
 abbrev pub view_of : Machine → ControlView
 view_of m = record { focus = focus_view m.focus (here_of m); round = round_of m; mark = m.mark }
 
+-- a control that looks at this, in the frames of the machine
+abbrev pub within_round : FocusView → Machine → ControlView
+within_round what m = record { focus = what; round = round_of m; mark = m.mark }
+
+-- a control that looks at this in place of what the machine looks at; nothing stands round a fault
+abbrev pub seen_at : Focus → Machine → ControlView
+seen_at (focus.Begun n) m = within_round (begun n (here_of m).env) m
+seen_at focus.Form m = within_round (settled (here_of m)) m
+seen_at (focus.Act a) m = within_round (acting a (here_of m)) m
+seen_at (focus.Value v) m = within_round (value v) m
+seen_at (focus.Fault k) m = record { focus = fault k; round = []; mark = None }
+
 module _ (p : ProgramParts) where
   -- what is looked at, as an expression
   abbrev pub focus_expr : FocusView → Expr

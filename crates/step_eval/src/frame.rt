@@ -40,6 +40,13 @@ impl Frame {
         ensures step { steps.new ≡ steps.old + 1 }
     {
         steps.tick();
+        self.again()
+    }
+
+    /// The same, where nobody counts.
+    pub(crate) fn again(&self) -> Result<Frame, NoMemory>
+        ensures { IfOk result (λ f. f ≡ self.now) }
+    {
         Ok(Frame {
             site: self.site,
             done: copied(*self.done.allocator(), self.done.as_slice())?,

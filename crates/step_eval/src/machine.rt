@@ -3,9 +3,9 @@ ghost use Rattle.std.specs.Prelude.{◌≡◌, ◌≢◌, ◌<◌, ◌≤◌, �
 ghost use Rattle.std.specs.Bool.{OnFalse, OnTrue};
 ghost use Rattle.std.specs.Arc.{arc_value};
 ghost use Rattle.step_eval.specs.ControlView.{view_of};
-ghost use Rattle.step_eval.specs.Entries.{entered};
 ghost use Rattle.step_eval.specs.FrameView.{FrameView};
 ghost use Rattle.step_eval.specs.Fits.{outside};
+ghost use Rattle.step_eval.specs.Sections.{entry_of};
 ghost use Rattle.step_eval.specs.View.{here_of, round_of};
 ghost use Rattle.step_eval.specs.declared.machine.Focus.TheVariants as Focus;
 ghost use Rattle.step_eval.specs.declared.rest.Rest.TheVariants.{Done, Going};
@@ -20,8 +20,6 @@ use stab_base::{Fault, NoMemory, Seq, Value};
 use stab_code::NodeId;
 use std::alloc::Global;
 use std::sync::Arc;
-use std::sync::ledger::Ledger;
-use step_counter::Steps;
 
 /// How many forms may be round a redex.
 pub(crate) const MAX_SPINE: usize = 1000;
@@ -37,6 +35,31 @@ pub(crate) enum Focus {
     Act(Act),
     Value(Value),
     Fault(Fault),
+}
+
+impl Focus {
+    /// The same once more.
+    pub(crate) fn copy(&self) -> Result<Focus, NoMemory>
+        ensures { IfOk result (λ f. f ≡ self.now) }
+    {
+        match self {
+            Focus::Begun(n) => Ok(Focus::Begun(*n)),
+            Focus::Form => Ok(Focus::Form),
+            Focus::Act(a) => Ok(Focus::Act(*a)),
+            Focus::Value(v) => Ok(Focus::Value(v.copy()?)),
+            Focus::Fault(k) => Ok(Focus::Fault(*k)),
+        }
+    }
+
+    /// A node is begun, or its value is looked at.
+    pub(crate) fn entered(n: NodeId, value: Option<Value>) -> Focus
+        ensures { result ≡ entry_of n value }
+    {
+        match value {
+            None => Focus::Begun(n),
+            Some(v) => Focus::Value(v),
+        }
+    }
 }
 
 /// A thread's text on its way.
@@ -74,26 +97,13 @@ impl Machine {
         }
     }
 
-    /// A machine that is to evaluate a node with these values of variables, or has its value, and nothing else.
-    pub(crate) fn entered(alloc: Global, n: NodeId, value: Option<Value>, env: Arc<Env>) -> Machine
-        ensures { view_of result ≡ entered n value (arc_value env) }
-    {
-        match value {
-            None => Machine::alone(alloc, Focus::Begun(n), n, env),
-            Some(v) => Machine::alone(alloc, Focus::Value(v), n, env),
-        }
-    }
-
-    /// The same of no variables, in a box.
-    pub(crate) fn boxed(
-        alloc: Global,
-        n: NodeId,
-        value: Option<Value>,
-    ) -> Result<Box<Machine>, NoMemory>
-        ensures { IfOk result (λ m. view_of m.value ≡ entered n value []) }
+    /// A machine in no variables and no frames, which others can share.
+    pub(crate) fn shared(alloc: Global, n: NodeId) -> Result<Arc<Machine>, NoMemory>
+        ensures round { IfOk result (λ m. round_of (arc_value m) ≡ []) }
+        ensures mark { IfOk result (λ m. (arc_value m).mark ≡ None) }
     {
         let env = Arc::new(alloc, Env::new(Vec::new(alloc)))?;
-        let machine = Box::new(alloc, Machine::entered(alloc, n, value, env))?;
+        let machine = Arc::new(alloc, Machine::alone(alloc, Focus::Form, n, env))?;
         Ok(machine)
     }
 
@@ -169,45 +179,16 @@ impl Machine {
         self.mark = None;
     }
 
-    /// An equal machine, in at most one step: it shares all frames but the innermost.
-    pub(crate) fn copied<L: Ledger>(&self, steps: &mut Steps<L>) -> Result<Machine, NoMemory>
-        ensures same { IfOk result (λ m. view_of m ≡ view_of self.now) }
-        ensures steps { steps.new ≤ steps.old + 1 }
-    {
-        let top = match &self.top {
-            None => None,
-            Some(frame) => Some(frame.copy(steps)?),
-        };
-        self.keep(top)
-    }
-
-    /// The same in a box.
-    pub(crate) fn boxed_copy<L: Ledger>(
-        &self,
-        steps: &mut Steps<L>,
-    ) -> Result<Box<Machine>, NoMemory>
-        ensures same { IfOk result (λ m. view_of m.value ≡ view_of self.now) }
-        ensures steps { steps.new ≤ steps.old + 1 }
-    {
-        let machine = self.copied(steps)?;
-        let boxed = Box::new(self.alloc, machine)?;
-        Ok(boxed)
-    }
-
-    /// The same machine once more, which has this copy of its innermost frame and shares the others.
-    fn keep(&self, top: Option<Frame>) -> Result<Machine, NoMemory>
-        requires { top ≡ self.now.top }
-        ensures focus { IfOk result (λ m. m.focus ≡ self.now.focus) }
+    /// The same machine once more, which looks at this. It shares all frames but the innermost.
+    pub(crate) fn copied(&self, focus: Focus) -> Result<Machine, NoMemory>
+        ensures focus { IfOk result (λ m. m.focus ≡ focus) }
         ensures here { IfOk result (λ m. here_of m ≡ here_of self.now) }
         ensures round { IfOk result (λ m. round_of m ≡ round_of self.now) }
         ensures mark { IfOk result (λ m. m.mark ≡ self.now.mark) }
     {
-        let focus = match &self.focus {
-            Focus::Begun(n) => Focus::Begun(*n),
-            Focus::Form => Focus::Form,
-            Focus::Act(a) => Focus::Act(*a),
-            Focus::Value(v) => Focus::Value(v.copy(self.alloc)?),
-            Focus::Fault(k) => Focus::Fault(*k),
+        let top = match &self.top {
+            None => None,
+            Some(frame) => Some(frame.again()?),
         };
         Ok(Machine {
             alloc: self.alloc,

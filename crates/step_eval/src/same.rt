@@ -1,11 +1,11 @@
 //! Whether two controls are equal.
 ghost use Rattle.std.specs.Prelude.{◌≡◌, ◌↔◌, IsTrue};
-ghost use Rattle.step_eval.specs.ControlView.{focus_view, view_of};
+ghost use Rattle.std.specs.Arc.{arc_value};
 ghost use Rattle.step_eval.specs.View.{here_of, round_of};
 
 use crate::env::Env;
 use crate::frame::Frame;
-use crate::machine::{Focus, Machine};
+use crate::machine::Machine;
 use stab_base::{Same, all_same};
 
 impl Env {
@@ -25,7 +25,8 @@ impl Same for Frame {
 }
 
 impl Machine {
-    fn same_here(&self, other: &Machine) -> bool
+    /// Whether the form at hand and the values of variables are equal.
+    pub(crate) fn same_here(&self, other: &Machine) -> bool
         ensures { IsTrue result ↔ (here_of self.now ≡ here_of other.now) }
     {
         self.site == other.site
@@ -33,25 +34,15 @@ impl Machine {
             && self.env.same(&other.env)
     }
 
-    /// Whether two machines look at the same.
-    fn same_focus(&self, other: &Machine) -> bool
-        ensures { IsTrue result ↔ (focus_view self.now.focus (here_of self.now) ≡ focus_view other.now.focus (here_of other.now)) }
+    /// Whether the values of variables are equal.
+    pub(crate) fn same_env(&self, other: &Machine) -> bool
+        ensures { IsTrue result ↔ (arc_value self.now.env ≡ arc_value other.now.env) }
     {
-        match &self.focus {
-            Focus::Begun(n) => {
-                matches!(&other.focus, Focus::Begun(m) if n == m) && self.env.same(&other.env)
-            }
-            Focus::Form => matches!(&other.focus, Focus::Form) && self.same_here(other),
-            Focus::Act(a) => {
-                matches!(&other.focus, Focus::Act(b) if a == b) && self.same_here(other)
-            }
-            Focus::Value(v) => matches!(&other.focus, Focus::Value(w) if v.same(w)),
-            Focus::Fault(k) => matches!(&other.focus, Focus::Fault(l) if k == l),
-        }
+        self.env.same(&other.env)
     }
 
-    /// Whether two machines have equal frames.
-    fn same_round(&self, other: &Machine) -> bool
+    /// Whether the frames are equal.
+    fn same_frames(&self, other: &Machine) -> bool
         ensures { IsTrue result ↔ (round_of self.now ≡ round_of other.now) }
     {
         match (&self.top, &other.top) {
@@ -62,10 +53,10 @@ impl Machine {
         }
     }
 
-    /// Whether two machines look at the same, within equal frames.
-    pub(crate) fn same(&self, other: &Machine) -> bool
-        ensures { IsTrue result ↔ (view_of self.now ≡ view_of other.now) }
+    /// Whether what stands round the focus is equal, and its mark.
+    pub(crate) fn same_round(&self, other: &Machine) -> bool
+        ensures { IsTrue result ↔ ((round_of self.now ≡ round_of other.now) × (self.now.mark ≡ other.now.mark)) }
     {
-        self.mark == other.mark && self.same_focus(other) && self.same_round(other)
+        self.mark == other.mark && self.same_frames(other)
     }
 }
