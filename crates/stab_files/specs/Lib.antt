@@ -1,4 +1,5 @@
 pub mod Count
+pub mod DiskFiles
 pub mod Entry
 pub mod Loaded
 pub mod Told

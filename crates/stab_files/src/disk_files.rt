@@ -1,54 +1,58 @@
-ghost use Rattle.std.specs.Prelude.{◌≡◌, ◌≢◌, ◌+◌, ◌<◌, ◌≤◌, ◌++◌, ℕ, List, Some, None, length, take, vec_len, IfSome, IsOk, IfOk, IfErr, OnErr};
+ghost use Rattle.std.specs.Prelude.{◌≡◌, ◌≢◌, ◌+◌, ◌<◌, ◌≤◌, ◌↔◌, ◌⊎◌, ◌++◌, ℕ, List, Some, length, take, vec_len, IfSome, IsOk, IfOk, IfErr, OnErr};
 ghost use Rattle.std.specs.IoError.{error_kind};
 ghost use Rattle.std.specs.Io.{ReadsAtMost};
 ghost use Rattle.std.specs.Io.KnownBytes.{Consumes, IsAtEnd, Keeps};
-ghost use Rattle.stab_files.specs.Loaded.{Answers, CountsFault, IsWithin, faults_after};
+ghost use Rattle.stab_files.specs.Entry.{contents_of};
+ghost use Rattle.stab_files.specs.Loaded.{Answers, CountsFault, IsWithin, LoadAnswers, faults_after};
 
 use crate::devices::{Files, Loaded};
 use crate::retrying::Retrying;
+use crate::system::System;
 use std::alloc::Global;
 use std::io::{self, ErrorKind, Read};
 use std::marker::Model;
-use std::{fs, rt};
 
 /// How many bytes one read asks for at most.
 const CHUNK: usize = 4096;
 
-/// The system's files. Contracts see how many faults there were, and no contents.
+/// The files of a system. Contracts see what it holds, where it says so, and how many faults there were.
 #[derive(Drop)]
-pub struct DiskFiles<R: rt::Files + Drop> {
-    rt: R,
+pub struct DiskFiles<S: System + Drop> {
+    system: S,
     faults: u64,
 }
 
-impl<R: rt::Files + Drop> Model for DiskFiles<R> {
-    ghost Value = { ℕ };
+impl<S: System + Drop> Model for DiskFiles<S> {
+    ghost use Rattle.stab_files.specs.DiskFiles.{SystemFiles};
 
-    ghost view = { λ s. s.faults };
+    ghost Value = { SystemFiles };
+
+    ghost view = { λ s. record { held = S.holds s.system; faults = s.faults } };
 }
 
-impl<R: rt::Files + Drop> DiskFiles<R> {
-    /// The files of the system that the program runs on.
-    pub fn new(rt: R) -> DiskFiles<R>
-        ensures { result ≡ 0 }
+impl<S: System + Drop> DiskFiles<S> {
+    /// The files of this system, without faults so far.
+    pub fn new(system: S) -> DiskFiles<S>
+        ensures { result ≡ record { held = S.holds system; faults = 0 } }
     {
-        DiskFiles { rt, faults: 0 }
+        DiskFiles { system, faults: 0 }
     }
 }
 
-impl<R: rt::Files + Drop> Files for DiskFiles<R> {
-    ghost held = { λ _. None };
+impl<S: System + Drop> Files for DiskFiles<S> {
+    ghost held = { λ s. s.held };
 
-    ghost faults = { λ s. s };
+    ghost faults = { λ s. s.faults };
 
     /// Missing is the system's word that no such file is there. A directory fails, and so does a
     /// read that is refused.
     fn load(&mut self, alloc: Global, name: &str, limit: u64) -> Loaded
+        ensures answer { IfSome self.old.held (λ files. LoadAnswers files name.now limit result) }
         ensures within { IsWithin limit result }
-        ensures counted { CountsFault self.old self.new result }
-        ensures after { self.new ≡ faults_after self.old result }
+        ensures counted { CountsFault self.old.faults self.new.faults result }
+        ensures after { self.new ≡ record self.old { faults = faults_after self.old.faults result } }
     {
-        let answer = read_opened(alloc, fs::open(&self.rt, name), limit);
+        let answer = read_named(alloc, &self.system, name, limit);
         if matches!(answer, Loaded::Failed) {
             self.faults = self.faults.saturating_add(1);
         }
@@ -56,13 +60,21 @@ impl<R: rt::Files + Drop> Files for DiskFiles<R> {
     }
 }
 
+/// What the file of this name gives.
+fn read_named<S: System>(alloc: Global, system: &S, name: &str, limit: u64) -> Loaded
+    ensures answer { IfSome (S.holds system.now) (λ files. Answers (contents_of files name.now) limit result) }
+    ensures within { IsWithin limit result }
+{
+    read_opened(alloc, system.open(name), limit)
+}
+
 /// What a file gives that was opened, or else why it wasn't.
 fn read_opened<F: Read + Drop>(alloc: Global, opened: io::Result<F>, limit: u64) -> Loaded
     ensures bytes { IfOk opened (λ file. IfSome (F.remaining file) (λ rest. Answers (Some rest) limit result)) }
     ensures within { IsWithin limit result }
     ensures there { IsOk opened → result ≢ Loaded.Missing }
-    ensures missing { IfErr opened (λ error. error_kind error ≡ ErrorKind.NotFound → result ≡ Loaded.Missing) }
-    ensures failed { IfErr opened (λ error. error_kind error ≢ ErrorKind.NotFound → result ≡ Loaded.Failed) }
+    ensures missing { IfErr opened (λ error. (result ≡ Loaded.Missing) ↔ (error_kind error ≡ ErrorKind.NotFound)) }
+    ensures failed { IfErr opened (λ error. (result ≡ Loaded.Missing) ⊎ (result ≡ Loaded.Failed)) }
 {
     match opened {
         Ok(file) => read_whole(alloc, &mut Retrying::new(file), limit),

@@ -1,4 +1,4 @@
-ghost use Rattle.std.specs.Prelude.{◌≡◌, ◌<◌, ◌≤◌, length, take, is_ok, if◌then◌else◌, IfOk, OnOk, OnErr};
+ghost use Rattle.std.specs.Prelude.{◌≡◌, ◌<◌, ◌≤◌, length, take, false, is_ok, if◌then◌else◌, IfOk, OnOk, OnErr};
 ghost use Rattle.std.specs.Io.{ReadsAtMost};
 ghost use Rattle.std.specs.Io.KnownBytes.{Appends, Consumes, IsAtEnd, Keeps};
 ghost use Rattle.stab_files.specs.Count.{Rose, counted};
@@ -7,11 +7,12 @@ use std::io::{self, ErrorKind, Read, Write};
 
 /// A reader or a writer of std's, with a count of the calls that failed. A call that a signal interrupts is
 /// made again and doesn't count. No other module counts a failure, so a loop over these calls fails only
-/// where one of them did.
+/// where one of them did. Nor does another module note a flush, so whoever promises one has to make it.
 #[derive(Drop)]
 pub(crate) struct Retrying<D: Drop> {
     device: D,
     faults: u64,
+    is_flushed: bool,
 }
 
 impl<D: Drop> Retrying<D> {
@@ -19,8 +20,13 @@ impl<D: Drop> Retrying<D> {
     pub(crate) fn new(device: D) -> Retrying<D>
         ensures device { result.device ≡ device }
         ensures faults { result.faults ≡ 0 }
+        ensures flushed { result.is_flushed ≡ false }
     {
-        Retrying { device, faults: 0 }
+        Retrying {
+            device,
+            faults: 0,
+            is_flushed: false,
+        }
     }
 }
 
@@ -48,9 +54,11 @@ impl<W: Write + Drop> Retrying<W> {
         ensures some { IfOk result (λ n. (0 < n) × (n ≤ length piece.now)) }
         ensures bytes { IfOk result (λ n. Appends (W.contents self.old.device) (W.contents self.new.device) (take n piece.now)) }
         ensures kept { OnErr result (Keeps (W.contents self.old.device) (W.contents self.new.device)) }
+        ensures flushed { self.new.is_flushed ≡ false }
         ensures rose { OnErr result (Rose self.old.faults self.new.faults) }
         ensures counted { self.new.faults ≡ (if is_ok result then self.old.faults else counted self.old.faults) }
     {
+        self.is_flushed = false;
         let result = write_again(&mut self.device, piece);
         if result.is_err() {
             self.faults = self.faults.saturating_add(1);
@@ -61,10 +69,12 @@ impl<W: Write + Drop> Retrying<W> {
     /// Lets out what the writer keeps back.
     pub(crate) fn flush(&mut self) -> io::Result<()>
         ensures kept { Keeps (W.contents self.old.device) (W.contents self.new.device) }
+        ensures flushed { self.new.is_flushed ≡ is_ok result }
         ensures rose { OnErr result (Rose self.old.faults self.new.faults) }
         ensures counted { self.new.faults ≡ (if is_ok result then self.old.faults else counted self.old.faults) }
     {
         let result = self.device.flush();
+        self.is_flushed = result.is_ok();
         if result.is_err() {
             self.faults = self.faults.saturating_add(1);
         }
