@@ -19,7 +19,7 @@ use stab_journal::Label;
 use step_eval::{Act, Control, Progress};
 
 impl Parts {
-    /// The value comes to the end of what is printed.
+    /// Prints the value: it is added at the end of the output.
     pub(crate) fn print(
         &mut self,
         job: &Job,
@@ -57,7 +57,7 @@ impl Parts {
         first(end.operands()).copy(self.alloc())
     }
 
-    /// The thread gets the next number of the script, 0 behind its end.
+    /// Gives the thread the next number of the script, or 0 after its end.
     pub(crate) fn probe(
         &mut self,
         job: &Job,
@@ -84,7 +84,7 @@ impl Parts {
         Ok(())
     }
 
-    /// The thread gets how often it was put back.
+    /// Gives the thread the number of times that it was put back.
     pub(crate) fn attempt(
         &mut self,
         job: &Job,
@@ -109,7 +109,7 @@ impl Parts {
         Ok(())
     }
 
-    /// What the thread did so far, and what that depends on, is never taken back.
+    /// Pins: what the thread did so far, and all that this depends on, is never taken back.
     pub(crate) fn pin(
         &mut self,
         job: &Job,
@@ -134,7 +134,7 @@ impl Parts {
         Ok(())
     }
 
-    /// Room for two events and a node.
+    /// Reserves room for two events and a node.
     pub(crate) fn plan_node(&mut self) -> Result<(), NoMemory>
         requires few { length self.old.history.events + 2 ≤ 4294967294 }
         ensures before { AreAsBefore self.old self.new }
@@ -147,7 +147,7 @@ impl Parts {
     }
 }
 
-/// What the probe gets that comes after so many others.
+/// The number that a probe gets after this many others.
 fn script_at(script: &[i64], probes: u64) -> i64
     ensures { result ≡ script_at script.now probes }
 {

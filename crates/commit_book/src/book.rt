@@ -51,7 +51,7 @@ impl Model for Book {
 }
 
 impl Book {
-    /// A book without events: thread 1 stands at the body of `main`.
+    /// A book without events: thread 1 is at the body of `main`.
     pub fn new(alloc: Global, job: Job) -> Result<Book, NoMemory>
         ensures shown { IfOk result IsShown }
         ensures job { IfOk result (λ b. b.job ≡ job) }
@@ -61,7 +61,7 @@ impl Book {
         Ok(Book { job, parts })
     }
 
-    /// What is run.
+    /// The job that is run.
     pub fn job(&self) -> &Job
         ensures job { result.now ≡ self.now.job }
         ensures shown { IsShown self.now }
@@ -77,7 +77,7 @@ impl Book {
         &self.parts.history
     }
 
-    /// The printed values, in the order of their steps, read where they stand.
+    /// The printed values, in the order of their steps. Nothing is copied.
     pub fn printed(&self) -> Values<'_>
         ensures printed { result ≡ self.now.printed }
         ensures shown { IsShown self.now }
@@ -85,7 +85,7 @@ impl Book {
         self.parts.printed.values()
     }
 
-    /// Those of them that weren't released.
+    /// The printed values that weren't released yet.
     pub fn unreleased(&self) -> Values<'_>
         ensures unreleased { result ≡ drop (released self.now.history.events) self.now.printed }
         ensures shown { IsShown self.now }
@@ -134,7 +134,7 @@ impl Book {
             .saturating_sub(self.parts.tallies.released)
     }
 
-    /// How many printed values were released: so many of the first ones.
+    /// How many printed values were released; always the first ones.
     pub fn released(&self) -> u64
         ensures released { result ≡ released self.now.history.events }
         ensures printed { result ≤ length self.now.printed }
@@ -143,7 +143,7 @@ impl Book {
         self.parts.tallies.released
     }
 
-    /// How many threads do what, and how many commits were answered how.
+    /// How many threads are in each state, and how many commits ended in each way.
     pub fn counts(&self) -> Counts
         ensures counts { AreCounts self.now result }
         ensures shown { IsShown self.now }
@@ -162,7 +162,7 @@ impl Book {
         }
     }
 
-    /// What a worker gets to do next. Only to lend a thread takes memory.
+    /// What a worker is to do next. Only lending a thread takes memory.
     pub fn lease(&mut self, worker: u32) -> Result<Turn, NoMemory>
         requires { IsWorker worker }
         ensures turn { IfOk result (IsTurn self.old self.new worker) }
@@ -213,7 +213,7 @@ impl Book {
         Ok(Turn::Work(lease, control))
     }
 
-    /// Ends a lease without a commit. Where the thread is still as it was lent, it is ready again.
+    /// Ends a lease without a commit. If the thread is still as it was lent, it is ready again.
     pub fn give_back(&mut self, lease: Lease)
         ensures given { self.new ≡ given_back self.old lease }
         ensures shown { IsShown self.new }
@@ -224,7 +224,7 @@ impl Book {
         }
     }
 
-    /// Lets each leased thread be ready again. The leases that are out are then judged as any other.
+    /// Makes each leased thread ready again. Leases that are still out are judged as any others when they end.
     pub fn recall(&mut self)
         ensures recalled { IsRecalled self.old self.new }
         ensures free { in_state Leased self.new ≡ 0 }

@@ -17,9 +17,9 @@ use step_eval::Progress;
 pub const COMMIT_RESERVE: u64 = 1_000_000;
 
 impl Book {
-    /// Ends a lease with what its thread did: the pure steps of the progress, and the act at which it then stands. At
-    /// `stabilize` its section is taken back with all that depends on it, or the thread fails. Whoever is met or started
-    /// comes to the queue before the thread. It is refused for want of memory alone, and nothing has happened then.
+    /// Commits what the leased thread did: the pure steps of the progress, and the act that comes after them. At
+    /// `stabilize` its section is taken back with all that depends on it, or the thread fails. A thread that is met or started
+    /// is queued before this one. The only error is that memory ran out, and then nothing has happened.
     pub fn commit(&mut self, lease: Lease, progress: Progress) -> Result<Done, CommitRefused>
         requires { progress.program ≡ self.old.job.program }
         ensures done { IfOk result (IsCommitted self.old self.new lease progress) }
@@ -42,7 +42,7 @@ impl Book {
         }
     }
 
-    /// Whether the fuel is used up and the reserve too.
+    /// Whether both the fuel and the reserve are used up.
     fn is_over(&self) -> bool
         ensures over { IsTrue result ↔ IsOver self.now }
         ensures limits { IsWithinLimits self.now.job }
@@ -50,7 +50,7 @@ impl Book {
         self.parts.history.weight().saturating_sub(self.job.fuel()) >= COMMIT_RESERVE
     }
 
-    /// Counts a lease that came too late.
+    /// Counts a lease whose commit came too late.
     fn stale(&mut self, lease: Lease) -> Done
         ensures late { IsLateAnswer self.old self.new lease result }
         ensures shown { IsShown self.new }
@@ -75,7 +75,7 @@ impl Book {
         }
     }
 
-    /// Counts a commit, and tells which events it made.
+    /// Counts a commit, and returns which events it made.
     fn taken(&mut self, lease: Lease, outcome: Outcome, first: Seq) -> Done
         requires first { first.0 ≤ length self.old.history.events + 1 }
         requires few { length self.old.history.events < 4294967295 }

@@ -2,7 +2,7 @@
 ghost use Rattle.std.specs.Prelude.{◌≡◌};
 ghost use Rattle.commit_book.specs.Started.{first_tallies};
 
-/// How many threads do what, and how many commits were answered how. The counts of commits stop at the
+/// How many threads are in each state, and how many commits ended in each way. The counts of commits stop at the
 /// greatest number of 64 bits.
 #[derive(Clone, Copy, PartialEq, Eq, Debug)]
 pub struct Counts {
@@ -19,7 +19,7 @@ pub struct Counts {
     pub undos: u64,
 }
 
-/// Counts that would else be found by a walk over the events or the threads.
+/// Counts that are kept, so that nothing has to walk over the events or the threads for them.
 #[derive(Clone, Copy, PartialEq, Eq)]
 pub(crate) struct Tallies {
     /// How many probes there were.
@@ -35,7 +35,7 @@ pub(crate) struct Tallies {
 }
 
 impl Tallies {
-    /// Those of a book without events, whose first thread may have failed already.
+    /// The counts of a book without events. Its first thread may have failed already.
     pub(crate) fn first(failed: bool) -> Tallies
         ensures { result ≡ first_tallies failed }
     {

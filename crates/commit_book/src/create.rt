@@ -24,7 +24,7 @@ use std::alloc::Global;
 use step_eval::{Act, Control, Progress};
 
 impl Parts {
-    /// A thread of the next number begins with the body of the function that is named.
+    /// Starts a thread, with the next number, at the body of the function that is named.
     pub(crate) fn spawn(
         &mut self,
         job: &Job,
@@ -71,7 +71,7 @@ impl Parts {
         }
     }
 
-    /// A new thread joins the others.
+    /// Adds a new thread.
     fn join(&mut self, child: Control)
         requires spare { 1 ≤ self.old.slots.spare }
         requires numbers { self.old.slots.next ≤ 4294967294 }
@@ -85,7 +85,7 @@ impl Parts {
         self.slots.add(child, ended);
     }
 
-    /// The thread gets a channel of the next number.
+    /// Gives the thread a new channel, with the next number.
     pub(crate) fn new_chan(
         &mut self,
         job: &Job,
@@ -111,7 +111,7 @@ impl Parts {
         Ok(())
     }
 
-    /// Room for a channel's step, and the channel itself.
+    /// Reserves room for the step that makes a channel, and for the channel.
     fn plan_chan(&mut self, c: ChanId) -> Result<(), NoMemory>
         requires few { length self.old.history.events + 2 ≤ 4294967294 }
         requires none { map.get self.old.offers.lines c.0 ≡ None }
@@ -125,7 +125,7 @@ impl Parts {
         self.offers.make(c)
     }
 
-    /// The thread enters the section, whose number is that of this step.
+    /// The thread enters the section, which has the number of this step.
     pub(crate) fn enter(
         &mut self,
         job: &Job,
@@ -181,7 +181,7 @@ impl Parts {
     }
 }
 
-/// Equal values.
+/// Copies of the values.
 fn copied(alloc: Global, values: &[Value]) -> Result<Vec<Value>, NoMemory>
     ensures { IfOk result (λ copies. copies.items ≡ values.now) }
 {

@@ -13,7 +13,7 @@ use stab_journal::Label;
 use step_eval::Progress;
 
 impl Parts {
-    /// All that was done so far is final: nothing is kept any more that an undo of it would need.
+    /// Makes all that was done so far final, and drops what only an undo of it would need.
     pub(crate) fn cut(
         &mut self,
         job: &Job,
@@ -43,7 +43,7 @@ impl Parts {
         Ok(())
     }
 
-    /// Room for two events, and for the values that become final.
+    /// Reserves room for two events, and for the values that become final.
     fn plan_cut(&mut self) -> Result<(), NoMemory>
         requires few { length self.old.history.events + 2 ≤ 4294967294 }
         ensures before { AreAsBefore self.old self.new }

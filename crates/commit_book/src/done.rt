@@ -1,10 +1,10 @@
-//! What a commit answers.
+//! What a commit returns.
 
 use crate::lease::Lease;
 use stab_base::{Generation, Seq};
 use step_eval::Progress;
 
-/// What a commit answers. `first` is the number that the next event had before it, and `count` is how many
+/// What a commit returns. `first` is the number that the next event had before it, and `count` is how many
 /// events it made: 0, 1 or 2.
 #[derive(Drop)]
 pub enum Done {
@@ -27,7 +27,7 @@ pub enum Done {
         removed: u64,
         marks: Vec<Seq>,
     },
-    /// The thread isn't as it was lent: its generation is another one, it is gone, or it stands elsewhere.
+    /// The thread isn't as it was lent: it has another generation, is gone, or is at another expression.
     Stale {
         lease_generation: Generation,
         now: Option<Generation>,
@@ -38,7 +38,7 @@ pub enum Done {
     },
 }
 
-/// The memory that a commit needs isn't there. The book is as before.
+/// There was no memory for the commit. The book is as before.
 pub struct CommitRefused {
     pub lease: Lease,
     pub progress: Progress,

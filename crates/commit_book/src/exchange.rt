@@ -39,7 +39,7 @@ struct Meeting {
 }
 
 impl Parts {
-    /// The thread meets the one that waits longest with an opposite offer, or else waits.
+    /// The thread meets the one that has waited longest with an opposite offer. If there is none, it waits.
     pub(crate) fn exchange(
         &mut self,
         job: &Job,
@@ -66,7 +66,7 @@ impl Parts {
         }
     }
 
-    /// Whom a thread with this offer meets.
+    /// The meeting of a thread that has this offer, if somebody waits for it.
     fn opposite(&self, t: ThreadId, offer: Offer) -> Option<Meeting>
         requires there { AreThere self.now.offers.lines offer }
         ensures { result ≡ meeting_of self.now.offers.lines t.0 offer }
@@ -100,7 +100,7 @@ impl Parts {
         })
     }
 
-    /// The partner goes on first, and then the thread.
+    /// Both threads go on, the partner first.
     fn meet(
         &mut self,
         job: &Job,
@@ -134,7 +134,7 @@ impl Parts {
         Ok(())
     }
 
-    /// Room for a meeting, and where the thread and its partner then stand.
+    /// Reserves room for a meeting, and makes the next controls of the thread and of its partner.
     fn plan_meeting(
         &mut self,
         program: &Program,
@@ -182,7 +182,7 @@ impl Parts {
         }
     }
 
-    /// The same for threads whose order is known.
+    /// Like `save_both`, for threads in the order of their numbers.
     fn save_in_order(&mut self, q: Seq, first: (ThreadId, Control), second: (ThreadId, Control))
         requires spare { 2 ≤ self.old.store.spare }
         requires last { (r : Seq) (u : ThreadId) → IsSome (saved_at self.old.store r u) → r.0 < q.0 }
@@ -194,7 +194,7 @@ impl Parts {
         self.store.save(q, second.0, second.1);
     }
 
-    /// The thread waits with an offer. Where it does so already, it keeps its place.
+    /// Lets the thread wait with an offer. If it does so already, it keeps its place.
     fn wait(
         &mut self,
         job: &Job,
@@ -224,7 +224,7 @@ impl Parts {
         Ok(())
     }
 
-    /// Room for the pure steps, and the place in line.
+    /// Reserves room for the pure steps and for the place in line.
     fn plan_wait(&mut self, t: ThreadId, offer: Offer) -> Result<(), NoMemory>
         requires few { length self.old.history.events + 2 ≤ 4294967294 }
         requires none { map.get self.old.offers.offers t.0 ≡ None }
@@ -253,7 +253,7 @@ impl Meeting {
     }
 }
 
-/// Where a sender and a receiver then stand.
+/// The controls of a sender and a receiver after their message.
 fn exchanged(
     alloc: Global,
     program: &Program,
@@ -273,7 +273,7 @@ fn exchanged(
     Ok((after_send, received))
 }
 
-/// What a sender sends.
+/// The value that a sender sends.
 fn sent(sender: &Control) -> &Value
     requires { (p : ProgramParts) × ((c : ℕ) × (CanMeet p sender.now × OffersOn p (sends_on c) sender.now)) }
     ensures value { result.now ≡ second_of (operands_of sender.now) }
@@ -285,7 +285,7 @@ fn sent(sender: &Control) -> &Value
     second(sender.operands())
 }
 
-/// A receiver gets what came on a channel.
+/// Gives a receiver what came on a channel.
 fn receive(
     alloc: Global,
     program: &Program,
@@ -317,7 +317,7 @@ fn picked_in(ask: Ask) -> Option<(ChanId, ChanId)>
     }
 }
 
-/// A pick gets the index of a channel with what came on it.
+/// Gives a pick the index of a channel with what came on it.
 fn pick(
     alloc: Global,
     program: &Program,
@@ -338,7 +338,7 @@ fn pick(
     Ok(())
 }
 
-/// The index of a channel for a pick, by its first one.
+/// The index of a channel in a pick whose first channel is `first`.
 fn index_of(first: ChanId, c: ChanId) -> i64
     ensures { result ≡ index_of first.0 c.0 }
 {

@@ -1,5 +1,5 @@
 //! What every book shows, whatever calls led to it: each call of `Book` says `IsShown` of the book that it leaves, and here
-//! is what follows from it. The calls do nothing, take no memory and answer nothing.
+//! is what follows from it. The calls do nothing, take no memory and return nothing.
 
 ghost use Rattle.std.specs.Prelude.{◌≡◌, ◌≤◌, ◌++◌, ◌∷◌, ℕ, true, false, List, Some, count_by, length, take};
 ghost use Rattle.stab_base.specs.declared.numbers.Seq.{Seq};
@@ -21,7 +21,7 @@ ghost use Rattle.commit_book.specs.Headline.{HasRun, IsGranted, IsRefused, Stand
 
 /// The journal without its undone steps is, in order, a run of the plain language from the start state, and it ends in
 /// exactly the book's threads, channels, references and output. Its probes got the numbers of the script, of which those that
-/// were undone used up theirs. Each event was due where it came: a step with the number that an attempt gets, a refused
+/// were undone used up theirs. Each event was allowed where it happened: a step with the number that an attempt gets, a refused
 /// stabilize, an undo, a release.
 pub fn books_show_a_run()
     ensures { (b : BookView) → IsShown b → HasRun b }
@@ -41,8 +41,8 @@ pub fn refusals_are_due()
         → b.history.events ≡ first ++ event worker (Step (Refuse t)) ∷ after → IsRefused b.job.program first t }
 {}
 
-/// No step that stands before a cut is ever undone, nor is the cut: whatever came after the first events, a step of their run
-/// that isn't behind its last cut is among the steps that aren't struck.
+/// No step before a cut is ever undone, nor is the cut: whatever came after the first events, a step of their run
+/// that isn't after its last cut is among the steps that aren't struck.
 pub fn final_steps_stay()
     ensures { (b : BookView) → IsShown b → (first after : List Event) → b.history.events ≡ first ++ after
         → (n : Numbered) → StandsIn (run_of first) n → n.seq.0 ≤ floor (run_of first) → StandsIn (survivors b.history) n }

@@ -26,7 +26,7 @@ impl Model for Lease {
 }
 
 impl Lease {
-    /// The lease of a thread that was put back so often, for a worker from 1 to 64.
+    /// The lease of a thread of this generation, for a worker from 1 to 64.
     pub(crate) fn new(worker: u32, thread: ThreadId, generation: Generation) -> Self
         requires { IsWorker worker }
         ensures { result ≡ record { worker = worker; thread = thread.0; generation = generation.0 } }

@@ -48,7 +48,7 @@ pub(crate) struct Parts {
 }
 
 impl Parts {
-    /// No events, and thread 1 at the body of `main`.
+    /// No events, and thread 1 is at the body of `main`.
     pub(crate) fn start(alloc: Global, program: &Program) -> Result<Parts, NoMemory>
         ensures { IfOk result (λ parts. IsStarted program.now parts) }
     {
@@ -116,14 +116,14 @@ fn main_of(alloc: Global, program: &Program) -> Result<Control, NoMemory>
     }
 }
 
-/// An equal control.
+/// A copy of the control.
 pub(crate) fn kept(control: &Control) -> Result<Control, NoMemory>
     ensures { IfOk result (λ c. c ≡ control.now) }
 {
     kept_in::<Brand>(control, Blank::new(1))
 }
 
-// Nobody counts the step.
+// The step counter is discarded.
 fn kept_in<L: Ledger>(control: &Control, blank: Blank) -> Result<Control, NoMemory>
     requires name { blank.name ≡ L.name }
     requires parts { blank.parts ≡ L.parts }

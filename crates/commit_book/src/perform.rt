@@ -1,4 +1,4 @@
-//! What a commit does: the pure steps, and then the act at which the thread stands.
+//! What a commit does: the pure steps, and then the act that comes after them.
 ghost use Rattle.std.specs.Prelude.{◌≡◌, ◌↔◌, ◌<◌, ◌≤◌, ◌+◌, [], ◌∷◌, length, Some, None, IfErr, IfOk, IfSome, IsSome, IsTrue, OnErr, OnOk};
 ghost use Rattle.std.specs.FinMap as map;
 ghost use Rattle.stab_code.specs.Program.{ProgramParts};
@@ -29,7 +29,7 @@ use step_eval::{Act, Ask, Control, Progress};
 use thread_slots::State;
 
 impl Parts {
-    /// Whether a thread is of the lease's generation and stands at this control.
+    /// Whether a thread has the lease's generation and is at this control.
     pub(crate) fn is_current(&self, lease: &Lease, origin: &Control) -> bool
         ensures { IsTrue result ↔ IsCurrent self.now.slots.threads lease.now origin.now }
     {
@@ -42,7 +42,7 @@ impl Parts {
         }
     }
 
-    /// Does what the progress says. Without memory nothing is done, and the progress comes back.
+    /// Applies the progress. If memory runs out, it changes nothing and returns the progress.
     pub(crate) fn perform(
         &mut self,
         job: &Job,
@@ -61,7 +61,7 @@ impl Parts {
         }
     }
 
-    /// The same at an act.
+    /// Like `perform`, for a thread that stopped at an act.
     fn perform_act(
         &mut self,
         job: &Job,
@@ -85,7 +85,7 @@ impl Parts {
         }
     }
 
-    /// An act after which the thread always goes on.
+    /// Performs an act after which the thread always goes on.
     fn act(
         &mut self,
         job: &Job,
@@ -118,7 +118,7 @@ impl Parts {
         }
     }
 
-    /// A thread that stands at no act: it goes on, or has ended.
+    /// Like `perform`, for a thread that isn't at an act: it goes on, or has ended.
     fn rest(&mut self, job: &Job, lease: &Lease, progress: Progress) -> Result<(), Progress>
         requires may { MayAct job.now self.old lease.now progress }
         requires at { IsTrue (stands_at_none (look_in job.now.program (expr_of job.now.program progress.end))) }
@@ -135,7 +135,7 @@ impl Parts {
         Ok(())
     }
 
-    /// Pushes the pure steps, and hands out where they lead.
+    /// Pushes the pure steps, and returns the control to which they lead.
     pub(crate) fn begin(&mut self, lease: &Lease, progress: Progress) -> Control
         requires { MayBegin self.old.history lease.now.thread progress.steps }
         ensures end { result ≡ progress.end }
@@ -147,7 +147,7 @@ impl Parts {
         progress.into_end()
     }
 
-    /// Pushes so many pure steps as one step, if there are any.
+    /// Pushes `steps` pure steps as one step, if there are any.
     fn push_local(&mut self, lease: &Lease, steps: u32)
         requires { MayBegin self.old.history lease.now.thread steps }
         ensures history { IsLonger self.old.history self.new.history lease.now.worker (local_of lease.now.thread steps) }
@@ -174,7 +174,7 @@ impl Parts {
         })
     }
 
-    /// The thread's act gets a value, and the thread goes on.
+    /// Gives the thread's act its value, and lets the thread go on.
     pub(crate) fn answer(&mut self, program: &Program, t: ThreadId, control: Control, v: Value)
         requires there { IsSome (map.get self.old.slots.threads t.0) }
         requires few { self.old.tallies.faulted < 4294967296 }
@@ -189,7 +189,7 @@ impl Parts {
         let _before = self.go_on(t, answered);
     }
 
-    /// A thread comes to the tail of the queue with this control, or has ended. Its control before that comes back.
+    /// Gives the thread this control, and queues it unless it has ended. Returns the old control.
     pub(crate) fn go_on(&mut self, t: ThreadId, control: Control) -> Control
         requires there { IsSome (map.get self.old.slots.threads t.0) }
         requires few { self.old.tallies.faulted < 4294967296 }
@@ -207,13 +207,13 @@ impl Parts {
         before
     }
 
-    /// Where the memory of the parts comes from.
+    /// The allocator of the parts.
     pub(crate) fn alloc(&self) -> Global {
         *self.rollback.lost.allocator()
     }
 }
 
-/// With what a thread waits that stands at an act on channels.
+/// The offer of a thread at an act on channels.
 fn offer_of(act: Act) -> Option<Offer>
     ensures { result ≡ offer_of act }
 {
@@ -234,7 +234,7 @@ fn taken(act: Result<(), Progress>) -> Result<Outcome, Progress>
     Ok(Outcome::Taken)
 }
 
-/// What a thread that moves is doing then.
+/// The state of a thread that has moved to this control.
 fn state_of(control: &Control) -> State
     ensures { (p : ProgramParts) → IsValid p → Fits p control.now → result ≡ state_for (over p control.now) }
 {

@@ -18,7 +18,7 @@ use stab_journal::Label;
 use step_eval::{Act, Control, Progress};
 
 impl Parts {
-    /// The thread gets a reference of the next number, which holds the value.
+    /// Gives the thread a new reference, with the next number, that holds the value.
     pub(crate) fn new_ref(
         &mut self,
         job: &Job,
@@ -46,7 +46,7 @@ impl Parts {
         Ok(())
     }
 
-    /// The reference holds the value from here on.
+    /// Sets the reference to the value.
     pub(crate) fn set(
         &mut self,
         job: &Job,
@@ -73,7 +73,7 @@ impl Parts {
         Ok(())
     }
 
-    /// Room for a write, and its value.
+    /// Reserves room for a write, and copies its value.
     fn plan_write(&mut self, r: RefId, v: &Value) -> Result<Value, NoMemory>
         requires few { length self.old.history.events + 2 ≤ 4294967294 }
         ensures before { AreAsBefore self.old self.new }
@@ -87,7 +87,7 @@ impl Parts {
         v.copy(self.alloc())
     }
 
-    /// The thread gets what the reference holds.
+    /// Gives the thread what the reference holds.
     pub(crate) fn get(
         &mut self,
         job: &Job,
@@ -114,7 +114,7 @@ impl Parts {
         Ok(())
     }
 
-    /// Room for a read, the number of the write that is read, and where the thread then stands.
+    /// Reserves room for a read, and returns the number of the write that is read and the thread's next control.
     fn plan_get(
         &mut self,
         program: &Program,

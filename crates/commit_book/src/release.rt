@@ -14,7 +14,7 @@ use stab_base::{NoMemory, Seq, Texts, Value};
 use stab_journal::{Event, What};
 
 impl Book {
-    /// Adds the lines of the values that are due, and counts them as released. Without memory nothing is added.
+    /// Adds the lines of the values that are due, and counts them as released. If memory runs out, nothing is added.
     pub fn release(&mut self, worker: u32, out: &mut Vec<u8>) -> Result<Seq, NoMemory>
         requires due { 0 < due self.old.history.events }
         requires worker { IsWorker worker }
@@ -39,7 +39,7 @@ impl Book {
 }
 
 impl Parts {
-    /// All values that are final count as released.
+    /// Counts all values that are final as released.
     fn release(&mut self, worker: u32)
         requires worker { IsWorker worker }
         requires spare { 1 ≤ self.old.history.spare }
@@ -55,7 +55,7 @@ impl Parts {
     }
 }
 
-/// Adds the line of each value. Without memory some of it may be there.
+/// Adds the line of each value. If memory runs out, a part of them may be there.
 fn put_lines(values: &[Value], texts: &Texts, out: &mut Vec<u8>) -> Result<(), NoMemory>
     ensures lines { OnOk result
         (out.new.items ≡ out.old.items ++ flat_map (λ v. line (printed texts.now v)) values.now) }

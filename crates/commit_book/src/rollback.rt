@@ -144,7 +144,7 @@ impl Rollback {
         }
     }
 
-    /// Counts the next event as read, which is no step, or a struck one.
+    /// Counts the next event as read. It isn't a step, or it was struck.
     pub(crate) fn pass(&mut self)
         requires { self.old.read < 18446744073709551615 }
         ensures { self.new ≡ record self.old { read = self.old.read + 1 } }
@@ -152,7 +152,7 @@ impl Rollback {
         self.read += 1;
     }
 
-    /// Forgets what was read, since nothing up to the cut is taken back any more, which is the last event.
+    /// Forgets what was read. The last event is a cut, so nothing up to it is taken back any more.
     pub(crate) fn cut(&mut self, q: Seq)
         ensures read { self.new.read ≡ q.0 }
         ensures floor { self.new.floor ≡ q }
@@ -164,7 +164,7 @@ impl Rollback {
         self.read = q.0;
     }
 
-    /// Takes the steps of the touched threads from their lines on out, to be struck.
+    /// Takes out the steps of the touched threads from their lines on, to be struck.
     pub(crate) fn gather(&mut self)
         requires none { self.old.lost.items ≡ [] }
         requires room { sum_by length self.old.own.steps ≤ vec_capacity self.old.lost }
@@ -176,7 +176,7 @@ impl Rollback {
     }
 }
 
-/// The step with a number, where it isn't struck.
+/// The step with a number, if it isn't struck.
 pub(crate) fn live_step(history: &History, q: Seq) -> Option<Label>
     ensures live { IsSome result ↔ IsLive history.now q.0 }
     ensures label { IfSome result (λ label. label_at history.now.events q.0 ≡ Some label) }
@@ -190,7 +190,7 @@ pub(crate) fn live_step(history: &History, q: Seq) -> Option<Label>
     }
 }
 
-// The threads that act in a step; one that acts alone stands twice.
+// The threads that act in a step; one that acts alone is there twice.
 fn actors_of(label: Label) -> (ThreadId, ThreadId)
     ensures { (t : ℕ) → has (actors label) t ≡ (nat_eq t result.0.0 || nat_eq t result.1.0) }
 {
@@ -222,7 +222,7 @@ fn first_lost(line: Option<Line>) -> Seq
     }
 }
 
-// Takes the steps of the touched threads out, each from its line on.
+// Takes out the steps of the touched threads, of each from its line on.
 fn take_lost(plan: &Plan, own: &mut OwnSteps, lost: &mut Vec<Seq>)
     requires none { lost.old.items ≡ [] }
     requires room { sum_by length own.old.steps ≤ vec_capacity lost.old }
@@ -235,7 +235,7 @@ fn take_lost(plan: &Plan, own: &mut OwnSteps, lost: &mut Vec<Seq>)
     }
 }
 
-// Takes the last steps of a thread out, up to the first one that isn't below `line`.
+// Takes out the steps of a thread that aren't below `line`, the last one first.
 fn take_from(own: &mut OwnSteps, t: ThreadId, line: Seq, lost: &mut Vec<Seq>)
     requires rising { Rises (steps_of own.old t.0) }
     requires room { length lost.old.items + sum_by length own.old.steps ≤ vec_capacity lost.old }
@@ -248,7 +248,7 @@ fn take_from(own: &mut OwnSteps, t: ThreadId, line: Seq, lost: &mut Vec<Seq>)
     while take_last(own, t, line, lost) {}
 }
 
-// Takes the last step of a thread out where it isn't below `line`, and says whether it did.
+// Takes out the last step of a thread if it isn't below `line`, and returns whether it did.
 fn take_last(own: &mut OwnSteps, t: ThreadId, line: Seq, lost: &mut Vec<Seq>) -> bool
     requires room { length lost.old.items + sum_by length own.old.steps ≤ vec_capacity lost.old }
     ensures taken { result ≡ true → IsTaken own.old own.new t.0 line.0 lost.old.items lost.new.items }

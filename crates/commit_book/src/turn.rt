@@ -1,10 +1,10 @@
-//! What a worker gets to do.
+//! What a worker is to do.
 
 use crate::lease::Lease;
 use stab_base::ThreadId;
 use step_eval::Control;
 
-/// What a worker gets to do.
+/// What a worker is to do.
 pub enum Turn {
     /// To go on with a thread, from this control.
     Work(Lease, Control),

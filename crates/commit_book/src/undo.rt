@@ -48,7 +48,7 @@ use step_eval::{Control, Progress};
 use thread_slots::Slots;
 
 impl Parts {
-    /// The section is taken back with what depends on it, or the stabilize is refused.
+    /// Takes the section back with what depends on it, or refuses the stabilize.
     pub(crate) fn stabilize(
         &mut self,
         job: &Job,
@@ -74,7 +74,7 @@ impl Parts {
         }
     }
 
-    /// A stabilize that isn't granted fails its thread.
+    /// Refuses a stabilize: its thread fails.
     fn refuse(&mut self, job: &Job, lease: &Lease, progress: Progress) -> Result<Outcome, Progress>
         requires may { MayAct job.now self.old lease.now progress }
         requires at { StandsAt job.now.program progress.end own.Stabilize }
@@ -94,7 +94,7 @@ impl Parts {
         Ok(Outcome::Taken)
     }
 
-    /// The same in a section that was entered after the last cut: it is refused where a pin depends on it.
+    /// Like `stabilize`, in a section that was entered after the last cut: it is refused if a pin depends on it.
     fn take_back(
         &mut self,
         job: &Job,
@@ -124,7 +124,7 @@ impl Parts {
         Ok(Outcome::Undone(undone))
     }
 
-    /// Room for all that an undo needs. What is reached from the section is marked, and listed for the answer.
+    /// Reserves room for all that an undo needs, marks what is reached from the section, and lists it for the answer.
     fn plan_undo(&mut self, mark: Seq) -> Result<Vec<Seq>, NoMemory>
         requires few { length self.old.history.events + 2 ≤ 4294967294 }
         requires next { 1 ≤ self.old.slots.next }
@@ -185,7 +185,7 @@ impl Parts {
         }
     }
 
-    /// Strikes the gathered steps, the last one first, and tells how many there are.
+    /// Strikes the gathered steps, the last one first, and returns how many there are.
     fn strike_all(&mut self) -> u64
         requires may { MayStrikeAll self.old (numbers self.old.rollback.lost.items) }
         ensures struck { AllAreStruck self.old self.new (numbers self.old.rollback.lost.items) result }
@@ -240,7 +240,7 @@ impl Parts {
         }
     }
 
-    /// The event of the undo.
+    /// Pushes the event of the undo.
     fn push_undo(&mut self, lease: &Lease, mark: Seq)
         requires spare { 1 ≤ self.old.history.spare }
         requires weight { weight_of self.old.history.events + 1 < 2 ^ 64 }
@@ -299,7 +299,7 @@ fn has_failed(slots: &Slots<Control>, t: ThreadId) -> bool
     }
 }
 
-// Nobody counts the steps.
+// The step counter is discarded.
 fn reach_in<L: Ledger>(graph: &Graph, mark: Seq, marks: &mut Marks, blank: Blank)
     requires name { blank.name ≡ L.name }
     requires parts { blank.parts ≡ L.parts }
@@ -312,7 +312,7 @@ fn reach_in<L: Ledger>(graph: &Graph, mark: Seq, marks: &mut Marks, blank: Blank
     reach(&graph.counted::<L>(), mark, marks, &mut steps);
 }
 
-// Nor here.
+// The step counter is discarded.
 fn lines_in<L: Ledger>(graph: &Graph, marks: &Marks, plan: &mut Plan, blank: Blank)
     requires name { blank.name ≡ L.name }
     requires parts { blank.parts ≡ L.parts }
