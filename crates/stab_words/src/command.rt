@@ -33,7 +33,7 @@ pub enum Place {
     File,
     /// The trace or the script.
     Second,
-    /// A size, or which cut.
+    /// A size, or the number of a cut.
     Number,
 }
 
@@ -64,14 +64,14 @@ pub fn command_named(word: &str) -> Option<Command>
     value_in(&COMMANDS, word)
 }
 
-/// The option that is written so.
+/// The option of this name.
 pub fn option_named(word: &str) -> Option<Setting>
     ensures { result ≡ option_named word.now }
 {
     value_in(&OPTIONS, word)
 }
 
-// What the table has for the word.
+// The table's entry for the word.
 fn value_in<T: Copy>(table: &[(&str, T)], word: &str) -> Option<T>
     ensures { result ≡ value_in (map (λ row. (row.0.now, row.1)) table.now) word.now }
 {

@@ -1,4 +1,4 @@
-//! What words have given so far.
+//! What the words read so far have given.
 ghost use Rattle.std.specs.Prelude.{◌≡◌, IfOk, OnOk, IsNone, None, Some, Ok};
 ghost use Rattle.stab_words.specs.Given.{fill, is_filled, is_given, name_in, nothing, set};
 ghost use Rattle.stab_words.specs.Asked.{Gives, or_fault};
@@ -72,7 +72,7 @@ impl Given {
         }
     }
 
-    /// Takes the value of the option that stands at the word `at`.
+    /// Takes the word `at` as the value of the option.
     pub fn set(
         self,
         alloc: Global,

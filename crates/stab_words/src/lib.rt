@@ -1,4 +1,4 @@
-//! What the words mean that the program is called with.
+//! What the words of a call of the program mean.
 #![tactic(auto)]
 
 mod command;

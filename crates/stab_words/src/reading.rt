@@ -14,7 +14,7 @@ use crate::request::{
 };
 use std::alloc::Global;
 
-/// What is meant where the option isn't given.
+/// The defaults of the options.
 const DEFAULT_WORKERS: u32 = 4;
 
 const DEFAULT_FUEL: u64 = 1_000_000;
@@ -51,7 +51,7 @@ pub fn read_words(alloc: Global, words: &[String]) -> Result<Request, WordFault>
     read_behind(alloc, command, rest)
 }
 
-// What the command is asked for by the words behind it.
+// The request that the words after the command make.
 fn read_behind(alloc: Global, command: Command, words: &[String]) -> Result<Request, WordFault>
     ensures asked { Gives (λ request. request) result
         (and_then (read command 1 false (each string_bytes words.now) nothing) (request command)) }
@@ -61,7 +61,7 @@ fn read_behind(alloc: Global, command: Command, words: &[String]) -> Result<Requ
     finished(command, reading)
 }
 
-// Reads the words behind the command.
+// Reads the words after the command.
 fn read_rest(alloc: Global, command: Command, words: &[String]) -> Result<Reading, WordFault>
     ensures read { Gives (λ reading. reading) result (read_from command 1 (each string_bytes words.now) begun) }
     ensures within { IfOk result (λ r. IsGiven r.given) }
@@ -173,7 +173,7 @@ fn option(
     }
 }
 
-// The name of an option, and its value where one follows a `=`.
+// The name of an option, and the value that follows its `=`, if it has one.
 fn name_and_value(word: &str) -> (&str, Option<&str>)
     ensures name { result.0.now ≡ name_of word.now }
     ensures value { option_copied result.1 ≡ written_value word.now }
@@ -225,7 +225,7 @@ fn empty_place(command: Command, given: &Given) -> Option<Place>
         .find(|place| !given.is_filled(*place))
 }
 
-// What the command is asked for, once all words were read.
+// The request, after all words were read.
 fn finished(command: Command, reading: Reading) -> Result<Request, WordFault>
     requires { IsGiven reading.given }
     ensures request { result ≡ finished command reading.given reading.expects }
@@ -237,7 +237,7 @@ fn finished(command: Command, reading: Reading) -> Result<Request, WordFault>
     request_of(command, reading.given).ok_or(WordFault::MissingWord)
 }
 
-// The request of a command, where each of its places is filled.
+// The request of a command each of whose places is filled.
 fn request_of(command: Command, given: Given) -> Option<Request>
     ensures { result ≡ request_of command given }
 {

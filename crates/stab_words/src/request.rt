@@ -14,7 +14,7 @@ pub enum Request {
     Run(RunArgs),
     /// Run a program and write the trace.
     Trace(RunArgs),
-    /// Tell whether a trace is a run of a program.
+    /// Say whether a trace is one of a run of a program.
     Verify(VerifyArgs),
     /// Play a script of turns.
     Drill(DrillArgs),
@@ -24,11 +24,11 @@ pub enum Request {
     Mill(MillArgs),
     /// Check the written types of a program.
     Types(Name),
-    /// Write the state at a cut of a trace.
+    /// Write an image of the state at a cut of a trace.
     Save(SaveArgs),
-    /// Go on from a state that was written.
+    /// Go on from an image.
     Resume(ResumeArgs),
-    /// Run a program with a board that is read meanwhile.
+    /// Run a program, and show meanwhile how far it is.
     Watch(RunArgs),
 }
 
@@ -91,7 +91,7 @@ pub struct ResumeArgs {
 pub enum WordFault {
     /// There are no words.
     NoCommand,
-    /// The first word is no command.
+    /// The first word isn't a command.
     UnknownCommand,
     /// The command has no such option.
     UnknownOption(usize),
@@ -105,7 +105,7 @@ pub enum WordFault {
     MissingWord,
     /// The command takes no further word.
     ExtraWord(usize),
-    /// The memory for the names isn't there.
+    /// There was no memory for the names.
     NoMemory,
 }
 
