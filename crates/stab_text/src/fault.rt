@@ -13,12 +13,12 @@ pub enum TextFault {
     Lex(LexFault),
     /// Their tokens aren't the syntax of a program.
     Parse(ParseFault),
-    /// A name of their syntax means nothing there, or there are too many.
+    /// Their syntax has a fault of names, such as one that isn't in scope, or too many functions, texts or variables.
     Scope(ScopeFault),
 }
 
 impl TextFault {
-    /// Whether there was no memory for the answer, which says nothing of the bytes.
+    /// Whether memory ran out, which says nothing of the bytes.
     pub fn is_no_memory(self) -> bool
         ensures { IsTrue result ↔ IsNoMemory self }
     {

@@ -1,4 +1,4 @@
-//! What the definitions of a text say together. The calls do nothing.
+//! What the definitions of a text say together. The functions do nothing.
 ghost use Rattle.std.specs.Prelude.{◌≡◌, ◌⊎◌, ℕ, List};
 ghost use Rattle.stab_code.specs.Program.{ProgramParts};
 ghost use Rattle.stab_text.specs.declared.fault.TextFault.{TextFault};

@@ -30,7 +30,7 @@ impl TextFault {
         }
     }
 
-    /// The length in bytes of the name that the fault is about, if it tells one.
+    /// The length in bytes of the name that the fault is about, if it is about one.
     pub fn length(self) -> Option<u32>
         ensures { result ≡ fault_length self }
     {

@@ -10,9 +10,9 @@ use stab_lex::lex;
 use stab_parse::parse;
 use std::alloc::Global;
 
-/// The program of a text, or its first fault: what isn't tokens comes before what isn't syntax, and that before names that
-/// mean nothing. It takes time that grows with the length of the text. Calls go as deep as forms and types stand in each other,
-/// at most 200, and else nothing of it recurses on the text.
+/// The program of a text, or its first fault: a fault of tokens comes before one of syntax, and that before one of names. It
+/// takes time that grows with the length of the text. Calls go as deep as forms and types are nested, which is at most 200; else
+/// nothing recurses on the text.
 pub fn read_program(alloc: Global, bytes: &[u8]) -> Result<Program, TextFault>
     requires { length bytes.now ≤ max_text }
     ensures program { IfOk result (IsTextOf bytes.now) }
