@@ -18,7 +18,7 @@ pub struct Counter {
     pub history: History,
     pub commits: u64,
     pub stale: u64,
-    /// Where its history lies.
+    /// The allocator of its history.
     pub alloc: Global,
 }
 
@@ -33,7 +33,7 @@ pub struct Call {
     pub stale: bool,
 }
 
-/// What a counter answers.
+/// What a call of a counter returns.
 #[derive(Clone, Copy, PartialEq, Eq)]
 pub struct Reply {
     pub told: Told,
@@ -126,7 +126,7 @@ impl Kept for Counter {
     }
 }
 
-// Adds so many events, or none where the fuel is used up or there is no memory. Answers the first one's number and how many there
+// Adds this many events, or none if the fuel is used up or memory runs out. Returns the number of the first one and how many there
 // are.
 fn add_events(history: &mut History, fuel: u64, worker: u32, events: u32) -> (Seq, u32)
     requires worker { IsWorker worker }

@@ -23,7 +23,7 @@ pub struct Plan {
     pub last_rests: bool,
 }
 
-/// What a worker was told: the numbers of its events, how many of its calls committed and were stale, and whether the counter
+/// What a worker's calls returned: the numbers of its events, how many of its calls committed and were stale, and whether the counter
 /// was spent at the last one.
 #[derive(Drop)]
 pub struct Heard {
@@ -79,7 +79,7 @@ fn call(worker: u32, turn: u32) -> Call
     }
 }
 
-// Takes turns until there were so many, or the counter is spent, or no memory is left to note them.
+// Takes turns up to this number, or until the counter is spent or no memory is left to note them.
 fn take_turns<K: Kept<Ask = Call, Answer = Reply>, C: Ledger, S: Ledger, R: Wait>(
     rt: &R,
     floor: &Floor<K, C, S>,
@@ -131,7 +131,7 @@ fn look_and_rest<K: Kept<Ask = Call, Answer = Reply>, C: Ledger, S: Ledger, R: W
     }
 }
 
-/// Each pass is worked with in a thread of its own, by the plan.
+/// Works with each pass, in a thread of its own, by the plan.
 pub fn work_all<
     K: Kept<Ask = Call, Answer = Reply> + Send + Drop,
     C: Ledger + Send + Sync,
@@ -167,7 +167,7 @@ pub fn work_all<
     Ok(thread::map_vec(rt, passes, &work)?)
 }
 
-/// The passes of the workers and what these heard, in their order.
+/// The passes of the workers, and what their calls returned, in order.
 pub fn parted<K: Kept, C: Ledger, S: Ledger>(
     alloc: Global,
     workers: Vec<Worker<K, C, S>>,
