@@ -24,8 +24,8 @@ use stab_files::{Sink, SinkFail};
 use std::alloc::Global;
 use std::sync::Arc;
 
-/// Plays the script of a drill on a new book of the program, and writes the drill's lines and then what the book shows. Of a
-/// script that can't be played nothing is written.
+/// Plays the script of a drill on a new book of the program, and writes the drill's lines and then what the book shows. If the
+/// script can't be played, nothing is written.
 pub fn play_drill<K: Sink>(
     alloc: Global,
     given: Given,
@@ -98,7 +98,7 @@ fn write_end<K: Sink>(alloc: Global, end: DrillEnd, sink: &mut K) -> Report
     }
 }
 
-// The lines, and behind them what the book shows.
+// The lines, and after them what the book shows.
 fn text_behind(alloc: Global, lines: Vec<u8>, book: &Book) -> Result<Vec<u8>, NoMemory>
     ensures { IfOk result (λ text. (shown : List ℕ) × IsShownText book.now shown × (text.items ≡ lines.items ++ shown)) }
 {

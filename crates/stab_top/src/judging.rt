@@ -16,7 +16,7 @@ use std::alloc::Global;
 use std::sync::Arc;
 use trace_verify::{Verdict, verify};
 
-// A verdict asks neither for fuel nor for a quantum, but a job has both.
+// A verdict needs neither fuel nor a quantum, but a job has both.
 const FUEL: u64 = 1;
 
 const QUANTUM: u32 = 1;

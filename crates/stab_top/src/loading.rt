@@ -9,7 +9,7 @@ use crate::report::{Report, Role, Status};
 use stab_files::{Files, Loaded};
 use std::alloc::Global;
 
-/// The bytes of a file, or the report of a call that can't have them.
+/// The bytes of the file, or the report of why they couldn't be loaded.
 pub fn load<F: Files>(
     alloc: Global,
     files: &mut F,

@@ -18,7 +18,7 @@ use stab_words::RunArgs;
 use std::alloc::Global;
 use trace_text::{TraceFault, read_trace};
 
-/// The program of a file, or the report of a call that can't have it.
+/// The program in the file, or the report of why it couldn't be read.
 pub fn read_program_file<F: Files>(
     alloc: Global,
     files: &mut F,
@@ -34,7 +34,7 @@ pub fn read_program_file<F: Files>(
     }
 }
 
-/// The program of a text, or the report of a call that can't have it.
+/// The program of the text, or the report of why it couldn't be read.
 pub fn program_of(alloc: Global, bytes: &[u8]) -> Result<Program, Report>
     requires { length bytes.now ≤ max_bytes ProgramFile }
     ensures ok { IfOk result (program_form.IsOf bytes.now) }
@@ -47,7 +47,7 @@ pub fn program_of(alloc: Global, bytes: &[u8]) -> Result<Program, Report>
     }
 }
 
-/// The numbers of a probe file, or the report of a call that can't have them.
+/// The numbers in the probe file, or the report of why they couldn't be read.
 pub fn read_probes_file<F: Files>(
     alloc: Global,
     files: &mut F,
@@ -64,7 +64,7 @@ pub fn read_probes_file<F: Files>(
     }
 }
 
-// The numbers of a text, or the report of a call that can't have them.
+// The numbers of the text, or the report of why they couldn't be read.
 fn probes_of(alloc: Global, bytes: &[u8]) -> Result<Vec<i64>, Report>
     requires { length bytes.now ≤ max_bytes ProbesFile }
     ensures ok { IfOk result (λ numbers. probes_form.IsOf bytes.now numbers.items) }
@@ -85,7 +85,7 @@ pub struct Given {
     pub script: Vec<i64>,
 }
 
-/// The program and the script of a run, or the report of a call that can't have them. Without a probe file the script is empty.
+/// The program and the script of a run, or the report of why they couldn't be read. Without a probe file the script is empty.
 pub fn read_run<F: Files>(alloc: Global, args: &RunArgs, files: &mut F) -> Result<Given, Report>
     ensures ok { IfOk result (λ given. AreGiven (device F.held F.faults files.old) (F.faults files.new) args.now given.program given.script.items) }
     ensures few { IfOk result (λ given. length given.script.items ≤ max_script) }
@@ -103,7 +103,7 @@ pub fn read_run<F: Files>(alloc: Global, args: &RunArgs, files: &mut F) -> Resul
     Ok(Given { program, script })
 }
 
-/// The history of a trace, or the report of a call that can't have it.
+/// The history in the trace, or the report of why it couldn't be read.
 pub fn read_trace_file<F: Files>(
     alloc: Global,
     files: &mut F,
@@ -119,7 +119,7 @@ pub fn read_trace_file<F: Files>(
     }
 }
 
-// The history of a text, or the report of a call that can't have it.
+// The history of the text, or the report of why it couldn't be read.
 fn history_of(alloc: Global, bytes: &[u8]) -> Result<History, Report>
     requires { length bytes.now ≤ max_bytes TraceFile }
     ensures ok { IfOk result (trace_form.IsOf bytes.now) }
