@@ -82,12 +82,31 @@ function kind_here(    i) {
     if (fault == "BadText BadChar") return right[1] == 92 ? "\\" : right[1] == 38 ? "&" : right[1] == 124 ? "OR" : ""
     if (fault == "BadText Unknown") return byte_after(size) == 40 ? "(" : ""
     if (fault != "BadText Unexpected") return ""
-    word = ""
-    for (i = 1; i <= token_size(); i++) word = word sprintf("%c", right[i])
+    word = ascii(right, token_size())
     sub(/^0*/, "", word)
     if (word == "9223372036854775808") return "least"
-    for (i = 1; i <= lefts; i++) if (left[i] > 32) return ""
-    return is_of_word(right[1]) && word != "fn" && word != "else" ? "first-in-line" : ""
+    return kind_after(ascii(left, lefts), word)
+}
+
+# What the line before a token that can't be there tells of the mistake.
+function kind_after(before, word) {
+    gsub(/[ \t\r]+/, " ", before)
+    sub(/^ /, "", before)
+    sub(/ $/, "", before)
+    if (word == "{" && before ~ /^fn [^{]*\)$/) return "result"
+    if (word == ":" && before ~ /(^|[^A-Za-z0-9_])let [A-Za-z0-9_]+$/) return "let"
+    if (word == "=" && before ~ /(^|[^A-Za-z0-9_])[A-Za-z_][A-Za-z0-9_]*$/) return "variable"
+    if (before ~ /(^|[^A-Za-z0-9_])(spawn|stable)$/) return "call"
+    if (before ~ /(^|[^A-Za-z0-9_])chan$/) return "channel"
+    if (before ~ /(^|[^A-Za-z0-9_])else$/) return "else"
+    if (before != "" && before !~ /\)$/) return ""
+    return is_of_word(right[1]) && word != "fn" && word != "else" ? "semicolon" : ""
+}
+
+# The first bytes of a list as a text, with a `?` for each that isn't of ASCII.
+function ascii(list, count,    i, text) {
+    for (i = 1; i <= count; i++) text = text (list[i] < 128 ? sprintf("%c", list[i]) : "?")
+    return text
 }
 
 # The byte that begins the token behind so many bytes from the place on.
