@@ -7,7 +7,7 @@ use Rattle.stab_code.proofs.Lists.{slice_get-left, slice_get-right}
 use Rattle.type_table.specs.declared.shape.TypeId.{TypeId}
 use Rattle.type_table.specs.declared.shape.TypeShape.{TypeShape}
 use Rattle.type_table.specs.declared.shape.TypeShape.TheVariants as shape
-use Rattle.type_table.specs.Table.{type_at, written_by, is_made_below, types_after, types_of, AreMadeBelow, AreApart, IsLonger}
+use Rattle.type_table.specs.Table.{type_at, written_by, is_made_below, types_after, types_of, base_shapes, base_types, is_made, AreMadeBelow, AreApart, IsLonger}
 
 -- the number of a place
 abbrev pub id : ℕ → TypeId
@@ -215,3 +215,64 @@ types_snoc shapes s = types_more [] shapes s
 pub found_last : (shapes : List TypeShape) (s : TypeShape) → slice_get (shapes ++ s ∷ []) (length shapes) ≡ Some s
 found_last [] s = refl
 found_last (x ∷ shapes) s = found_last shapes s
+
+-- ---- the base types
+
+some_is : {X : Type 0} {a b : X} → Some a ≡ Some b → a ≡ b
+some_is h = cc
+
+-- the number of a base type's shape
+abbrev place : TypeShape → ℕ
+place shape.Bool = 1
+place shape.Int = 2
+place shape.Text = 3
+place _ = 0
+
+base_place : (i : ℕ) (s : TypeShape) → slice_get base_shapes i ≡ Some s → i ≡ place s
+base_place zero s h = ap place (some_is h)
+base_place (suc zero) s h = ap place (some_is h)
+base_place (suc (suc zero)) s h = ap place (some_is h)
+base_place (suc (suc (suc zero))) s h = ap place (some_is h)
+base_place (suc (suc (suc (suc i)))) s h = absurd (cc)
+
+pub base_apart : AreApart base_shapes
+base_apart i j s found also = base_place i s found ∙ sym (base_place j s also)
+
+base_below : (i k : ℕ) (s : TypeShape) → slice_get base_shapes i ≡ Some s → is_made_below k s ≡ true
+base_below zero k s h = ap (is_made_below k) (sym (some_is h))
+base_below (suc zero) k s h = ap (is_made_below k) (sym (some_is h))
+base_below (suc (suc zero)) k s h = ap (is_made_below k) (sym (some_is h))
+base_below (suc (suc (suc zero))) k s h = ap (is_made_below k) (sym (some_is h))
+base_below (suc (suc (suc (suc i)))) k s h = absurd (cc)
+
+pub base_made : AreMadeBelow base_shapes
+base_made i s found = base_below i i s found
+
+not_base : (b s : TypeShape) → is_made b ≡ false → is_made s ≡ true → Some b ≡ Some s → ⊥
+not_base b s base made same = false≢true (sym base ∙ ap is_made (some_is same) ∙ made)
+
+-- a shape that is made of others, and isn't behind the base types, is nowhere
+pub nowhere_in : (keys : List TypeShape) (s : TypeShape) → is_made s ≡ true → ((i : ℕ) → slice_get keys i ≡ Some s → ⊥) → (i : ℕ) → slice_get (base_shapes ++ keys) i ≡ Some s → ⊥
+nowhere_in keys s made new zero found = not_base shape.Unit s refl made found
+nowhere_in keys s made new (suc zero) found = not_base shape.Bool s refl made found
+nowhere_in keys s made new (suc (suc zero)) found = not_base shape.Int s refl made found
+nowhere_in keys s made new (suc (suc (suc zero))) found = not_base shape.Text s refl made found
+nowhere_in keys s made new (suc (suc (suc (suc i)))) found = new i found
+
+-- the shapes behind the base types
+pub behind_base : (keys : List TypeShape) (i n : ℕ) → n ≡ i + 4 → slice_get (base_shapes ++ keys) n ≡ slice_get keys i
+behind_base keys i n is = slice_get-right base_shapes keys n i (omega arith)
+
+-- the first numbers are those of the base types
+pub base_at : (all : List Written) → IsLonger base_types all → (k : ℕ) (s : TypeShape) → slice_get base_shapes k ≡ Some s → type_at all (id k) ≡ written_by all s
+base_at all l zero s h = ap (λ ts. type_at ts (id 0)) l.is ∙ ap (written_by all) (some_is h)
+base_at all l (suc zero) s h = ap (λ ts. type_at ts (id 1)) l.is ∙ ap (written_by all) (some_is h)
+base_at all l (suc (suc zero)) s h = ap (λ ts. type_at ts (id 2)) l.is ∙ ap (written_by all) (some_is h)
+base_at all l (suc (suc (suc zero))) s h = ap (λ ts. type_at ts (id 3)) l.is ∙ ap (written_by all) (some_is h)
+base_at all l (suc (suc (suc (suc k)))) s h = absurd (cc)
+
+pub base_number : (now all : List Written) → IsLonger base_types now → IsLonger now all → (k : ℕ) (b s : TypeShape) → slice_get base_shapes k ≡ Some b → s ≡ b → type_at all (id k) ≡ written_by all s
+base_number now all base l k b s found same = base_at all (longer_trans base_types now all base l) k s (found ∙ ap Some (sym same))
+
+pub base_within : (now : List Written) → IsLonger base_types now → (k : ℕ) → k < 4 → k < length now
+base_within now base k few = let four : 4 ≤ length now = longer_length base_types now base in omega arith

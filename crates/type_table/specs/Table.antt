@@ -1,5 +1,5 @@
 -- Written types in a list, each made of earlier ones.
-use Rattle.std.specs.Prelude.{◌≡◌, ℕ, nat_lt, Bool, true, ◌&&◌, List, [], ◌∷◌, ◌++◌, slice_get, unwrap_or, Some}
+use Rattle.std.specs.Prelude.{◌≡◌, ℕ, nat_lt, Bool, true, false, ◌&&◌, List, [], ◌∷◌, ◌++◌, slice_get, unwrap_or, Some}
 use Rattle.stab_code.specs.Written.{Written, unit_type, bool_type, int_type, text_type, chan_type, ref_type, pair_type}
 use Rattle.type_table.specs.declared.shape.TypeId.{TypeId}
 use Rattle.type_table.specs.declared.shape.TypeShape.{TypeShape}
@@ -33,6 +33,20 @@ types_after types (s ∷ shapes) = types_after (types ++ written_by types s ∷ 
 
 abbrev pub types_of : List TypeShape → List Written
 types_of shapes = types_after [] shapes
+
+-- the types with which each table begins, and their shapes
+abbrev pub base_types : List Written
+base_types = unit_type ∷ bool_type ∷ int_type ∷ text_type ∷ []
+
+abbrev pub base_shapes : List TypeShape
+base_shapes = shape.Unit ∷ shape.Bool ∷ shape.Int ∷ shape.Text ∷ []
+
+-- a type that is made of others
+abbrev pub is_made : TypeShape → Bool
+is_made (shape.Chan a) = true
+is_made (shape.Ref a) = true
+is_made (shape.Pair a b) = true
+is_made _ = false
 
 -- the shapes of a table: each is made of earlier ones, and none stands twice
 abbrev pub AreMadeBelow : List TypeShape → Type 0
