@@ -7,4 +7,5 @@ pub mod OneVerdict
 pub mod Parting
 pub mod Prefixes
 pub mod Signing
+pub mod Stretching
 pub mod Undoing

@@ -7,6 +7,7 @@ mod led;
 mod parts;
 mod replay;
 mod signs;
+mod stretch;
 mod surviving;
 mod verdict;
 
