@@ -1,0 +1,4 @@
+pub mod Deeding
+pub mod Searching
+pub mod Labelling
+pub mod Together

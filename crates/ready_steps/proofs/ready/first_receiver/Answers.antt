@@ -1,0 +1,14 @@
+use Rattle.std.proofs.Common.{◌≡◌, ℕ, sym, ap, ◌∙◌}
+use Rattle.std.specs.Prelude.{false}
+use Rattle.plain_language.specs.Program.{body}
+use Rattle.ready_steps.specs.Ready.{deed_in, receives_at}
+use Rattle.ready_steps.proofs.Searching.{does, further}
+use Rattle.ready_steps.proofs.ready.first_receiver.Goals as goal
+
+pub loop-t-preserved : goal.loop-t-preserved
+loop-t-preserved c =
+    let p = c.args.state.now.program in
+    let s = c.args.state.now.state in
+    let k = c.args.c.0 in
+    further p s (λ (u : ℕ). receives_at k (deed_in p s u) ≡ false) (λ u none. ap (receives_at k) none) c.loop-t.last c.in-Some.t.0 c.in-Some.ensures.least c.loop-t.invariant
+    (ap (receives_at k) (does p s c.in-Some.t.0 c.in-Some.e.now c.next_deed.result c.in-Some.ensures.stands (c.next_deed.ensures (body p))) ∙ sym c.receives_on.ensures ∙ c.if-receives_on.false)
