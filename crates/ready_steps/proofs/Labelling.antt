@@ -57,12 +57,12 @@ module _ (p : ProgramParts) (s : PlainState) (q : ℕ) (t : ThreadId) where
     by_look e (act (gets r)) at is known =
         let v : (v : Datum) × (map.get s.references r ≡ Some v) = held (map.get s.references r) known in
         alone (Get t (record { 0 = r })) e (to g (g.answered e v.0)) refl at refl
-            (ap (λ (k : Look Expr). get_by g r e (map.get s.references r) k) is
-            ∙ ap (λ b. cond b (option_map (λ w. to g (g.answered e w)) (map.get s.references r)) None) (nat_eq_equiv.refl r)
-            ∙ ap (option_map (λ w. to g (g.answered e w))) v.1)
+        (ap (λ (k : Look Expr). get_by g r e (map.get s.references r) k) is
+        ∙ ap (λ b. cond b (option_map (λ w. to g (g.answered e w)) (map.get s.references r)) None) (nat_eq_equiv.refl r)
+        ∙ ap (option_map (λ w. to g (g.answered e w))) v.1)
     by_look e (act (sets r v)) at is known =
         alone (Set t (record { 0 = r })) e (record { mine = g.answered e unit; other = e; value = v; printed = [] }) refl at known.0
-            (ap (set_by g r e) is ∙ ap (λ b. cond b (Some (record { mine = g.answered e unit; other = e; value = v; printed = [] })) None) (nat_eq_equiv.refl r))
+        (ap (set_by g r e) is ∙ ap (λ b. cond b (Some (record { mine = g.answered e unit; other = e; value = v; printed = [] })) None) (nat_eq_equiv.refl r))
     by_look e (act (enters b)) at is known = alone (Enter t) e _ refl at refl (ap (enter_by g q e) is)
     by_look e (act cuts) at is known = alone (Cut t) e _ refl at refl (ap (cut_by g e) is)
     by_look e (act pins) at is known = alone (Pin t) e _ refl at refl (ap (pin_by g e) is)
@@ -71,7 +71,7 @@ module _ (p : ProgramParts) (s : PlainState) (q : ℕ) (t : ThreadId) where
         alone (Probe t given.probe) e (to g (g.answered e (int given.probe))) refl at refl (ap (probe_by g given.probe e) is ∙ ap (λ b. cond b (Some (to g (g.answered e (int given.probe)))) None) opened.probe)
     by_look e (act attempts) at is known =
         alone (Attempt t given.generation) e (to g (g.answered e (int (Rattle.std.specs.Prelude.pos given.generation)))) refl at refl
-            (ap (attempt_by g given.generation e) is ∙ ap (λ b. cond b (Some (to g (g.answered e (int (Rattle.std.specs.Prelude.pos given.generation))))) None) opened.generation)
+        (ap (attempt_by g given.generation e) is ∙ ap (λ b. cond b (Some (to g (g.answered e (int (Rattle.std.specs.Prelude.pos given.generation))))) None) opened.generation)
 
     by_standing : (o : Option Expr) (d : Deed) → standing s t.0 ≡ o → option_map (λ (e : Expr). deed_of (look_in p e)) o ≡ Some d → IfSome (label_of t given d) (λ l. IsSome (plain_step p s q l))
     by_standing None d at is = absurd (let no : None ≡ Some d = is in cc)

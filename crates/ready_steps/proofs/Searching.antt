@@ -43,10 +43,10 @@ module _ (p : ProgramParts) (s : PlainState) where
                 | true ↦ λ is. subst P (sym (eqb-true u t is)) here
                 | false ↦ λ other.
                     nobody u (gone u (not_true (map.contains_key s.threads u) (λ yes.
-                      let above : last < u = grind (arith, nat_tests) in
-                      let up : t ≤ u = least.2 u above yes in
-                      let same : u ≡ t = omega arith in
-                      false≢true (sym other ∙ ap (λ k. nat_eq k t) same ∙ nat_eq_equiv.refl t))))
+                    let above : last < u = grind (arith, nat_tests) in
+                    let up : t ≤ u = least.2 u above yes in
+                    let same : u ≡ t = omega arith in
+                    false≢true (sym other ∙ ap (λ k. nat_eq k t) same ∙ nat_eq_equiv.refl t))))
               ]) refl
         ] refl
 
