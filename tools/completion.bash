@@ -26,7 +26,7 @@ _stab() {
     esac
     COMPREPLY=()
     if [[ $COMP_CWORD -eq 1 ]]; then
-        COMPREPLY=($(compgen -W $'run\ncheck\ntrace\nverify\ndrill\nmill' -- "$word"))
+        COMPREPLY=($(compgen -W $'run\ncheck\ntypes\ntrace\nverify\ndrill\nmill' -- "$word"))
     elif [[ $before == --probes ]]; then
         COMPREPLY=($(compgen -f -- "$word"))
     elif [[ $word == -* ]]; then

@@ -31,7 +31,7 @@ use Rattle.trace_text.specs.Text.{entries}
 use Rattle.stab_top.specs.declared.report.Role.{Role}
 use Rattle.stab_top.specs.declared.report.Role.TheVariants as roles
 use Rattle.stab_top.specs.declared.report.Status.{Status}
-use Rattle.stab_top.specs.declared.report.Status.TheVariants.{Done, Held, BadWords, BadText, NoFile, TooBig, FileFault, SinkFault, Spent, NoMemory, BadProbes, BadTrace, BadScript, No, NotBuilt}
+use Rattle.stab_top.specs.declared.report.Status.TheVariants.{Done, Held, BadWords, BadText, NoFile, TooBig, FileFault, SinkFault, Spent, NoMemory, BadProbes, BadTrace, BadScript, No, NotBuilt, Untyped}
 use Rattle.stab_top.specs.Words.{is_built}
 use Rattle.stab_top.specs.Device.{Device}
 use Rattle.stab_top.specs.Ending.{AsReleased, AtTheEnd, CheckEnds, IsJudged, IsTold, RunEnds, VerdictEnds, milled_by, shown_by}
@@ -39,6 +39,7 @@ use Rattle.stab_top.specs.Drilling.{DrillEnds, PlayEnds}
 use Rattle.stab_top.specs.Milling.{MillEnds}
 use Rattle.stab_top.specs.Loading.{Finds, LoadRefused, Loads, max_bytes}
 use Rattle.stab_top.specs.Reading.{Blames, Form, ReadRefused, probes_form, program_form, trace_form}
+use Rattle.stab_top.specs.Typing.{TypesEnds}
 use Rattle.stab_top.specs.Call.{BuiltSays, Call, CheckSays, CountedFault, DrillSays, LastSays, OrdersSay, ReadSays, RequestSays, RunSaysBy, Says, ScriptSays, TraceSays, VerifySays, WordsSay, Writing, status_of}
 use Rattle.stab_top.specs.Complete.{Checked, IsHeld, IsHeldFor, IsRefused, IsScriptFor, Ran, WasDrilled, WasJudged, WasStuck}
 
@@ -76,6 +77,7 @@ load_refused role BadTrace c name bytes is says = elim says [ ]
 load_refused role BadScript c name bytes is says = elim says [ ]
 load_refused role No c name bytes is says = elim says [ ]
 load_refused role NotBuilt c name bytes is says = elim says [ ]
+load_refused role Untyped c name bytes is says = elim says [ ]
 
 -- what was loaded is what is held
 loaded_is : (role : Role) (c : Call) (name bytes loaded : List ℕ) (faults : ℕ) → IsHeld role c name bytes → Loads role c.files name faults loaded → loaded ≡ bytes
@@ -132,7 +134,7 @@ module _ (c : Call) (name bytes : List ℕ) where
   of_numbers script text Said (inl failed) = inl failed
   of_numbers script text Said (inr (other, is, said)) = inr (subst Said (ok_is other script (sym is ∙ text)) said)
 
-  program_said : (program : ProgramParts) → IsHeld roles.Program c name bytes → IsTextOf bytes program → (faults : ℕ) (Said : ProgramParts → Type 0) → ReadSays program_form c name faults Said
+  pub program_said : (program : ProgramParts) → IsHeld roles.Program c name bytes → IsTextOf bytes program → (faults : ℕ) (Said : ProgramParts → Type 0) → ReadSays program_form c name faults Said
       → Failed (status_of c) c ⊎ Said program
   program_said program is text faults Said says =
       of_one program text Said (said_of program_form c name bytes is (λ fault has. not_both bytes program fault text has) faults Said says)
@@ -168,6 +170,7 @@ ran text_by BadTrace c job says = elim says.writes.rest [ ]
 ran text_by BadScript c job says = elim says.writes.rest [ ]
 ran text_by No c job says = elim says.writes.rest [ ]
 ran text_by NotBuilt c job says = elim says.writes.rest [ ]
+ran text_by Untyped c job says = elim says.writes.rest [ ]
 
 traced : (status : Status) (c : Call) (job : JobParts) → RunEnds AtTheEnd status job c.outcome → Ran status ⊎ CountedFault c
 traced Done c job says = inl tt
@@ -185,6 +188,7 @@ traced BadTrace c job says = elim says.writes.rest [ ]
 traced BadScript c job says = elim says.writes.rest [ ]
 traced No c job says = elim says.writes.rest [ ]
 traced NotBuilt c job says = elim says.writes.rest [ ]
+traced Untyped c job says = elim says.writes.rest [ ]
 
 checked : (status : Status) (c : Call) (program : ProgramParts) → CheckEnds status program c.outcome → Checked status ⊎ CountedFault c
 checked Done c program says = inl tt
@@ -202,6 +206,7 @@ checked BadTrace c program says = elim says [ ]
 checked BadScript c program says = elim says [ ]
 checked No c program says = elim says [ ]
 checked NotBuilt c program says = elim says [ ]
+checked Untyped c program says = elim says [ ]
 
 run_came : (writes : Writing) → ((status : Status) (c : Call) (job : JobParts) → RunEnds writes status job c.outcome → Ran status ⊎ CountedFault c) → (c : Call) (job : JobParts) → Failed (status_of c) c ⊎ RunEnds writes (status_of c) job c.outcome
     → Ran (status_of c) ⊎ CountedFault c
@@ -375,6 +380,7 @@ module _ (c : Call) (job : JobParts) where
   played script BadTrace is ends = elim ends [ ]
   played script No is ends = elim ends [ ]
   played script NotBuilt is ends = elim ends [ ]
+  played script Untyped is ends = elim ends [ ]
 
   failed_drilled : (script : List Line) → Failed (status_of c) c → WasDrilled c job script ⊎ CountedFault c
   failed_drilled script (inl none) = inl (inr (inr none))
@@ -446,7 +452,7 @@ request_with_fault c (Verify args) bytes fault says is has = text_with_fault c a
 request_with_fault c (Check file) bytes fault says is has = text_with_fault c file bytes fault c.files_after (λ p. CheckEnds (status_of c) p c.outcome) is has says
 request_with_fault c (Drill args) bytes fault says is has = text_with_fault c args.file bytes fault c.files.faults (λ p. ScriptSays c args.probes (λ s. OrdersSay c args p s)) is has says
 request_with_fault c (Mill args) bytes fault says is has = elim is [ ]
-request_with_fault c (Types file) bytes fault says is has = elim is [ ]
+request_with_fault c (Types file) bytes fault says is has = text_with_fault c file bytes fault c.files_after (λ p. TypesEnds (status_of c) p c.outcome) is has says
 request_with_fault c (Save args) bytes fault says is has = elim is [ ]
 request_with_fault c (Resume args) bytes fault says is has = elim is [ ]
 request_with_fault c (Watch args) bytes fault says is has = elim is [ ]

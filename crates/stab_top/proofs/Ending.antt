@@ -22,7 +22,7 @@ use Rattle.trace_text.specs.Text.{trace}
 use Rattle.stab_top.specs.declared.playing.Stop.{Stop}
 use Rattle.stab_top.specs.declared.playing.Stop.TheVariants as stops
 use Rattle.stab_top.specs.declared.report.Status.{Status}
-use Rattle.stab_top.specs.declared.report.Status.TheVariants.{Done, Held, BadWords, BadText, NoFile, TooBig, FileFault, SinkFault, Spent, NoMemory, BadProbes, BadTrace, BadScript, No, NotBuilt}
+use Rattle.stab_top.specs.declared.report.Status.TheVariants.{Done, Held, BadWords, BadText, NoFile, TooBig, FileFault, SinkFault, Spent, NoMemory, BadProbes, BadTrace, BadScript, No, NotBuilt, Untyped}
 use Rattle.stab_top.specs.Device.{Device, Gains, GainsPrefix, Rests}
 use Rattle.stab_top.specs.Ending.{AsReleased, AtTheEnd, Ends, HasReleases, IsOver, IsRunOf, IsWritten, Outcome, Refuses, RestSays, RunEnds, WritesReleases, mill_line, milled_by, shown_by, text_with}
 use Rattle.stab_top.specs.Playing.{HasRun, HasStopped, IsTextBehind, StopSays, WritesOf, line_behind}
@@ -49,6 +49,7 @@ module _ (writes : Status → BookView → PlainState → Outcome → Type 0) wh
   ended BadScript job o e = e
   ended No job o e = e
   ended NotBuilt job o e = e
+  ended Untyped job o e = e
 
   -- the report has the book
   pub with_book : (status said : Status) (job : JobParts) (o : Outcome) (book : BookView) (state : PlainState) → status ≡ said → o.report.book ≡ Some book → blame_of o.report ≡ no_blame → IsRunOf job book state → writes said book state o → RunEnds writes status job o
@@ -81,6 +82,7 @@ module _ (text_by : BookView → PlainState → List ℕ) (book : BookView) (sta
   whole_by BadScript w = w
   whole_by No w = w
   whole_by NotBuilt w = w
+  whole_by Untyped w = w
 
 module _ (book : BookView) (state : PlainState) (o : Outcome) where
   pub trace_whole : (status : Status) → IsWritten status book state (trace book.history) o → AtTheEnd status book state o
@@ -99,6 +101,7 @@ module _ (book : BookView) (state : PlainState) (o : Outcome) where
   trace_whole BadScript w = w
   trace_whole No w = w
   trace_whole NotBuilt w = w
+  trace_whole Untyped w = w
 
 -- a run whose end the status tells is over
 pub over_of : (status : Status) (job : JobParts) (book : BookView) (has : HasRun status job book) → IsOver book has.state
@@ -117,6 +120,7 @@ over_of BadTrace job book has = elim has.rest [ ]
 over_of BadScript job book has = elim has.rest [ ]
 over_of No job book has = elim has.rest [ ]
 over_of NotBuilt job book has = elim has.rest [ ]
+over_of Untyped job book has = elim has.rest [ ]
 
 -- ---- the text of a run, and what of it is written when it is over
 

@@ -22,7 +22,7 @@ use Rattle.schedule_drill.specs.Solo.{IsDrilledByOne}
 use Rattle.schedule_drill.proofs.OneWorker.{drilled_by_one}
 use Rattle.stab_top.specs.declared.report.Report.{Report}
 use Rattle.stab_top.specs.declared.report.Status.{Status}
-use Rattle.stab_top.specs.declared.report.Status.TheVariants.{Done, Held, BadWords, BadText, NoFile, TooBig, FileFault, SinkFault, Spent, NoMemory, BadProbes, BadTrace, BadScript, No, NotBuilt}
+use Rattle.stab_top.specs.declared.report.Status.TheVariants.{Done, Held, BadWords, BadText, NoFile, TooBig, FileFault, SinkFault, Spent, NoMemory, BadProbes, BadTrace, BadScript, No, NotBuilt, Untyped}
 use Rattle.stab_top.specs.Words.{is_built}
 use Rattle.stab_top.specs.Call.{BuiltSays, Call, DrillSays, LastSays, MillSays, OrdersSay, ReadSays, RunSaysBy, Says, ScriptSays, Writing, status_of}
 use Rattle.stab_top.specs.Device.{Device, Gains}
@@ -101,6 +101,7 @@ module _ (o : Outcome) (b : BookView) (there : o.report.book ≡ Some b) where
     run_book BadScript e = ends_book BadScript e
     run_book No e = ends_book No e
     run_book NotBuilt e = ends_book NotBuilt e
+    run_book Untyped e = ends_book Untyped e
 
   -- the book of a script that was played
   module _ (job : JobParts) (script : List Line) where
@@ -123,6 +124,7 @@ module _ (o : Outcome) (b : BookView) (there : o.report.book ≡ Some b) where
     play_book BadTrace e = elim e [ ]
     play_book No e = elim e [ ]
     play_book NotBuilt e = elim e [ ]
+    play_book Untyped e = elim e [ ]
 
 module _ (c : Call) (b : BookView) (there : c.outcome.report.book ≡ Some b) where
   read_book : {Content Fault : Type 0} (form : Form Content Fault) (file : List ℕ) (faults : ℕ) (Said : Content → Type 0) → ((content : Content) → Said content → IsOfTheLanguage b) → ReadSays form c file faults Said → IsOfTheLanguage b
@@ -231,6 +233,7 @@ module _ (c : Call) (args : RunArgs) (program : ProgramParts) (script : List ℤ
   ended_run BadScript is over e = elim over [ ]
   ended_run No is over e = elim over [ ]
   ended_run NotBuilt is over e = elim over [ ]
+  ended_run Untyped is over e = elim over [ ]
 
 load_no_end : (role : Role) (status : Status) (files : Device (List Entry)) (name : List ℕ) (faults : ℕ) → LoadRefused status role files name faults → IsEnd status → ⊥
 load_no_end role Done files name faults refused over = refused
@@ -248,6 +251,7 @@ load_no_end role BadTrace files name faults refused over = over
 load_no_end role BadScript files name faults refused over = over
 load_no_end role No files name faults refused over = over
 load_no_end role NotBuilt files name faults refused over = over
+load_no_end role Untyped files name faults refused over = over
 
 module _ {Content Fault : Type 0} (form : Form Content Fault) (bad : IsEnd form.bad → ⊥) (report : Report) (over : IsEnd report.status) where
   bytes_no_end : (bytes : List ℕ) → BytesRefused form report bytes → ⊥

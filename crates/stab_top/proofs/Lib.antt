@@ -14,3 +14,4 @@ pub mod OwnTraces
 pub mod Given
 pub mod Mill
 pub mod Headline
+pub mod TypesFound

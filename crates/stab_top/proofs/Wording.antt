@@ -13,6 +13,7 @@ use Rattle.stab_top.specs.Words.{is_built}
 use Rattle.stab_top.specs.Loading.{LoadRefused, blamed}
 use Rattle.stab_top.specs.Reading.{Blames, Form, probes_form, program_form}
 use Rattle.stab_top.specs.Ending.{AsReleased, AtTheEnd, CheckEnds, RunEnds, shown_by}
+use Rattle.stab_top.specs.Typing.{TypesEnds}
 use Rattle.stab_top.specs.Call.{BuiltSays, Call, FaultSays, LastSays, NotBuiltSays, ReadSays, RequestSays, RunSaysBy, Says, OrdersSay, ScriptSays, TraceSays, Untouched, WordsSay, Writing, status_of}
 
 -- no file was loaded, for want of memory
@@ -34,7 +35,7 @@ request_says (Verify args) c none is = unread program_form c args.file c.files.f
 request_says (Check file) c none is = unread program_form c file c.files_after (λ p. CheckEnds (status_of c) p c.outcome) none is
 request_says (Drill args) c none is = unread program_form c args.file c.files.faults (λ p. ScriptSays c args.probes (λ s. OrdersSay c args p s)) none is
 request_says (Mill args) c none is = (is.no_fault, inl (inr (none, is.refuses.0), is.refuses.1))
-request_says (Types name) c none is = not_built c none is
+request_says (Types file) c none is = unread program_form c file c.files_after (λ p. TypesEnds (status_of c) p c.outcome) none is
 request_says (Save args) c none is = not_built c none is
 request_says (Resume args) c none is = not_built c none is
 request_says (Watch args) c none is = not_built c none is

@@ -7,7 +7,7 @@ use Rattle.stab_code.specs.Program.{ProgramParts}
 use Rattle.stab_files.specs.Count.{Rose}
 use Rattle.stab_files.specs.Entry.{Entry}
 use Rattle.stab_words.specs.declared.request.Request.{Request}
-use Rattle.stab_words.specs.declared.request.Request.TheVariants.{Check, Drill, Mill, Run, Trace, Verify}
+use Rattle.stab_words.specs.declared.request.Request.TheVariants.{Check, Drill, Mill, Run, Trace, Types, Verify}
 use Rattle.stab_words.specs.declared.request.DrillArgs.{DrillArgs}
 use Rattle.stab_words.specs.declared.request.MillArgs.{MillArgs}
 use Rattle.stab_words.specs.declared.request.RunArgs.{RunArgs}
@@ -19,6 +19,7 @@ use Rattle.stab_top.specs.declared.report.Status.TheVariants.{BadWords, NoMemory
 use Rattle.stab_top.specs.Ending.{AsReleased, AtTheEnd, CheckEnds, Outcome, Refuses, RunEnds, VerdictEnds, shown_by}
 use Rattle.stab_top.specs.Milling.{MillEnds}
 use Rattle.stab_top.specs.Drilling.{DrillEnds}
+use Rattle.stab_top.specs.Typing.{TypesEnds}
 use Rattle.stab_top.specs.Loading.{FileSays, blamed}
 use Rattle.stab_top.specs.declared.report.Role.TheVariants.{Script}
 use Rattle.stab_top.specs.Device.{Device, Rests, device}
@@ -96,6 +97,10 @@ MillSays c args = (c.files_after ≡ c.files.faults) × MillEnds (status_of c) a
 abbrev pub CheckSays : Call → List ℕ → Type 0
 CheckSays c file = LastSays program_form c file (λ program. CheckEnds (status_of c) program c.outcome)
 
+-- a check of its types
+abbrev pub TypesSays : Call → List ℕ → Type 0
+TypesSays c file = LastSays program_form c file (λ program. TypesEnds (status_of c) program c.outcome)
+
 -- the trace of a file, judged as one of the program and the script
 abbrev pub TraceSays : Call → List ℕ → ProgramParts → List ℤ → Type 0
 TraceSays c file program script =
@@ -131,6 +136,7 @@ BuiltSays c (Mill args) = MillSays c args
 BuiltSays c (Verify args) = VerifySays c args
 BuiltSays c (Drill args) = DrillSays c args
 BuiltSays c (Check file) = CheckSays c file
+BuiltSays c (Types file) = TypesSays c file
 BuiltSays c _ = ⊥
 
 -- by whether the request is built

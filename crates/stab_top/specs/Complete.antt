@@ -5,17 +5,19 @@ use Rattle.drill_text.specs.declared.script.Line.{Line}
 use Rattle.lone_worker.specs.Desk.{desk_of}
 use Rattle.plain_language.specs.Plain.{PlainState, end_of}
 use Rattle.schedule_drill.specs.declared.fault.DrillFault.{DrillFault}
+use Rattle.stab_base.specs.declared.numbers.FnId.{FnId}
 use Rattle.stab_code.specs.JobParts.{JobParts}
 use Rattle.stab_code.specs.Program.{ProgramParts}
 use Rattle.stab_files.specs.Entry.{Entry, contents_of}
 use Rattle.stab_journal.specs.Journal.{Journal}
 use Rattle.stab_journal.specs.Surviving.{run_of}
+use Rattle.stab_types.specs.Typed.{IsFirstUntyped, IsTyped}
 use Rattle.stab_words.specs.declared.request.Request.{Request}
-use Rattle.stab_words.specs.declared.request.Request.TheVariants.{Check, Drill, Run, Trace as WritesTrace, Verify}
+use Rattle.stab_words.specs.declared.request.Request.TheVariants.{Check, Drill, Run, Trace as WritesTrace, Types, Verify}
 use Rattle.trace_verify.specs.declared.verdict.Verdict.{Verdict}
 use Rattle.trace_verify.specs.Verdict.{IsVerdict}
 use Rattle.stab_top.specs.declared.report.Status.{Status}
-use Rattle.stab_top.specs.declared.report.Status.TheVariants.{BadScript, Done, FileFault, Held, NoMemory, SinkFault, Spent}
+use Rattle.stab_top.specs.declared.report.Status.TheVariants.{BadScript, Done, FileFault, Held, NoMemory, SinkFault, Spent, Untyped}
 use Rattle.stab_top.specs.declared.report.Role.{Role}
 use Rattle.stab_top.specs.declared.report.Role.TheVariants.{Program, Probes}
 use Rattle.stab_top.specs.Call.{Call, CountedFault, status_of}
@@ -40,6 +42,7 @@ IsHeldFor c (WritesTrace args) bytes = IsHeld Program c args.file bytes
 IsHeldFor c (Verify args) bytes = IsHeld Program c args.file bytes
 IsHeldFor c (Drill args) bytes = IsHeld Program c args.file bytes
 IsHeldFor c (Check file) bytes = IsHeld Program c file bytes
+IsHeldFor c (Types file) bytes = IsHeld Program c file bytes
 IsHeldFor c _ bytes = ⊥
 
 -- the script is the one that is held under the name, or empty where there is no name
@@ -60,6 +63,13 @@ abbrev pub Checked : Status → Type 0
 Checked Done = Unit {0}
 Checked NoMemory = Unit {0}
 Checked _ = ⊥
+
+-- the program is typed, or a function is the first that isn't, or memory was refused
+abbrev pub TypesFound : Status → ProgramParts → Type 0
+TypesFound Done program = IsTyped program
+TypesFound Untyped program = (f : FnId) × IsFirstUntyped program f
+TypesFound NoMemory program = Unit {0}
+TypesFound _ program = ⊥
 
 -- the bytes were refused for their fault, or memory was refused
 abbrev pub IsRefused : {Content Fault : Type 0} → Form Content Fault → Call → Fault → Type 0

@@ -8,6 +8,7 @@ pub mod Rounds
 pub mod Playing
 pub mod Milling
 pub mod Drilling
+pub mod Typing
 pub mod Call
 pub mod Command
 pub mod Complete

@@ -6,6 +6,8 @@ use Rattle.probe_text.specs.declared.fault.ProbesFault.{ProbesFault}
 use Rattle.probe_text.specs.declared.fault.ProbesFault.TheVariants as probes
 use Rattle.schedule_drill.specs.declared.fault.DrillFault.{DrillFault}
 use Rattle.schedule_drill.specs.declared.fault.DrillFault.TheVariants as scripts
+use Rattle.stab_types.specs.declared.typed.TypeFault.{TypeFault}
+use Rattle.stab_types.specs.declared.typed.TypeFault.TheVariants as types
 use Rattle.trace_text.specs.declared.fault.TraceFault.{TraceFault}
 use Rattle.trace_text.specs.declared.fault.TraceFault.TheVariants as traces
 use Rattle.trace_verify.specs.declared.verdict.Verdict.{Verdict}
@@ -16,7 +18,7 @@ use Rattle.stab_words.specs.declared.request.WordFault.{WordFault}
 use Rattle.stab_words.specs.FaultText as words
 use Rattle.stab_top.specs.declared.report.Report.{Report}
 use Rattle.stab_top.specs.declared.report.Status.{Status}
-use Rattle.stab_top.specs.declared.report.Status.TheVariants.{Done, Held, BadWords, BadText, NoFile, TooBig, FileFault, SinkFault, Spent, NoMemory, BadProbes, BadTrace, BadScript, No, NotBuilt}
+use Rattle.stab_top.specs.declared.report.Status.TheVariants.{Done, Held, BadWords, BadText, NoFile, TooBig, FileFault, SinkFault, Spent, NoMemory, BadProbes, BadTrace, BadScript, No, NotBuilt, Untyped}
 use Rattle.stab_top.specs.declared.report.Role.{Role}
 use Rattle.stab_top.specs.declared.report.Role.TheVariants.{Program, Probes, Trace, Script}
 
@@ -37,6 +39,7 @@ status_number BadTrace = 11
 status_number BadScript = 12
 status_number No = 13
 status_number NotBuilt = 14
+status_number Untyped = 15
 
 -- the name of a status
 abbrev pub status_name : Status → List ℕ
@@ -55,6 +58,7 @@ status_name BadTrace = codes "BadTrace"
 status_name BadScript = codes "BadScript"
 status_name No = codes "No"
 status_name NotBuilt = codes "NotBuilt"
+status_name Untyped = codes "Untyped"
 
 -- the word for what a file is for
 abbrev pub role_name : Role → List ℕ
@@ -64,7 +68,7 @@ role_name Trace = codes "trace"
 role_name Script = codes "script"
 
 -- what a report names beside its status: the fault of the words, the file, the fault of the program's text, of the probe file,
--- of the trace or of the script, the verdict
+-- of the trace, of the script or of the types, the verdict
 pub record Blame : Type 0 where
   pub words : Option WordFault
   pub file : Option Role
@@ -72,10 +76,11 @@ pub record Blame : Type 0 where
   pub probes : Option ProbesFault
   pub trace : Option TraceFault
   pub script : Option DrillFault
+  pub types : Option TypeFault
   pub verdict : Option Verdict
 
 abbrev pub no_blame : Blame
-no_blame = record { words = None; file = None; text = None; probes = None; trace = None; script = None; verdict = None }
+no_blame = record { words = None; file = None; text = None; probes = None; trace = None; script = None; types = None; verdict = None }
 
 abbrev pub blames_words : WordFault → Blame
 blames_words fault = record no_blame { words = Some fault }
@@ -95,6 +100,9 @@ blames_trace fault = record no_blame { trace = Some fault }
 abbrev pub blames_script : DrillFault → Blame
 blames_script fault = record no_blame { script = Some fault }
 
+abbrev pub blames_types : TypeFault → Blame
+blames_types fault = record no_blame { types = Some fault }
+
 abbrev pub names_verdict : Verdict → Blame
 names_verdict verdict = record no_blame { verdict = Some verdict }
 
@@ -106,6 +114,7 @@ blame_of report = record {
   probes = report.probes_fault;
   trace = report.trace_fault;
   script = report.script_fault;
+  types = report.type_fault;
   verdict = report.verdict;
 }
 
@@ -150,6 +159,12 @@ script_words (Some (scripts.NoSuchLease at)) = codes " NoSuchLease" ++ number_wo
 script_words (Some (scripts.HeldTwice at)) = codes " HeldTwice" ++ number_word (Some at)
 script_words (Some scripts.NoMemory) = codes " NoMemory"
 
+-- the number of the first function that isn't typed
+abbrev pub type_words : Option TypeFault → List ℕ
+type_words None = []
+type_words (Some (types.Untyped f)) = number_word (Some f.0)
+type_words (Some types.NoMemory) = codes " NoMemory"
+
 -- the name of what is wrong with an event
 abbrev pub why_name : Why → List ℕ
 why_name NoStep = codes "NoStep"
@@ -173,7 +188,7 @@ verdict_words (Some verdict) = failing_words verdict
 abbrev pub blame_words : Blame → List ℕ
 blame_words blame =
     role_word blame.file ++ (fault_words blame.words ++ (text_words blame.text
-    ++ (probes_words blame.probes ++ (trace_words blame.trace ++ (script_words blame.script ++ verdict_words blame.verdict)))))
+    ++ (probes_words blame.probes ++ (trace_words blame.trace ++ (script_words blame.script ++ (type_words blame.types ++ verdict_words blame.verdict))))))
 
 -- the status, and what is blamed
 abbrev pub reason_line : Status → Blame → List ℕ

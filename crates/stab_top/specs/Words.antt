@@ -1,9 +1,9 @@
 -- Which words are built.
 use Rattle.std.specs.Prelude.{Bool, true, false}
 use Rattle.stab_words.specs.declared.request.Request.{Request}
-use Rattle.stab_words.specs.declared.request.Request.TheVariants.{Check, Drill, Mill, Run, Trace, Verify}
+use Rattle.stab_words.specs.declared.request.Request.TheVariants.{Check, Drill, Mill, Run, Trace, Types, Verify}
 
--- what is built: the commands `run`, `trace`, `mill`, `verify`, `drill` and `check`
+-- what is built: the commands `run`, `trace`, `mill`, `verify`, `drill`, `check` and `types`
 abbrev pub is_built : Request → Bool
 is_built (Run args) = true
 is_built (Trace args) = true
@@ -11,4 +11,5 @@ is_built (Mill args) = true
 is_built (Verify args) = true
 is_built (Drill args) = true
 is_built (Check file) = true
+is_built (Types file) = true
 is_built _ = false

@@ -1,7 +1,7 @@
 //! What the statuses say together: they leave no way round a good program or a trace, nor round a text that is none. The
 //! calls do nothing.
 ghost use Rattle.std.specs.Prelude.{◌≡◌, ◌⊎◌, ◌++◌, ◌∷◌, [], ℕ, ℤ, List, count_by, length, Some, None, Ok, true};
-ghost use Rattle.commit_book.specs.Book.{BookView};
+ghost use Rattle.commit_book.specs.Book.{BookView, fault_at};
 ghost use Rattle.commit_book.specs.Headline.{StandsIn};
 ghost use Rattle.drill_text.specs.declared.script.Line.{Line};
 ghost use Rattle.drill_text.specs.Script.{script_of};
@@ -11,6 +11,7 @@ ghost use Rattle.plain_language.specs.Plain.{PlainState};
 ghost use Rattle.plain_language.specs.Standing.{event};
 ghost use Rattle.schedule_drill.specs.Drilled.{IsDrilled, IsOfScript, IsRefused as IsUnplayed};
 ghost use Rattle.schedule_drill.specs.declared.fault.DrillFault.{DrillFault};
+ghost use Rattle.stab_base.specs.declared.fault.Fault.TheVariants.{WrongKind};
 ghost use Rattle.stab_base.specs.declared.numbers.Seq.{Seq};
 ghost use Rattle.stab_base.specs.declared.numbers.ThreadId.{ThreadId};
 ghost use Rattle.probe_text.specs.declared.fault.ProbesFault.{ProbesFault};
@@ -31,19 +32,22 @@ ghost use Rattle.stab_words.specs.Asked.{asked};
 ghost use Rattle.stab_words.specs.declared.request.Request.{Request};
 ghost use Rattle.stab_words.specs.declared.request.DrillArgs.{DrillArgs};
 ghost use Rattle.stab_words.specs.declared.request.MillArgs.{MillArgs};
-ghost use Rattle.stab_words.specs.declared.request.Request.TheVariants.{Check, Drill, Mill, Run, Trace, Verify};
+ghost use Rattle.stab_words.specs.declared.request.Request.TheVariants.{Check, Drill, Mill, Run, Trace, Types, Verify};
 ghost use Rattle.stab_words.specs.declared.request.RunArgs.{RunArgs as Args};
 ghost use Rattle.stab_words.specs.declared.request.VerifyArgs.{VerifyArgs};
 ghost use Rattle.trace_text.specs.declared.fault.TraceFault.{TraceFault};
 ghost use Rattle.trace_text.specs.Text.{trace};
 ghost use Rattle.stab_top.specs.Call.{Call, CountedFault, Says, status_of};
 ghost use Rattle.stab_top.specs.Words.{is_built};
-ghost use Rattle.stab_top.specs.Complete.{Checked, ComesTo, IsHeld, IsHeldFor, IsRefused, IsScriptFor, Ran, StopsWith, WasDrilled, WasJudged, WasStuck};
+ghost use Rattle.stab_top.specs.Complete.{Checked, ComesTo, IsHeld, IsHeldFor, IsRefused, IsScriptFor, Ran, StopsWith, TypesFound, WasDrilled, WasJudged, WasStuck};
 ghost use Rattle.stab_top.specs.Ending.{IsRunOf};
 ghost use Rattle.stab_top.specs.Headline.{AsksForRun, IsEnd, IsOfTheLanguage, ShowsRunOf};
 ghost use Rattle.stab_top.specs.Reading.{probes_form, program_form, trace_form};
 ghost use Rattle.stab_top.specs.declared.report.Role.TheVariants.{Probes as ProbesFile, Program as ProgramFile, Script as ScriptFile, Trace as TraceFile};
 ghost use Rattle.stab_top.specs.declared.report.Status.TheVariants.{Done as DoneStatus, NoMemory as NoMemoryStatus};
+
+use scope_check::programs_are_valid;
+use stab_types::typed_programs_never_go_wrong;
 
 /// Where the words ask for a run, and it is Done, Held or Spent: the program of the file was run, with the script that the words
 /// name and their fuel and quantum; the journal of the report's book without its undone steps is, in order, a run of the plain
@@ -101,6 +105,25 @@ pub fn good_programs_check()
         asked words ≡ Ok (Check file) → IsHeld ProgramFile c file bytes → IsTextOf bytes program →
         Checked (status_of c) ⊎ CountedFault c }
 {}
+
+/// Where the words ask for the types of a program, and the files tell that its text is held within the limit under its name, it was
+/// told that it is typed, or the first function was blamed that isn't, or memory was refused, or a fault was counted.
+pub fn types_are_told()
+    ensures { (words : List (List ℕ)) (c : Call) (file bytes : List ℕ) (program : ProgramParts) → Says words c →
+        asked words ≡ Ok (Types file) → IsHeld ProgramFile c file bytes → IsTextOf bytes program →
+        TypesFound (status_of c) program ⊎ CountedFault c }
+{}
+
+/// Where the words ask for the types of a program, and it is Done, no thread of any book of that program has failed because a value
+/// was of the wrong kind, whichever words made the book: `run`, `trace`, `mill` or `drill`, with any numbers of workers and of probes.
+pub fn typed_files_never_go_wrong()
+    ensures { (words : List (List ℕ)) (c : Call) (file bytes : List ℕ) (program : ProgramParts) (book : BookView) → Says words c →
+        asked words ≡ Ok (Types file) → status_of c ≡ DoneStatus → IsHeld ProgramFile c file bytes → IsTextOf bytes program →
+        IsOfTheLanguage book → book.job.program ≡ program → (t : ℕ) → fault_at book t ≡ Some WrongKind → ⊥ }
+{
+    programs_are_valid();
+    typed_programs_never_go_wrong();
+}
 
 /// Where the words ask for a verdict, and the files tell that the program, the script and the trace are held within their
 /// limits, the status is that of the verdict, or memory was refused, or a fault was counted.

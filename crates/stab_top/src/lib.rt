@@ -16,6 +16,7 @@ mod rounds;
 mod running;
 mod silent;
 mod top;
+mod typing;
 mod words;
 mod writing;
 
@@ -24,7 +25,8 @@ pub use laws::{
     bad_texts_are_refused, bad_traces_are_refused, books_are_of_the_language,
     drills_are_determined, good_programs_are_traced, good_programs_check, good_programs_run,
     mills_run, runs_are_of_the_language, runs_have_one_history, scripts_are_drilled,
-    traces_are_judged, traces_of_runs_pass, undos_and_output,
+    traces_are_judged, traces_of_runs_pass, typed_files_never_go_wrong, types_are_told,
+    undos_and_output,
 };
 pub use program::command;
 pub use reason_line::reason;

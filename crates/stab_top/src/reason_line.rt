@@ -1,19 +1,20 @@
 //! The line that tells a reason.
 ghost use Rattle.std.specs.Prelude.{◌≡◌, ◌++◌, IfOk, OnOk, OnErr, string_bytes};
-ghost use Rattle.stab_top.specs.Reason.{blame_of, blame_words, failing_words, fault_words, number_word, probes_words, reason_text, role_word, script_words, text_words, trace_words, verdict_words, why_name};
+ghost use Rattle.stab_top.specs.Reason.{blame_of, blame_words, failing_words, fault_words, number_word, probes_words, reason_text, role_word, script_words, text_words, trace_words, type_words, verdict_words, why_name};
 
 use crate::report::{Report, Role, Status};
 use probe_text::ProbesFault;
 use schedule_drill::DrillFault;
 use stab_base::NoMemory;
 use stab_text::TextFault;
+use stab_types::TypeFault;
 use stab_words::WordFault;
 use std::alloc::Global;
 use trace_text::TraceFault;
 use trace_verify::{Verdict, Why};
 
 /// Adds the line that tells why a call didn't end as Done: the status, and the cause: a file, the fault of the words or of a text,
-/// or the event of a trace that fails. Nothing is added for Done.
+/// a function, or the event of a trace that fails. Nothing is added for Done.
 pub fn reason(alloc: Global, report: &Report, out: &mut Vec<u8>) -> Result<(), NoMemory>
     ensures ok { OnOk result (out.new.items ≡ out.old.items ++ reason_text report.now.status (blame_of report.now)) }
     ensures err { OnErr result (out.new.items ≡ out.old.items) }
@@ -38,8 +39,9 @@ fn blame_words(alloc: Global, report: &Report) -> Result<String, NoMemory>
     let probes = probes_words(alloc, report.probes_fault)?;
     let trace = trace_words(alloc, report.trace_fault)?;
     let script = script_words(alloc, report.script_fault)?;
+    let types = type_words(alloc, report.type_fault)?;
     let verdict = verdict_words(alloc, report.verdict)?;
-    Ok(format!(in alloc; "{role}{fault}{text}{probes}{trace}{script}{verdict}")?)
+    Ok(format!(in alloc; "{role}{fault}{text}{probes}{trace}{script}{types}{verdict}")?)
 }
 
 // The word for the file, behind a space.
@@ -128,6 +130,17 @@ fn script_words(alloc: Global, fault: Option<DrillFault>) -> Result<String, NoMe
         Some(DrillFault::NoSuchLease(at)) => Ok(format!(in alloc; " NoSuchLease {at}")?),
         Some(DrillFault::HeldTwice(at)) => Ok(format!(in alloc; " HeldTwice {at}")?),
         Some(DrillFault::NoMemory) => Ok(String::from_str(alloc, " NoMemory")?),
+    }
+}
+
+// The number of the function, behind a space.
+fn type_words(alloc: Global, fault: Option<TypeFault>) -> Result<String, NoMemory>
+    ensures { IfOk result (λ words. string_bytes words ≡ type_words fault) }
+{
+    match fault {
+        None => Ok(String::new(alloc)),
+        Some(TypeFault::Untyped(f)) => number_word(alloc, Some(f.0 as usize)),
+        Some(TypeFault::NoMemory) => Ok(String::from_str(alloc, " NoMemory")?),
     }
 }
 

@@ -1,14 +1,17 @@
 //! What a call reports.
 ghost use Rattle.std.specs.Prelude.{◌≡◌, Some, None};
+ghost use Rattle.stab_types.specs.declared.typed.TypeFault.TheVariants.{Untyped as UntypedFault};
 ghost use Rattle.stab_top.specs.Loading.{max_bytes};
 ghost use Rattle.stab_top.specs.Reading.{Blames};
-ghost use Rattle.stab_top.specs.Reason.{blame_of, blames_file, blames_probes, blames_script, blames_text, blames_trace, blames_words, names_verdict, no_blame, role_name, status_name, status_number};
-ghost use Rattle.stab_top.specs.declared.report.Status.TheVariants.{BadProbes as BadProbesStatus, BadScript as BadScriptStatus, BadText as BadTextStatus, BadTrace as BadTraceStatus, BadWords as BadWordsStatus};
+ghost use Rattle.stab_top.specs.Reason.{blame_of, blames_file, blames_probes, blames_script, blames_text, blames_trace, blames_types, blames_words, names_verdict, no_blame, role_name, status_name, status_number};
+ghost use Rattle.stab_top.specs.declared.report.Status.TheVariants.{BadProbes as BadProbesStatus, BadScript as BadScriptStatus, BadText as BadTextStatus, BadTrace as BadTraceStatus, BadWords as BadWordsStatus, Untyped as UntypedStatus};
 
 use commit_book::Book;
 use probe_text::ProbesFault;
 use schedule_drill::DrillFault;
+use stab_base::FnId;
 use stab_text::TextFault;
+use stab_types::TypeFault;
 use stab_words::WordFault;
 use trace_text::TraceFault;
 use trace_verify::Verdict;
@@ -16,8 +19,8 @@ use trace_verify::Verdict;
 /// How a call ended. Its number is the program's exit status.
 #[derive(Clone, Copy, PartialEq, Eq, Debug)]
 pub enum Status {
-    /// The run came to rest, and every thread ended without a fault; or the program was told of, the drill was played to its end,
-    /// or the trace is one of a run of the program.
+    /// The run came to rest, and every thread ended without a fault; or the program was told of, or is typed, the drill was played to
+    /// its end, or the trace is one of a run of the program.
     Done,
     /// The run came to rest, and a thread failed or waits.
     Held,
@@ -47,6 +50,8 @@ pub enum Status {
     No,
     /// What the words ask for isn't built yet.
     NotBuilt,
+    /// A function of the program isn't typed.
+    Untyped,
 }
 
 impl Status {
@@ -77,6 +82,7 @@ impl Status {
             Status::BadScript => "BadScript",
             Status::No => "No",
             Status::NotBuilt => "NotBuilt",
+            Status::Untyped => "Untyped",
         }
     }
 }
@@ -133,6 +139,8 @@ pub struct Report {
     pub trace_fault: Option<TraceFault>,
     /// Why the script isn't one, or can't be played.
     pub script_fault: Option<DrillFault>,
+    /// Why the program isn't typed.
+    pub type_fault: Option<TypeFault>,
     /// The verdict on a trace, also where it couldn't be written.
     pub verdict: Option<Verdict>,
 }
@@ -164,6 +172,7 @@ impl Report {
             probes_fault: None,
             trace_fault: None,
             script_fault: None,
+            type_fault: None,
             verdict: None,
         }
     }
@@ -231,6 +240,17 @@ impl Report {
         Report {
             script_fault: Some(fault),
             ..Report::bare(Status::BadScript)
+        }
+    }
+
+    /// The report of a program of which this is the first function that isn't typed.
+    pub(crate) fn untyped(first: FnId) -> Report
+        ensures status { result.status ≡ UntypedStatus }
+        ensures blames { Blames result (blames_types (UntypedFault first)) }
+    {
+        Report {
+            type_fault: Some(TypeFault::Untyped(first)),
+            ..Report::bare(Status::Untyped)
         }
     }
 

@@ -15,6 +15,7 @@ use crate::milling::run_mill;
 use crate::reading::{Given, read_probes_file, read_program_file, read_run, read_trace_file};
 use crate::report::{Gate, Report, Role, Status};
 use crate::running::{run_program, trace_program};
+use crate::typing::types_file;
 use crate::words::is_built;
 use stab_code::Program;
 use stab_files::{Files, Sink};
@@ -26,8 +27,8 @@ use std::thread::Threads;
 /// Does what the words ask for, and reports how it ended. `run FILE` runs the program of the file and writes what it shows;
 /// `trace FILE` runs it and writes the trace; `mill SIZE` runs a program of this size; `verify FILE TRACE` writes the verdict on a
 /// trace; `drill FILE SCRIPT` plays a schedule that is written by hand, and writes what its lines did and what the program then
-/// shows; `check FILE` writes how many functions and texts the program has. One worker runs on the calling thread, and calls no
-/// gate.
+/// shows; `check FILE` writes how many functions and texts the program has; `types FILE` writes how many functions it has where it
+/// is typed. One worker runs on the calling thread, and calls no gate.
 pub fn stab<R: Threads + Wait + Sync, F: Files, K: Sink, G: Gate + Sync>(
     rt: &R,
     alloc: Global,
@@ -78,6 +79,7 @@ fn answer_request<F: Files, K: Sink>(
         Request::Verify(args) => verify_file(alloc, args, files, sink),
         Request::Drill(args) => drill_file(alloc, args, files, sink),
         Request::Check(file) => check_file(alloc, file, files, sink),
+        Request::Types(file) => types_file(alloc, file, files, sink),
         _ => unreachable!(),
     }
 }

@@ -4,8 +4,8 @@ ghost use Rattle.stab_top.specs.Words.{is_built};
 
 use stab_words::Request;
 
-/// Whether what the words ask for is built: a check, a verdict, the mill, a drill, or a run, of which the trace may be written.
-/// One worker runs, whatever their number.
+/// Whether what the words ask for is built: a check, one of types, a verdict, the mill, a drill, or a run, of which the trace may be
+/// written. One worker runs, whatever their number.
 pub fn is_built(request: &Request) -> bool
     ensures { result ≡ is_built request.now }
 {
@@ -15,7 +15,8 @@ pub fn is_built(request: &Request) -> bool
         | Request::Mill(_)
         | Request::Verify(_)
         | Request::Drill(_)
-        | Request::Check(_) => true,
+        | Request::Check(_)
+        | Request::Types(_) => true,
         _ => false,
     }
 }
