@@ -1,0 +1,4 @@
+pub mod Names
+pub mod Noting
+pub mod Stepping
+pub mod Fitting

@@ -1,0 +1,14 @@
+use Rattle.std.proofs.Common.{sym, subst}
+use Rattle.std.specs.Prelude.{IsSome}
+use Rattle.image_run.specs.Machine.{number_of, state_of}
+use Rattle.image_run.proofs.Fitting.{lone_some, may_make}
+use Rattle.image_run.proofs.machine.Machine.label.Goals as goal
+
+pub returns-clause-may : goal.returns-clause-may
+returns-clause-may c =
+    let m = c.args.self.now in
+    may_make m c.requires.at c.args.t c.given.result c.given.ensures.given c.label_for.result c.args.deed c.label_for.ensures.label
+    (c.label_for.ensures.can m.surviving.state.program (state_of m) (number_of m) c.requires.deed c.given.ensures.opened)
+
+pub returns-clause-some : goal.returns-clause-some
+returns-clause-some c = λ lone other. subst IsSome (sym c.label_for.ensures.label) (lone_some c.args.t c.given.result c.args.deed lone other)

@@ -1,0 +1,5 @@
+pub mod Next
+pub mod Origin
+pub mod Machine
+pub mod Noted
+pub mod Acting
