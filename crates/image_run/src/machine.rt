@@ -100,12 +100,7 @@ impl Machine {
 
     /// Takes back the section that was entered at m, and returns the steps that went. The thread is at a stabilize in it, and it
     /// can be taken back.
-    pub fn undo(
-        &mut self,
-        alloc: Global,
-        t: ThreadId,
-        m: Seq,
-    ) -> Result<Vec<Numbered>, NoMemory>
+    pub fn undo(&mut self, alloc: Global, t: ThreadId, m: Seq) -> Result<Vec<Numbered>, NoMemory>
         requires at { IsAt self.old }
         requires room { HasRoom self.old }
         requires may { MayUndoSince self.old.surviving.parts.since self.old.surviving.state.program (run_of self.old) (state_of self.old) t.0 m.0 }
@@ -126,12 +121,7 @@ impl Machine {
     }
 
     /// Makes the pure steps that a thread has, so many at most, as one step. Returns how many there were.
-    pub fn local(
-        &mut self,
-        alloc: Global,
-        t: ThreadId,
-        most: u32,
-    ) -> Result<u32, NoMemory>
+    pub fn local(&mut self, alloc: Global, t: ThreadId, most: u32) -> Result<u32, NoMemory>
         requires at { IsAt self.old }
         requires room { HasRoom self.old }
         requires some { 1 ≤ most }
