@@ -79,7 +79,7 @@ function token_size(    i) {
 
 # What the bytes at the place tell of the fault.
 function kind_here(    i) {
-    if (fault == "BadText BadChar") return right[1] == 92 ? "\\" : right[1] == 38 ? "&" : right[1] == 124 ? "OR" : ""
+    if (fault == "BadText BadChar") return right[1] == 124 ? "OR" : right[1] < 128 ? sprintf("%c", right[1]) : ""
     if (fault == "BadText Unknown") return byte_after(size) == 40 ? "(" : ""
     if (fault != "BadText Unexpected") return ""
     word = ascii(right, token_size())
@@ -95,10 +95,17 @@ function kind_after(before, word) {
     sub(/ $/, "", before)
     if (word == "{" && before ~ /^fn [^{]*\)$/) return "result"
     if (word == ":" && before ~ /(^|[^A-Za-z0-9_])let [A-Za-z0-9_]+$/) return "let"
+    if (word == "=" && before ~ /(^|[^A-Za-z0-9_])if [^{}]*$/) return "equal"
     if (word == "=" && before ~ /(^|[^A-Za-z0-9_])[A-Za-z_][A-Za-z0-9_]*$/) return "variable"
     if (before ~ /(^|[^A-Za-z0-9_])(spawn|stable)$/) return "call"
     if (before ~ /(^|[^A-Za-z0-9_])chan$/) return "channel"
     if (before ~ /(^|[^A-Za-z0-9_])else$/) return "else"
+    if (before ~ /:$/) return "type"
+    if (before ~ /(^|[^A-Za-z0-9_])(let|fn)$/ && word ~ /^[a-z]+$/) return "reserved"
+    if (before ~ /(^|[^A-Za-z0-9_])(while|for|loop)$/) return "loop"
+    if (before ~ /(^|[^A-Za-z0-9_])return$/) return "return"
+    if (word == "," && before ~ /(^|[^A-Za-z0-9_])(ref|get|recv|print|fst|snd)\([^()]*$/) return "pair"
+    if (word == "}" && (before ~ /^[} ]*$/ || before ~ /(^|[^A-Za-z0-9_])let [^;]*$/)) return "closing"
     if (before != "" && before !~ /\)$/) return ""
     return is_of_word(right[1]) && word != "fn" && word != "else" ? "semicolon" : ""
 }
