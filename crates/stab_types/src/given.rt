@@ -3,9 +3,10 @@
 use type_table::TypeId;
 
 /// What an expression gives: a value of a type of the table, or never a value.
-#[derive(Clone, Copy)]
+#[derive(Clone, Copy, Default)]
 pub(crate) enum Given {
     Of(TypeId),
+    #[default]
     Never,
 }
 

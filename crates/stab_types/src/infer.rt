@@ -10,6 +10,7 @@ ghost use Rattle.stab_types.specs.Given.{AreSeenBelow, AreSignatures, IsComputed
 use crate::given::{Given, Signature};
 use crate::rule::type_by;
 use crate::variables::{put_back, see};
+use smallvec::SmallVec;
 use stab_base::NoMemory;
 use stab_code::{Head, NodeId, Program, nodes_are_trees};
 use std::alloc::Global;
@@ -47,7 +48,7 @@ pub(crate) fn infer(
     let Some(node) = program.node(n) else {
         unreachable!()
     };
-    let mut parts = Vec::new(alloc);
+    let mut parts: SmallVec<Given, 4> = SmallVec::new(alloc);
     let mut hidden = Vec::new(alloc);
     for (i, part) in node.parts().iter().enumerate() {
         let Some(given) = infer(alloc, program, signatures, types, seen, *part)? else {
@@ -57,5 +58,5 @@ pub(crate) fn infer(
         see(seen, &mut hidden, slot_at(node.head(), i), given)?;
     }
     put_back(seen, hidden);
-    type_by(types, signatures, seen, node.head(), &parts)
+    type_by(types, signatures, seen, node.head(), parts.as_slice())
 }

@@ -90,7 +90,7 @@ loop-i-preserved t c =
     let now_is : c.see.new.seen ≡ with_let c.slot_at.result g c.loop-i.seen = c.in_ok-see.ensures.seen ∙ ap (with_let c.slot_at.result g) seen in
     let kept_is : c.see.new.hidden.items ≡ c.loop-i.hidden.items ++ hidden_by c.slot_at.result c.loop-i.seen =
     c.in_ok-see.ensures.hidden ∙ ap (λ (vs : List (Option Given)). c.loop-i.hidden.items ++ hidden_by c.slot_at.result vs) seen in
-    subst (λ (gs : List Given). IsGoing p.functions p c.args.types.now c.infer.new.types c.args.seen.now c.see.new.seen c.see.new.hidden.items node.head node.parts (c.loop-i.i + 1) gs) (sym c.in_ok-push.ensures.items)
+    subst (λ (gs : List Given). IsGoing p.functions p c.args.types.now c.infer.new.types c.args.seen.now c.see.new.seen c.see.new.hidden.items node.head node.parts (c.loop-i.i + 1) gs) (sym c.in_ok-push.ensures.ok)
     (going_step p.functions p c.args.types.now c.loop-i.types c.args.seen.now c.loop-i.seen c.loop-i.hidden.items node.head node.parts c.loop-i.i c.loop-i.parts.items c.loop-i.invariant
     c.infer.new.types g part c.slot_at.result c.see.new.seen c.see.new.hidden.items (c.loop-i.i + 1) at computed slot_is within now_is kept_is (omega arith))
 
@@ -107,13 +107,13 @@ returns-clause-is t c =
     let now = signatures_more c.args.types.now c.loop-i.types c.args.signatures.now p.functions c.loop-i.invariant.longer c.requires.signatures in
     ok_then c.type_by.result c.type_by.ensures
     (λ found h.
-    let raw : IsComputed c.loop-i.types c.type_by.new.types found (λ all. type_by p.functions (seen_of all c.put_back.new.seen) c.head-2.result.now (map (type_of all) c.deref.result.now)) = h p.functions now in
-    let by_seen : IsComputed c.loop-i.types c.type_by.new.types found (λ all. type_by p.functions (seen_of all c.args.seen.now) c.head-2.result.now (map (type_of all) c.deref.result.now)) =
-    subst (λ (vs : List (Option Given)). IsComputed c.loop-i.types c.type_by.new.types found (λ all. type_by p.functions (seen_of all vs) c.head-2.result.now (map (type_of all) c.deref.result.now))) seen_is raw in
-    let by_head : IsComputed c.loop-i.types c.type_by.new.types found (λ all. type_by p.functions (seen_of all c.args.seen.now) node.head (map (type_of all) c.deref.result.now)) =
-    subst (λ (h : Head). IsComputed c.loop-i.types c.type_by.new.types found (λ all. type_by p.functions (seen_of all c.args.seen.now) h (map (type_of all) c.deref.result.now))) c.head-2.ensures by_seen in
+    let raw : IsComputed c.loop-i.types c.type_by.new.types found (λ all. type_by p.functions (seen_of all c.put_back.new.seen) c.head-2.result.now (map (type_of all) c.as_slice.result.now)) = h p.functions now in
+    let by_seen : IsComputed c.loop-i.types c.type_by.new.types found (λ all. type_by p.functions (seen_of all c.args.seen.now) c.head-2.result.now (map (type_of all) c.as_slice.result.now)) =
+    subst (λ (vs : List (Option Given)). IsComputed c.loop-i.types c.type_by.new.types found (λ all. type_by p.functions (seen_of all vs) c.head-2.result.now (map (type_of all) c.as_slice.result.now))) seen_is raw in
+    let by_head : IsComputed c.loop-i.types c.type_by.new.types found (λ all. type_by p.functions (seen_of all c.args.seen.now) node.head (map (type_of all) c.as_slice.result.now)) =
+    subst (λ (h : Head). IsComputed c.loop-i.types c.type_by.new.types found (λ all. type_by p.functions (seen_of all c.args.seen.now) h (map (type_of all) c.as_slice.result.now))) c.head-2.ensures by_seen in
     let by_parts : IsComputed c.loop-i.types c.type_by.new.types found (λ all. type_by p.functions (seen_of all c.args.seen.now) node.head (map (type_of all) c.loop-i.parts.items)) =
-    subst (λ (gs : List Given). IsComputed c.loop-i.types c.type_by.new.types found (λ all. type_by p.functions (seen_of all c.args.seen.now) node.head (map (type_of all) gs))) c.deref.ensures.value by_head in
+    subst (λ (gs : List Given). IsComputed c.loop-i.types c.type_by.new.types found (λ all. type_by p.functions (seen_of all c.args.seen.now) node.head (map (type_of all) gs))) c.as_slice.ensures by_head in
     let end : length node.parts ≤ c.loop-i.i = subst (λ (ns : List NodeId). length ns ≤ c.loop-i.i) c.parts-part-items.ensures (omega (arith, c.loop-i-test.false)) in
     going_end p.functions p c.args.types.now c.loop-i.types c.args.seen.now c.loop-i.seen c.loop-i.hidden.items node.head node.parts c.loop-i.i c.loop-i.parts.items c.loop-i.invariant c.args.n is_tree
     c.type_by.new.types found end by_parts)
