@@ -1,13 +1,13 @@
 //! Programs that keep their written types.
-ghost use Rattle.std.specs.Prelude.{◌≡◌, ℕ, List, IfSome};
+ghost use Rattle.std.specs.Prelude.{◌≡◌, ℕ, IfSome};
 ghost use Rattle.std.specs.Arc.{arc_value};
 ghost use Rattle.stab_base.specs.declared.fault.Fault.TheVariants.{WrongKind};
-ghost use Rattle.stab_journal.specs.declared.event.Numbered.{Numbered};
 ghost use Rattle.plain_language.specs.Plain.{IsRun, PlainState, look_in, standing};
 ghost use Rattle.plain_language.specs.Table.{fault};
 
 use stab_base::{FnId, NoMemory};
 use stab_code::{Program, forms_fit};
+use stab_journal::Numbered;
 use std::marker::Model;
 use std::sync::Arc;
 
@@ -63,15 +63,16 @@ impl Typed {
 
     /// The program that was checked.
     pub fn program(&self) -> &Arc<Program>
-        ensures { arc_value result.now ≡ self.now }
+        ensures is { arc_value result.now ≡ self.now }
+        ensures typed { ∥ IsTyped self.now ∥₁ }
     {
         &self.program
     }
 
-    /// In no run of the program, whatever the order of its threads and the numbers of its probes, has a thread failed because a
-    /// value was of the wrong kind. The call does nothing.
-    pub fn never_wrong(&self)
-        ensures { (run : List Numbered) (s : PlainState) → IsRun self.now run s → (t : ℕ)
+    /// Where this is a run of the program, whatever the order of its threads and the numbers of its probes, no thread of its end has
+    /// failed because a value was of the wrong kind. The call does nothing.
+    pub fn never_wrong(&self, run: &[Numbered])
+        ensures { (s : PlainState) → IsRun self.now run.now s → (t : ℕ)
             → IfSome (standing s t) (λ e. look_in self.now e ≡ fault WrongKind → ⊥) }
     {
         forms_fit();
