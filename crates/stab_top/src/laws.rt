@@ -115,7 +115,7 @@ pub fn types_are_told()
 {}
 
 /// Where the words ask for the types of a program, and it is Done, no thread of any book of that program has failed because a value
-/// was of the wrong kind, whichever words made the book: `run`, `trace`, `mill` or `drill`, with any numbers of workers and of probes.
+/// was of the wrong kind, whichever words made the book: `run`, `trace`, `mill` or `drill`, whatever the numbers that probes get.
 pub fn typed_files_never_go_wrong()
     ensures { (words : List (List ℕ)) (c : Call) (file bytes : List ℕ) (program : ProgramParts) (book : BookView) → Says words c →
         asked words ≡ Ok (Types file) → status_of c ≡ DoneStatus → IsHeld ProgramFile c file bytes → IsTextOf bytes program →
