@@ -1,6 +1,5 @@
 -- What a round leaves: a run that ends where values are due, and their release.
-use Rattle.std.proofs.Common.{◌≡◌, ◌⊎◌, inl, inr, ℕ, zero, suc, ◌+◌, ◌-◌, ◌<◌, ◌≤◌, Bool, true, false, cond, ◌&&◌, nat_eq, List, [], ◌∷◌, ◌++◌, length, take, drop, refl, sym, ap, subst, ◌∙◌, append-nil, append_assoc, arith}
-use Rattle.std.specs.Prelude.{nat_lt}
+use Rattle.std.proofs.Common.{◌≡◌, ◌⊎◌, inl, inr, ℕ, zero, suc, ◌+◌, ◌-◌, ◌<◌, ◌≤◌, Bool, true, false, ◌&&◌, nat_eq, List, [], ◌∷◌, ◌++◌, length, take, drop, refl, sym, ap, subst, ◌∙◌, append-nil, append_assoc, arith}
 use Rattle.std.specs.List.{AllByRecursion, flat_map}
 use Rattle.std.proofs.lemmas.Bool.{false≢true}
 use Rattle.std.proofs.lemmas.Grind.{flat_map-append}
@@ -40,7 +39,7 @@ use Rattle.lone_worker.specs.declared.worker.RunEnd.TheVariants as ends
 use Rattle.lone_worker.specs.Desk.{IsUnlent}
 use Rattle.lone_worker.specs.Running.{AreTurns, none, one_more, IsLater, IsRun}
 use Rattle.lone_worker.specs.Turn.{IsTurnOf, is_made, worker}
-use Rattle.stab_top.specs.Rounds.{IsRound, rounds_left}
+use Rattle.stab_top.specs.Rounds.{IsRound, one_if_any, rounds_left}
 
 -- ---- of what is released
 
@@ -221,13 +220,13 @@ nearer old last new later run some is = by (due old.history.events) refl
     fuel = ap (λ (x : BookView). x.job.fuel) is ∙ ap (λ (j : JobParts). j.fuel) later.job
 
     now : rounds_left new ≡ (new.job.fuel - weight_of new.history.events) + 0
-    now = ap (λ (n : ℕ). (new.job.fuel - weight_of new.history.events) + cond (nat_lt 0 n) 1 0) (none_due last new worker is)
+    now = ap (λ (n : ℕ). (new.job.fuel - weight_of new.history.events) + one_if_any n) (none_due last new worker is)
 
     by : (n : ℕ) → due old.history.events ≡ n → rounds_left new < rounds_left old
     by zero undue =
         let light : weight_of old.history.events < old.job.fuel = due_light old last run undue some in
-        let before : rounds_left old ≡ (old.job.fuel - weight_of old.history.events) + 0 = ap (λ (n : ℕ). (old.job.fuel - weight_of old.history.events) + cond (nat_lt 0 n) 1 0) undue in
+        let before : rounds_left old ≡ (old.job.fuel - weight_of old.history.events) + 0 = ap (λ (n : ℕ). (old.job.fuel - weight_of old.history.events) + one_if_any n) undue in
         let m = more in let s = sum in let f = fuel in let n = now in omega (arith, light, before, m, s, f, n)
     by (suc k) owed =
-        let before : rounds_left old ≡ (old.job.fuel - weight_of old.history.events) + 1 = ap (λ (n : ℕ). (old.job.fuel - weight_of old.history.events) + cond (nat_lt 0 n) 1 0) owed in
+        let before : rounds_left old ≡ (old.job.fuel - weight_of old.history.events) + 1 = ap (λ (n : ℕ). (old.job.fuel - weight_of old.history.events) + one_if_any n) owed in
         let m = more in let s = sum in let f = fuel in let n = now in omega (arith, before, m, s, f, n)

@@ -1,5 +1,5 @@
 -- The rounds of a run by one worker.
-use Rattle.std.specs.Prelude.{◌≡◌, ℕ, ◌+◌, ◌-◌, ◌<◌, cond, nat_lt}
+use Rattle.std.specs.Prelude.{◌≡◌, ℕ, zero, suc, ◌+◌, ◌-◌, ◌<◌}
 use Rattle.stab_journal.specs.Due.{due}
 use Rattle.stab_journal.specs.Event.{weight_of}
 use Rattle.commit_book.specs.Book.{BookView}
@@ -11,9 +11,14 @@ use Rattle.lone_worker.specs.Turn.{worker}
 use Rattle.stab_top.specs.declared.rounds.RoundEnd.{RoundEnd}
 use Rattle.stab_top.specs.declared.rounds.RoundEnd.TheVariants.{Released, Quiet, Spent, NoMemory}
 
+-- 1 where any are due
+abbrev pub one_if_any : ℕ → ℕ
+one_if_any zero = 0
+one_if_any (suc n) = 1
+
 -- at most so many rounds are left: each uses fuel, but for one that has only to release what was due before
 abbrev pub rounds_left : BookView → ℕ
-rounds_left b = (b.job.fuel - weight_of b.history.events) + cond (nat_lt 0 (due b.history.events)) 1 0
+rounds_left b = (b.job.fuel - weight_of b.history.events) + one_if_any (due b.history.events)
 
 -- what was due is released
 abbrev pub ReleaseSays : RoundEnd → BookView → BookView → Type 0
