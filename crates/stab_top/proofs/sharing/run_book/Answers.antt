@@ -9,8 +9,8 @@ use Rattle.stab_top.proofs.sharing.run_book.Goals as goal
 pub play_on-requires : goal.play_on-requires
 play_on-requires g c = start_unlent c.args.book c.requires.starts
 
-pub run_shared-requires : goal.run_shared-requires
-run_shared-requires g c = record { workers = c.requires.workers; starts = c.requires.starts; free = (start_unlent c.args.book c.requires.starts).free }
+pub run_shared-book-requires-clause-free : goal.run_shared-book-requires-clause-free
+run_shared-book-requires-clause-free g c = (start_unlent c.args.book c.requires.starts).free
 
 -- ---- one worker
 
@@ -35,41 +35,41 @@ returns-then-workers-eq1-clause-stopped g c =
 
 -- ---- several workers
 
-pub returns-clause-stopped : goal.returns-clause-stopped
-returns-clause-stopped g c =
+pub returns-in-Some-clause-stopped : goal.returns-in-Some-clause-stopped
+returns-in-Some-clause-stopped g c =
     let before = device g.K.Sink.told g.K.Sink.faults c.args.sink.now in
-    let after = device g.K.Sink.told g.K.Sink.faults c.run_shared.new.sink in
-    let shared = subst (λ s. IsSharedOf c.args.workers c.args.book.job c.run_shared.result.book s before after) c.in-Some.is c.run_shared.ensures in
-    several_stopped c.args.workers c.args.book.job c.if-workers-eq1.false c.run_shared.result.book before after c.in-Some.stop shared
+    let after = device g.K.Sink.told g.K.Sink.faults c.run_shared-book.new.sink in
+    let shared = subst (λ s. IsSharedOf c.args.workers c.args.book.job c.run_shared-book.result.book s before after) c.in-Some.is c.run_shared-book.ensures in
+    several_stopped c.args.workers c.args.book.job c.if-workers-eq1.false c.run_shared-book.result.book before after c.in-Some.stop shared
 
-pub play_on-2-requires : goal.play_on-2-requires
-play_on-2-requires g c = record { shown = c.run_shared.ensures.shown; free = c.run_shared.ensures.free }
+pub play_on-requires-in-None : goal.play_on-requires-in-None
+play_on-requires-in-None g c = record { shown = c.run_shared-book.ensures.shown; free = c.run_shared-book.ensures.free }
 
 pub returns-in-None-clause-over : goal.returns-in-None-clause-over
 returns-in-None-clause-over g c =
     let before = device g.K.Sink.told g.K.Sink.faults c.args.sink.now in
-    let between = device g.K.Sink.told g.K.Sink.faults c.run_shared.new.sink in
-    let shared = subst (λ s. IsSharedOf c.args.workers c.args.book.job c.run_shared.result.book s before between) c.in-None.is c.run_shared.ensures in
-    let e = c.play_on-2.ensures in
-    if_ok c.play_on-2.result.end _ _
-    (several_over c.args.workers c.args.book.job c.if-workers-eq1.false c.run_shared.result.book before between shared c.requires.workers.0 c.play_on-2.result.book e.later e.unlent) e.over
+    let between = device g.K.Sink.told g.K.Sink.faults c.run_shared-book.new.sink in
+    let shared = subst (λ s. IsSharedOf c.args.workers c.args.book.job c.run_shared-book.result.book s before between) c.in-None.is c.run_shared-book.ensures in
+    let e = c.play_on-in-None.ensures in
+    if_ok c.play_on-in-None.result.end _ _
+    (several_over c.args.workers c.args.book.job c.if-workers-eq1.false c.run_shared-book.result.book before between shared c.requires.workers.0 c.play_on-in-None.result.book e.later e.unlent) e.over
 
 pub returns-in-None-clause-written : goal.returns-in-None-clause-written
 returns-in-None-clause-written g c =
     let before = device g.K.Sink.told g.K.Sink.faults c.args.sink.now in
-    let between = device g.K.Sink.told g.K.Sink.faults c.run_shared.new.sink in
-    let shared = subst (λ s. IsSharedOf c.args.workers c.args.book.job c.run_shared.result.book s before between) c.in-None.is c.run_shared.ensures in
-    let e = c.play_on-2.ensures in
-    on_ok c.play_on-2.result.end _ _
-    (several_gains c.args.workers c.args.book.job c.if-workers-eq1.false c.run_shared.result.book before between shared c.requires.workers.0 c.play_on-2.result.book e.later e.unlent
-    (device g.K.Sink.told g.K.Sink.faults c.play_on-2.new.sink)) e.written
+    let between = device g.K.Sink.told g.K.Sink.faults c.run_shared-book.new.sink in
+    let shared = subst (λ s. IsSharedOf c.args.workers c.args.book.job c.run_shared-book.result.book s before between) c.in-None.is c.run_shared-book.ensures in
+    let e = c.play_on-in-None.ensures in
+    on_ok c.play_on-in-None.result.end _ _
+    (several_gains c.args.workers c.args.book.job c.if-workers-eq1.false c.run_shared-book.result.book before between shared c.requires.workers.0 c.play_on-in-None.result.book e.later e.unlent
+    (device g.K.Sink.told g.K.Sink.faults c.play_on-in-None.new.sink)) e.written
 
 pub returns-in-None-clause-stopped : goal.returns-in-None-clause-stopped
 returns-in-None-clause-stopped g c =
     let before = device g.K.Sink.told g.K.Sink.faults c.args.sink.now in
-    let between = device g.K.Sink.told g.K.Sink.faults c.run_shared.new.sink in
-    let shared = subst (λ s. IsSharedOf c.args.workers c.args.book.job c.run_shared.result.book s before between) c.in-None.is c.run_shared.ensures in
-    let e = c.play_on-2.ensures in
-    if_err c.play_on-2.result.end _ _
-    (λ stop. several_broken c.args.workers c.args.book.job c.if-workers-eq1.false c.run_shared.result.book before between shared c.requires.workers.0 c.play_on-2.result.book e.later e.unlent stop
-    (device g.K.Sink.told g.K.Sink.faults c.play_on-2.new.sink)) e.stopped
+    let between = device g.K.Sink.told g.K.Sink.faults c.run_shared-book.new.sink in
+    let shared = subst (λ s. IsSharedOf c.args.workers c.args.book.job c.run_shared-book.result.book s before between) c.in-None.is c.run_shared-book.ensures in
+    let e = c.play_on-in-None.ensures in
+    if_err c.play_on-in-None.result.end _ _
+    (λ stop. several_broken c.args.workers c.args.book.job c.if-workers-eq1.false c.run_shared-book.result.book before between shared c.requires.workers.0 c.play_on-in-None.result.book e.later e.unlent stop
+    (device g.K.Sink.told g.K.Sink.faults c.play_on-in-None.new.sink)) e.stopped
