@@ -1,5 +1,6 @@
 -- What a round leaves: a run that ends where values are due, and their release.
 use Rattle.std.proofs.Common.{◌≡◌, ◌⊎◌, inl, inr, ℕ, zero, suc, ◌+◌, ◌-◌, ◌<◌, ◌≤◌, Bool, true, false, cond, ◌&&◌, nat_eq, List, [], ◌∷◌, ◌++◌, length, take, drop, refl, sym, ap, subst, ◌∙◌, append-nil, append_assoc, arith}
+use Rattle.std.specs.Prelude.{nat_lt}
 use Rattle.std.specs.List.{AllByRecursion, flat_map}
 use Rattle.std.proofs.lemmas.Bool.{false≢true}
 use Rattle.std.proofs.lemmas.Grind.{flat_map-append}
@@ -39,7 +40,7 @@ use Rattle.lone_worker.specs.declared.worker.RunEnd.TheVariants as ends
 use Rattle.lone_worker.specs.Desk.{IsUnlent}
 use Rattle.lone_worker.specs.Running.{AreTurns, none, one_more, IsLater, IsRun}
 use Rattle.lone_worker.specs.Turn.{IsTurnOf, is_made, worker}
-use Rattle.stab_top.specs.Rounds.{IsRound, fuel_left}
+use Rattle.stab_top.specs.Rounds.{IsRound, rounds_left}
 
 -- ---- of what is released
 
@@ -206,12 +207,27 @@ module _ (a b : BookView) (shown : IsShown a) (behind : IsShown b) (later : IsLa
 
 -- ---- of a round
 
-pub nearer : (old last new : BookView) → IsLater old last → IsRun ends.Due old last → due old.history.events ≡ 0 → 0 < due last.history.events → IsReleased last new worker → fuel_left new < fuel_left old
-nearer old last new later run undue some is =
-    let light : weight_of old.history.events < old.job.fuel = due_light old last run undue some in
-    let more : weight_of new.history.events ≡ weight_of last.history.events + 1 = release_weight last new worker is in
-    let sum : weight_of last.history.events ≡ weight_of old.history.events + weight_of later.added =
-    ap weight_of later.events ∙ sum_by-append (λ (e : Event). weigh e.what) old.history.events later.added
-    in
-    let fuel : new.job.fuel ≡ old.job.fuel = ap (λ (x : BookView). x.job.fuel) is ∙ ap (λ (j : JobParts). j.fuel) later.job in
-    omega (arith, light, more, sum, fuel)
+-- a release leaves nothing due, so a round fewer is left: where nothing was due before, the turns of the round used fuel
+pub nearer : (old last new : BookView) → IsLater old last → IsRun ends.Due old last → 0 < due last.history.events → IsReleased last new worker → rounds_left new < rounds_left old
+nearer old last new later run some is = by (due old.history.events) refl
+  where
+    more : weight_of new.history.events ≡ weight_of last.history.events + 1
+    more = release_weight last new worker is
+
+    sum : weight_of last.history.events ≡ weight_of old.history.events + weight_of later.added
+    sum = ap weight_of later.events ∙ sum_by-append (λ (e : Event). weigh e.what) old.history.events later.added
+
+    fuel : new.job.fuel ≡ old.job.fuel
+    fuel = ap (λ (x : BookView). x.job.fuel) is ∙ ap (λ (j : JobParts). j.fuel) later.job
+
+    now : rounds_left new ≡ (new.job.fuel - weight_of new.history.events) + 0
+    now = ap (λ (n : ℕ). (new.job.fuel - weight_of new.history.events) + cond (nat_lt 0 n) 1 0) (none_due last new worker is)
+
+    by : (n : ℕ) → due old.history.events ≡ n → rounds_left new < rounds_left old
+    by zero undue =
+        let light : weight_of old.history.events < old.job.fuel = due_light old last run undue some in
+        let before : rounds_left old ≡ (old.job.fuel - weight_of old.history.events) + 0 = ap (λ (n : ℕ). (old.job.fuel - weight_of old.history.events) + cond (nat_lt 0 n) 1 0) undue in
+        let m = more in let s = sum in let f = fuel in let n = now in omega (arith, light, before, m, s, f, n)
+    by (suc k) owed =
+        let before : rounds_left old ≡ (old.job.fuel - weight_of old.history.events) + 1 = ap (λ (n : ℕ). (old.job.fuel - weight_of old.history.events) + cond (nat_lt 0 n) 1 0) owed in
+        let m = more in let s = sum in let f = fuel in let n = now in omega (arith, before, m, s, f, n)

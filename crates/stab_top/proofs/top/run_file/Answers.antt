@@ -1,5 +1,5 @@
 use Rattle.std.proofs.Common.{refl}
-use Rattle.stab_top.specs.Device.{device}
+use Rattle.sink_lines.specs.Device.{device}
 use Rattle.stab_top.specs.Ending.{AsReleased, outcome_of, shown_by}
 use Rattle.stab_top.proofs.Given.{given_says, refused_says}
 use Rattle.stab_top.proofs.top.run_file.Goals as goal

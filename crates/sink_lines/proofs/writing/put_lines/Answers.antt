@@ -1,7 +1,7 @@
 use Rattle.std.proofs.Common.{◌++◌, ◌∙◌}
 use Rattle.stab_files.proofs.Puts.{appends_trans}
-use Rattle.stab_top.proofs.Pieces.{piece_cut, piece_whole}
-use Rattle.stab_top.proofs.writing.put_lines.Goals as goal
+use Rattle.sink_lines.proofs.Pieces.{piece_cut, piece_whole}
+use Rattle.sink_lines.proofs.writing.put_lines.Goals as goal
 
 pub loop-rest-preserved : goal.loop-rest-preserved
 loop-rest-preserved g c =

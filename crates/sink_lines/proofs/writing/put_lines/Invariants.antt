@@ -1,6 +1,6 @@
 use Rattle.std.proofs.Common.{◌≡◌, ◌++◌, ℕ, List, length}
 use Rattle.stab_files.specs.Told.{Appends}
-use Rattle.stab_top.proofs.writing.put_lines.Given as goal
+use Rattle.sink_lines.proofs.writing.put_lines.Given as goal
 
 abbrev pub invariant-loop-rest : goal.invariant-loop-rest
 invariant-loop-rest g l =

@@ -1,0 +1,4 @@
+pub mod Written
+pub mod First
+pub mod Closed
+pub mod Sharing
