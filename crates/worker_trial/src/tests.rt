@@ -86,7 +86,7 @@ fn two_by_name<R: Threads + Wait + Sync>(
 fn gate_two(rt: HostRuntime) -> Result<(), Fail> {
     let gate = GateTwo::new();
     let book = two_by_name(&rt, rt.alloc(), &gate)?;
-    let (first, second, gave_up) = gate.told();
+    let (first, second, gave_up) = gate.visits.told();
     assert_eq!(rt; gave_up, 0);
     assert!(rt; first >= 1);
     assert!(rt; second >= 2);
