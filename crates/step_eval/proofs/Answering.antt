@@ -15,7 +15,9 @@ use Rattle.step_eval.specs.declared.machine.Focus.TheVariants as focus
 use Rattle.step_eval.specs.declared.machine.Machine.{Machine}
 use Rattle.step_eval.specs.Asked.{act_at, act_next}
 use Rattle.step_eval.specs.ControlView.{Fits, focus_expr, focus_view, view_of, expr_of as expr_in}
+use Rattle.step_eval.specs.Seen.{seen_at}
 use Rattle.step_eval.specs.Entries.{IsEntry}
+use Rattle.step_eval.specs.Fits.{FramesFit}
 use Rattle.step_eval.specs.FrameView.{FrameView}
 use Rattle.step_eval.specs.Meaning.{frame_at, within_forms}
 use Rattle.step_eval.specs.Sections.{entry_of}
@@ -34,6 +36,21 @@ module _ (p : ProgramParts) where
   -- the forms round an act are the frames
   pub act-frames : (m : Machine) → IsSome (act_next (view_of m)) → Fits p (view_of m) → frames (expr_in p (view_of m)) ≡ map (frame_at p) (round_of m)
   act-frames m some fits = frames-by m.focus (here_of m) (round_of m) m.mark some fits
+
+  -- the same of a control that looks at an act in place of what the machine looks at
+  pub seen-frames : (f : Focus) (m : Machine) → IsSome (act_next (seen_at f m)) → Fits p (seen_at f m) → frames (expr_in p (seen_at f m)) ≡ map (frame_at p) (round_of m)
+  seen-frames (focus.Begun n) m some fits = cc
+  seen-frames focus.Form m some fits = cc
+  seen-frames (focus.Act a) m some fits = frames-by (focus.Act a) (here_of m) (round_of m) m.mark some fits
+  seen-frames (focus.Value v) m some fits = cc
+  seen-frames (focus.Fault k) m some fits = cc
+
+  pub seen-fit : (f : Focus) (m : Machine) → IsSome (act_next (seen_at f m)) → Fits p (seen_at f m) → FramesFit p m.mark (round_of m)
+  seen-fit (focus.Begun n) m some fits = fits.frames
+  seen-fit focus.Form m some fits = fits.frames
+  seen-fit (focus.Act a) m some fits = fits.frames
+  seen-fit (focus.Value v) m some fits = fits.frames
+  seen-fit (focus.Fault k) m some fits = absurd (let wrong : ⊥ = cc in wrong)
 
   -- a body that is entered, or its value
   pub entry-expr : (m : Machine) (k : ℕ) (n : NodeId) (o : Option Datum) (vs : List Datum) (round : List FrameView) → m.focus ≡ entry_of n o → arc_value m.env ≡ vs → round_of m ≡ round → IsEntry p k vs n o → expr_in p (view_of m) ≡ within_forms p round (called (body p) k vs)

@@ -1,5 +1,5 @@
 -- What is next of a control is what is next of its expression.
-use Rattle.std.proofs.Common.{◌≡◌, List, [], map, Some, None, refl, sym, subst}
+use Rattle.std.proofs.Common.{◌≡◌, List, [], map, Some, None, refl, ap, sym, ◌∙◌, subst}
 use Rattle.stab_base.specs.Datum.{Datum}
 use Rattle.stab_base.specs.declared.numbers.Seq.{Seq}
 use Rattle.std.proofs.Common.{Option}
@@ -18,7 +18,8 @@ use Rattle.step_eval.specs.declared.machine.Focus.TheVariants as focus
 use Rattle.step_eval.specs.declared.machine.Machine.{Machine}
 use Rattle.step_eval.specs.Acts.{act_of}
 use Rattle.step_eval.specs.Asked.{AsksRightly, IsAsked, operands_of, values_at}
-use Rattle.step_eval.specs.ControlView.{ControlView, Fits, RedexIsFound, focus_expr, focus_view, view_of, expr_of as expr_in}
+use Rattle.step_eval.specs.ControlView.{ControlView, Fits, RedexIsFound, focus_expr, focus_view, expr_of as expr_in}
+use Rattle.step_eval.specs.Seen.{seen_at}
 use Rattle.step_eval.specs.FrameView.{FrameView}
 use Rattle.step_eval.specs.Meaning.{frame_at, within_forms}
 use Rattle.step_eval.specs.Turns.{turn_at}
@@ -58,22 +59,38 @@ module _ (p : ProgramParts) where
       let R : List FrameView → Type 0 = λ (r : List FrameView). IsAsked (body p) [] (look (body p) (within_forms p r (failed k))) (ask.Failed k) in
       subst R (sym fits.focus) refl
 
-  pub asked-is : (v : ControlView) (m : Machine) (f : Focus) → v ≡ view_of m → m.focus ≡ f → Fits p v → RedexIsFound v → IsAsked (body p) (operands_of v) (look (body p) (expr_in p v)) (asked f)
-  asked-is v m f is at fits found =
+  seen-asked : (m : Machine) (f : Focus) → Fits p (seen_at f m) → RedexIsFound (seen_at f m) → IsAsked (body p) (operands_of (seen_at f m)) (look (body p) (expr_in p (seen_at f m))) (asked f)
+  seen-asked m (focus.Begun n) fits found = asked-by (focus.Begun n) (here_of m) (round_of m) m.mark fits found
+  seen-asked m focus.Form fits found = asked-by focus.Form (here_of m) (round_of m) m.mark fits found
+  seen-asked m (focus.Act a) fits found = asked-by (focus.Act a) (here_of m) (round_of m) m.mark fits found
+  seen-asked m (focus.Value v) fits found = asked-by (focus.Value v) (here_of m) (round_of m) m.mark fits found
+  seen-asked m (focus.Fault k) fits found = asked-by (focus.Fault k) (here_of m) [] None fits found
+
+  pub asked-is : (v : ControlView) (m : Machine) (g f : Focus) → v ≡ seen_at g m → g ≡ f → Fits p v → RedexIsFound v → IsAsked (body p) (operands_of v) (look (body p) (expr_in p v)) (asked f)
+  asked-is v m g f is at fits found =
       let F : ControlView → Type 0 = λ (x : ControlView). Fits p x in
       let R : ControlView → Type 0 = λ (x : ControlView). RedexIsFound x in
       let A : ControlView → Type 0 = λ (x : ControlView). IsAsked (body p) (operands_of x) (look (body p) (expr_in p x)) (asked f) in
-      let K : Focus → Type 0 = λ (g : Focus). IsAsked (body p) (values_at (focus_view m.focus (here_of m))) (look (body p) (within_forms p (round_of m) (focus_expr p (focus_view m.focus (here_of m))))) (asked g) in
-      subst A (sym is) (subst K at (asked-by m.focus (here_of m) (round_of m) m.mark (subst F is fits) (subst R is found)))
+      let here : v ≡ seen_at f m = is ∙ ap (λ h. seen_at h m) at in
+      subst A (sym here) (seen-asked m f (subst F here fits) (subst R here found))
 
-rightly-by : (p : ProgramParts) (f : Focus) (h : FrameView) (round : List FrameView) (mk : Option Seq) → Fits p (record { focus = focus_view f h; round = round; mark = mk }) → AsksRightly p (values_at (focus_view f h)) (asked p f)
-rightly-by p (focus.Act a) h round mk fits = fits.focus.2
-rightly-by p f h round mk fits = tt
+rightly-by : (p : ProgramParts) (f : Focus) (m : Machine) → Fits p (seen_at f m) → AsksRightly p (operands_of (seen_at f m)) (asked p f)
+rightly-by p (focus.Begun n) m fits = tt
+rightly-by p focus.Form m fits = tt
+rightly-by p (focus.Act a) m fits = fits.focus.2
+rightly-by p (focus.Value v) m fits = tt
+rightly-by p (focus.Fault k) m fits = tt
 
 -- an act that is next has its operands
-pub asked-rightly : (p : ProgramParts) (v : ControlView) (m : Machine) (f : Focus) → v ≡ view_of m → m.focus ≡ f → Fits p v → AsksRightly p (operands_of v) (asked p f)
-asked-rightly p v m f is at fits =
+pub asked-rightly : (p : ProgramParts) (v : ControlView) (m : Machine) (g f : Focus) → v ≡ seen_at g m → g ≡ f → Fits p v → AsksRightly p (operands_of v) (asked p f)
+asked-rightly p v m g f is at fits =
     let F : ControlView → Type 0 = λ (x : ControlView). Fits p x in
     let A : ControlView → Type 0 = λ (x : ControlView). AsksRightly p (operands_of x) (asked p f) in
-    let K : Focus → Type 0 = λ (g : Focus). AsksRightly p (values_at (focus_view m.focus (here_of m))) (asked p g) in
-    subst A (sym is) (subst K at (rightly-by p m.focus (here_of m) (round_of m) m.mark (subst F is fits)))
+    let here : v ≡ seen_at f m = is ∙ ap (λ h. seen_at h m) at in
+    subst A (sym here) (rightly-by p f m (subst F here fits))
+
+-- a value whose redex is found stands in no frames
+pub found-alone : (v : ControlView) (m : Machine) (g : Focus) (u : Datum) → v ≡ seen_at g m → g ≡ focus.Value u → RedexIsFound v → round_of m ≡ []
+found-alone v m g u is at found =
+    let R : ControlView → Type 0 = λ (x : ControlView). RedexIsFound x in
+    subst R (is ∙ ap (λ h. seen_at h m) at) found

@@ -6,6 +6,8 @@ use Rattle.shared_stack.proofs.stack.Link.TheLaws.TheKnot.{both_send-Link, both_
 use Rattle.shared_stack.specs.contracts.stack.Stack as stacks
 use Rattle.step_eval.specs.contracts.control.Control as controls
 use Rattle.step_eval.specs.contracts.frame.Frame as frames
+use Rattle.step_eval.specs.contracts.machine.Focus as focuses
+use Rattle.step_eval.specs.contracts.machine.Machine as machines
 
 frame-send : IsSend frames.the_row
 frame-send = search (send-Shape, sync-Shape, sendable, crosses) depth 60 fits 100000
@@ -19,8 +21,20 @@ stack-send = search (frame-send, frame-sync, both_send-Link, both_sync-Link, sen
 stack-sync : IsSync (stacks.the_row frames.the_row)
 stack-sync = search (frame-send, frame-sync, both_send-Link, both_sync-Link, sendable, crosses) depth 60 fits 100000
 
+focus-send : IsSend (focuses.the_field).row
+focus-send = search (send-Shape, sync-Shape, sendable, crosses) depth 60 fits 100000
+
+focus-sync : IsSync (focuses.the_field).row
+focus-sync = search (send-Shape, sync-Shape, sendable, crosses) depth 60 fits 100000
+
+machine-send : IsSend (machines.the_field).row
+machine-send = search (focus-send, stack-send, frame-send, send-Shape, sync-Shape, sendable, crosses) depth 60 fits 100000
+
+machine-sync : IsSync (machines.the_field).row
+machine-sync = search (focus-sync, stack-sync, frame-sync, send-Shape, sync-Shape, sendable, crosses) depth 60 fits 100000
+
 pub control-send : IsSend controls.the_row
-control-send = search (stack-send, frame-send, send-Shape, sync-Shape, sendable, crosses) depth 60 fits 100000
+control-send = search (machine-send, machine-sync, focus-send, sendable, crosses) depth 60 fits 100000
 
 pub control-sync : IsSync controls.the_row
-control-sync = search (stack-sync, frame-sync, send-Shape, sync-Shape, sendable, crosses) depth 60 fits 100000
+control-sync = search (machine-send, machine-sync, focus-sync, sendable, crosses) depth 60 fits 100000

@@ -13,5 +13,6 @@ pub mod Rests
 pub mod Scoped
 pub mod Searched
 pub mod Sections
+pub mod Seen
 pub mod Turns
 pub mod View

@@ -1,7 +1,7 @@
 //! Acts that have their answers.
 ghost use Rattle.std.specs.Prelude.{◌≡◌, ◌∷◌, None, Some, length, IfOk, IsSome, OnErr, OnOk};
 ghost use Rattle.std.specs.Arc.{arc_value};
-ghost use Rattle.plain_language.specs.Look.{answered, entered};
+ghost use Rattle.plain_language.specs.Look.{entered};
 ghost use Rattle.plain_language.specs.Outcome.{called};
 ghost use Rattle.plain_language.specs.Program.{body};
 ghost use Rattle.step_eval.specs.Asked.{act_next};
@@ -32,17 +32,6 @@ impl Machine {
     {
         self.focus = Focus::Value(v);
         self.done.clear();
-    }
-
-    /// A value takes the place of the act.
-    pub(crate) fn answer(&mut self, p: &Program, v: Value)
-        requires fits { Fits p.now (view_of self.old) }
-        requires act { IsSome (act_next (view_of self.old)) }
-        ensures expr { expr_of p.now (view_of self.new) ≡ answered (expr_of p.now (view_of self.old)) v }
-        ensures fits { Fits p.now (view_of self.new) }
-    {
-        self.hold(v);
-        self.cap_ahead(p);
     }
 
     /// The innermost frame is shared, so that another can come before it.

@@ -8,11 +8,12 @@ ghost use Rattle.plain_language.specs.Outcome.{called};
 ghost use Rattle.plain_language.specs.Program.{body};
 ghost use Rattle.plain_language.specs.Redex.{mark};
 ghost use Rattle.step_eval.specs.Asked.{AsksRightly, IsAsked, IsEntry, act_in, act_next, operands_of};
-ghost use Rattle.step_eval.specs.ControlView.{expr_of, Fits, RedexIsFound};
+ghost use Rattle.step_eval.specs.ControlView.{expr_of, Fits, RedexIsFound, view_of};
 ghost use Rattle.step_eval.specs.Entries.{entered};
 ghost use Rattle.step_eval.specs.Rests.{rest_of};
 ghost use Rattle.step_eval.specs.Turns.{Takes};
 ghost use Rattle.step_eval.specs.declared.act.Act.TheVariants.{Enter};
+ghost use Rattle.step_eval.specs.declared.ask.Ask.TheVariants.{More};
 
 use crate::act::Act;
 use crate::ask::Ask;
@@ -24,21 +25,27 @@ use stab_base::{Fault, FnId, NoMemory, Seq, Value};
 use stab_code::{NodeId, Program};
 use std::alloc::Global;
 use std::marker::Model;
+use std::mem;
 use std::sync::Arc;
 use std::sync::ledger::Ledger;
 use step_counter::Steps;
 
 /// A thread's text on its way. Contracts see what is looked at, the frames round it, and its mark.
+/// Controls that are kept share a machine: an answer or a fault is written beside it, and `advance` and `enter` copy it.
 #[derive(Drop)]
 pub struct Control {
-    pub(crate) machine: Box<Machine>,
+    /// What is looked at, whatever the machine looks at. Nothing stands round a fault.
+    pub(crate) focus: Focus,
+    pub(crate) machine: Arc<Machine>,
 }
 
 impl Model for Control {
+    ghost use Rattle.std.specs.Arc.{arc_value};
     ghost use Rattle.std.specs.Coded.{codes};
     ghost use Rattle.stab_base.specs.DatumCode.{coded_datum};
     ghost use Rattle.stab_base.specs.contracts.fault.Fault as fault;
-    ghost use Rattle.step_eval.specs.ControlView.{ControlView, view_of};
+    ghost use Rattle.step_eval.specs.ControlView.{ControlView};
+    ghost use Rattle.step_eval.specs.Seen.{seen_at};
     ghost use Rattle.step_eval.specs.contracts.act.Act as act;
     ghost use Rattle.step_eval.specs.contracts.site.Site as place;
 
@@ -46,7 +53,7 @@ impl Model for Control {
 
     ghost coded = { Prim.hlevel (codes, coded_datum, fault.the_row.coded, act.the_row.coded, place.the_row.coded) };
 
-    ghost view = { λ c. view_of c.machine.value };
+    ghost view = { λ c. seen_at c.focus (arc_value c.machine) };
 }
 
 /// The memory that a call needs isn't there. The arguments come back.
@@ -79,27 +86,58 @@ impl Control {
         ensures view { IfOk result (λ c. c ≡ entered n value args.items) }
         ensures back { IfErr result (λ refused. refused.args.items ≡ args.items) }
     {
-        let Ok(mut machine) = Machine::boxed(alloc, n, value) else {
+        let Ok(mut machine) = Machine::shared(alloc, n) else {
+            return Err(CallRefused { args });
+        };
+        let Some(alone) = Arc::get_mut(&mut machine) else {
             return Err(CallRefused { args });
         };
         match Arc::new(alloc, Env::new(args)) {
-            Ok(env) => {
-                machine.env = env;
-                Ok(Control { machine })
+            Ok(env) => alone.env = env,
+            Err(refused) => {
+                return Err(CallRefused {
+                    args: refused.value.into_values(),
+                });
             }
-            Err(refused) => Err(CallRefused {
-                args: refused.value.into_values(),
-            }),
         }
+        Ok(Control {
+            focus: Focus::entered(n, value),
+            machine,
+        })
     }
 
-    /// An equal control, in at most one step: it shares all frames but the innermost.
+    /// The control of a machine that fits some program.
+    pub(crate) fn parted(machine: Machine) -> Result<Control, NoMemory>
+        ensures { IfOk result (λ c. (p : ProgramParts) → Fits p (view_of machine) → c ≡ view_of machine) }
+    {
+        let mut machine = machine;
+        let alloc = machine.alloc;
+        let focus = mem::replace(&mut machine.focus, Focus::Form);
+        machine.spare = Vec::new(alloc);
+        let machine = Arc::new(alloc, machine)?;
+        Ok(Control { focus, machine })
+    }
+
+    /// A machine of its own, which is where the control is.
+    pub(crate) fn opened(&self) -> Result<Machine, NoMemory>
+        ensures { IfOk result (λ m. view_of m ≡ self.now) }
+    {
+        let mut machine = self.machine.copied(self.focus.copy(self.machine.alloc)?)?;
+        if let Focus::Fault(k) = &self.focus {
+            machine.fail(*k);
+        }
+        Ok(machine)
+    }
+
+    /// An equal control, in one step: it shares the machine, and so all frames.
     pub fn keep<L: Ledger>(&self, steps: &mut Steps<L>) -> Result<Control, NoMemory>
         ensures same { IfOk result (λ c. c ≡ self.now) }
         ensures steps { steps.new ≤ steps.old + 1 }
     {
+        steps.tick();
         Ok(Control {
-            machine: self.machine.boxed_copy(steps)?,
+            focus: self.focus.copy(self.machine.alloc)?,
+            machine: Arc::try_clone(&self.machine)?,
         })
     }
 
@@ -108,20 +146,22 @@ impl Control {
         ensures expr { (p : ProgramParts) → expr_of p self.new ≡ failed fault }
         ensures fits { (p : ProgramParts) → Fits p self.new }
     {
-        self.machine.fail(fault);
+        self.focus = Focus::Fault(fault);
     }
 
-    /// What is next, once the redex is found.
+    /// What is next, once the redex is found; `More` until then.
     pub fn ask(&self) -> Ask
         ensures look { (p : ProgramParts) → Fits p self.now → RedexIsFound self.now → IsAsked (body p) (operands_of self.now) (look (body p) (expr_of p self.now)) result }
+        ensures sought { (RedexIsFound self.now → ⊥) → result ≡ More }
         ensures act { act_in result ≡ act_next self.now }
         ensures operands { (p : ProgramParts) → Fits p self.now → AsksRightly p (operands_of self.now) result }
     {
-        match &self.machine.focus {
+        let machine: &Machine = &self.machine;
+        match &self.focus {
             Focus::Begun(_n) => Ask::More,
             Focus::Form => Ask::More,
             Focus::Act(a) => Ask::Act(*a),
-            Focus::Value(_v) => Ask::Done,
+            Focus::Value(_v) => machine.ask_of_value(),
             Focus::Fault(k) => Ask::Failed(*k),
         }
     }
@@ -130,7 +170,7 @@ impl Control {
     pub fn operands(&self) -> &[Value]
         ensures { result.now ≡ operands_of self.now }
     {
-        match &self.machine.focus {
+        match &self.focus {
             Focus::Act(_a) => self.machine.done.as_slice(),
             _ => &[],
         }
@@ -144,7 +184,8 @@ impl Control {
         ensures expr { expr_of program.now self.new ≡ answered (expr_of program.now self.old) v }
         ensures fits { Fits program.now self.new }
     {
-        self.machine.answer(program, v);
+        let machine: &Machine = &self.machine;
+        self.focus = machine.replied(program, v);
     }
 
     /// The body of the function whose section is entered takes the place of the act, in the section of this number.
@@ -156,10 +197,13 @@ impl Control {
         ensures fits { OnOk result (Fits program.now self.new) }
         ensures back { OnErr result (self.new ≡ self.old) }
     {
-        match &self.machine.focus {
+        match &self.focus {
             Focus::Act(Act::Enter(f)) => {
                 let f = *f;
-                self.machine.enter(program, f, q)
+                let mut machine = self.opened()?;
+                machine.enter(program, f, q)?;
+                *self = Control::parted(machine)?;
+                Ok(())
             }
             _ => unreachable!(),
         }
@@ -170,8 +214,9 @@ impl Control {
         ensures { (p : ProgramParts) → IsValid p → Fits p self.now → option_map (λ m. m.0) result ≡ mark (expr_of p self.now) }
     {
         let machine: &Machine = &self.machine;
-        match &machine.focus {
+        match &self.focus {
             Focus::Value(_v) => machine.mark_round_value(),
+            Focus::Fault(_k) => None,
             _ => machine.mark,
         }
     }
@@ -180,7 +225,12 @@ impl Control {
     pub fn same(&self, other: &Control) -> bool
         ensures { IsTrue result ↔ (self.now ≡ other.now) }
     {
-        self.machine.same(&other.machine)
+        let (machine, others): (&Machine, &Machine) = (&self.machine, &other.machine);
+        match &self.focus {
+            Focus::Fault(k) => other.focus.is_fault(*k),
+            _ => machine.same_focus(&self.focus, others, &other.focus)
+                && machine.same_round(others),
+        }
     }
 
     /// Whether the control is on its way, is a value, or is a fault.
@@ -188,7 +238,7 @@ impl Control {
         ensures { (p : ProgramParts) → IsValid p → Fits p self.now → result ≡ rest_of (expr_of p self.now) }
     {
         let machine: &Machine = &self.machine;
-        match &machine.focus {
+        match &self.focus {
             Focus::Fault(k) => Rest::Failed(*k),
             Focus::Value(_v) => machine.rest_of_value(),
             Focus::Begun(_n) => Rest::Going,

@@ -10,6 +10,7 @@ ghost use Rattle.step_eval.specs.ControlView.{Fits, expr_of, view_of};
 ghost use Rattle.step_eval.specs.FrameView.{FrameView};
 ghost use Rattle.step_eval.specs.Fits.{FramesFit, IsForm, IsLeft};
 ghost use Rattle.step_eval.specs.Meaning.{form_at, node_at, within_forms};
+ghost use Rattle.step_eval.specs.Seen.{seen_at};
 ghost use Rattle.step_eval.specs.Searched.{HasValue, IsSearched, LooksPast};
 ghost use Rattle.step_eval.specs.View.{round_of};
 ghost use Rattle.step_eval.specs.declared.site.Site.TheVariants.{Form};
@@ -17,7 +18,7 @@ ghost use Rattle.step_eval.specs.declared.site.Site.TheVariants.{Form};
 use crate::machine::{Focus, MAX_SPINE, Machine};
 use crate::node::{item_of, node_at};
 use crate::site::Site;
-use stab_base::Fault;
+use stab_base::{Fault, Value};
 use stab_code::{Head, NodeId, Program};
 
 /// Whether a node is a form, and no literal and no variable.
@@ -111,6 +112,19 @@ impl Machine {
             Focus::Begun(n) => exceeds(depth_of(p, *n, 0, 0), self.count()),
             Focus::Value(_v) => self.is_value_too_deep(p),
             _ => exceeds(0, self.count()),
+        }
+    }
+
+    /// What is looked at once the act has this value: a fault, where too many forms would then stand round what is next.
+    pub(crate) fn replied(&self, p: &Program, v: Value) -> Focus
+        requires { FramesFit p.now self.now.mark (round_of self.now) }
+        ensures expr { expr_of p.now (seen_at result self.now) ≡ cap (within_forms p.now (round_of self.now) (value v)) }
+        ensures fits { Fits p.now (seen_at result self.now) }
+    {
+        if self.is_value_too_deep(p) {
+            Focus::Fault(Fault::TooDeep)
+        } else {
+            Focus::Value(v)
         }
     }
 

@@ -1,5 +1,5 @@
 //! Frames: forms that wait for the value of one of their parts.
-ghost use Rattle.std.specs.Prelude.{◌≡◌, ◌+◌, IfOk};
+ghost use Rattle.std.specs.Prelude.{◌≡◌, IfOk};
 ghost use Rattle.std.specs.Arc.{arc_value};
 
 use crate::env::{Env, copied};
@@ -8,8 +8,6 @@ use stab_base::{NoMemory, Value};
 use std::alloc::Global;
 use std::marker::Model;
 use std::sync::Arc;
-use std::sync::ledger::Ledger;
-use step_counter::Steps;
 
 /// A form round the focus. Contracts see where it is, the values of its parts so far, and the values of its variables.
 #[derive(Drop)]
@@ -34,12 +32,10 @@ impl Model for Frame {
 }
 
 impl Frame {
-    /// An equal frame, in one step: its values are copied, and its environment is shared.
-    pub fn copy<L: Ledger>(&self, steps: &mut Steps<L>) -> Result<Frame, NoMemory>
-        ensures same { IfOk result (λ f. f ≡ self.now) }
-        ensures step { steps.new ≡ steps.old + 1 }
+    /// An equal frame: its values are copied, and its environment is shared.
+    pub fn copy(&self) -> Result<Frame, NoMemory>
+        ensures { IfOk result (λ f. f ≡ self.now) }
     {
-        steps.tick();
         Ok(Frame {
             site: self.site,
             done: copied(*self.done.allocator(), self.done.as_slice())?,

@@ -2,15 +2,18 @@
 ghost use Rattle.std.specs.Prelude.{◌≡◌, ◌≢◌, ◌<◌, ◌≤◌, ◌+◌, [], None, Some, length, map, slice_get, IfOk};
 ghost use Rattle.std.specs.Bool.{OnFalse, OnTrue};
 ghost use Rattle.std.specs.Arc.{arc_value};
-ghost use Rattle.step_eval.specs.ControlView.{view_of};
-ghost use Rattle.step_eval.specs.Entries.{entered};
+ghost use Rattle.step_eval.specs.Asked.{act_in};
+ghost use Rattle.step_eval.specs.ControlView.{focus_view};
 ghost use Rattle.step_eval.specs.FrameView.{FrameView};
 ghost use Rattle.step_eval.specs.Fits.{outside};
+ghost use Rattle.step_eval.specs.Sections.{entry_of};
 ghost use Rattle.step_eval.specs.View.{here_of, round_of};
+ghost use Rattle.step_eval.specs.declared.ask.Ask.TheVariants as Ask;
 ghost use Rattle.step_eval.specs.declared.machine.Focus.TheVariants as Focus;
 ghost use Rattle.step_eval.specs.declared.rest.Rest.TheVariants.{Done, Going};
 
 use crate::act::Act;
+use crate::ask::Ask;
 use crate::env::{Env, copied};
 use crate::frame::Frame;
 use crate::rest::Rest;
@@ -20,8 +23,6 @@ use stab_base::{Fault, NoMemory, Seq, Value};
 use stab_code::NodeId;
 use std::alloc::Global;
 use std::sync::Arc;
-use std::sync::ledger::Ledger;
-use step_counter::Steps;
 
 /// How many forms may be round a redex.
 pub(crate) const MAX_SPINE: usize = 1000;
@@ -37,6 +38,31 @@ pub(crate) enum Focus {
     Act(Act),
     Value(Value),
     Fault(Fault),
+}
+
+impl Focus {
+    /// The same once more.
+    pub(crate) fn copy(&self, alloc: Global) -> Result<Focus, NoMemory>
+        ensures { IfOk result (λ f. f ≡ self.now) }
+    {
+        match self {
+            Focus::Begun(n) => Ok(Focus::Begun(*n)),
+            Focus::Form => Ok(Focus::Form),
+            Focus::Act(a) => Ok(Focus::Act(*a)),
+            Focus::Value(v) => Ok(Focus::Value(v.copy(alloc)?)),
+            Focus::Fault(k) => Ok(Focus::Fault(*k)),
+        }
+    }
+
+    /// A node is begun, or its value is looked at.
+    pub(crate) fn entered(n: NodeId, value: Option<Value>) -> Focus
+        ensures { result ≡ entry_of n value }
+    {
+        match value {
+            None => Focus::Begun(n),
+            Some(v) => Focus::Value(v),
+        }
+    }
 }
 
 /// A thread's text on its way.
@@ -74,26 +100,13 @@ impl Machine {
         }
     }
 
-    /// A machine that is to evaluate a node with these values of variables, or has its value, and nothing else.
-    pub(crate) fn entered(alloc: Global, n: NodeId, value: Option<Value>, env: Arc<Env>) -> Machine
-        ensures { view_of result ≡ entered n value (arc_value env) }
-    {
-        match value {
-            None => Machine::alone(alloc, Focus::Begun(n), n, env),
-            Some(v) => Machine::alone(alloc, Focus::Value(v), n, env),
-        }
-    }
-
-    /// The same of no variables, in a box.
-    pub(crate) fn boxed(
-        alloc: Global,
-        n: NodeId,
-        value: Option<Value>,
-    ) -> Result<Box<Machine>, NoMemory>
-        ensures { IfOk result (λ m. view_of m.value ≡ entered n value []) }
+    /// A machine in no variables and no frames, which others can share.
+    pub(crate) fn shared(alloc: Global, n: NodeId) -> Result<Arc<Machine>, NoMemory>
+        ensures round { IfOk result (λ m. round_of (arc_value m) ≡ []) }
+        ensures mark { IfOk result (λ m. (arc_value m).mark ≡ None) }
     {
         let env = Arc::new(alloc, Env::new(Vec::new(alloc)))?;
-        let machine = Box::new(alloc, Machine::entered(alloc, n, value, env))?;
+        let machine = Arc::new(alloc, Machine::alone(alloc, Focus::Form, n, env))?;
         Ok(machine)
     }
 
@@ -142,6 +155,19 @@ impl Machine {
         }
     }
 
+    /// What is next of a machine that looks at a value. Where frames are round it, that is still to be found.
+    pub(crate) fn ask_of_value(&self) -> Ask
+        ensures alone { round_of self.now ≡ [] → result ≡ Ask.Done }
+        ensures some { round_of self.now ≢ [] → result ≡ Ask.More }
+        ensures none { act_in result ≡ None }
+    {
+        if self.is_alone() {
+            Ask::Done
+        } else {
+            Ask::More
+        }
+    }
+
     /// The number of the innermost section round what a value leaves: a section ends with its value.
     pub(crate) fn mark_round_value(&self) -> Option<Seq>
         ensures alone { round_of self.now ≡ [] → result ≡ self.now.mark }
@@ -169,51 +195,43 @@ impl Machine {
         self.mark = None;
     }
 
-    /// An equal machine, in at most one step: it shares all frames but the innermost.
-    pub(crate) fn copied<L: Ledger>(&self, steps: &mut Steps<L>) -> Result<Machine, NoMemory>
-        ensures same { IfOk result (λ m. view_of m ≡ view_of self.now) }
-        ensures steps { steps.new ≤ steps.old + 1 }
+    /// Copies of the values at hand, where what is looked at has to do with them.
+    fn values_for(&self, focus: &Focus) -> Result<Vec<Value>, NoMemory>
+        ensures { IfOk result (λ done. focus_view focus.now (record { site = self.now.site; done = done.items; env = arc_value self.now.env }) ≡ focus_view focus.now (here_of self.now)) }
     {
-        let top = match &self.top {
-            None => None,
-            Some(frame) => Some(frame.copy(steps)?),
-        };
-        self.keep(top)
+        match focus {
+            Focus::Begun(_n) => Ok(Vec::new(self.alloc)),
+            Focus::Form => copied(self.alloc, self.done.as_slice()),
+            Focus::Act(_a) => copied(self.alloc, self.done.as_slice()),
+            Focus::Value(_v) => Ok(Vec::new(self.alloc)),
+            Focus::Fault(_k) => Ok(Vec::new(self.alloc)),
+        }
     }
 
-    /// The same in a box.
-    pub(crate) fn boxed_copy<L: Ledger>(
-        &self,
-        steps: &mut Steps<L>,
-    ) -> Result<Box<Machine>, NoMemory>
-        ensures same { IfOk result (λ m. view_of m.value ≡ view_of self.now) }
-        ensures steps { steps.new ≤ steps.old + 1 }
+    /// An equal innermost frame.
+    fn top_copy(&self) -> Result<Option<Frame>, NoMemory>
+        ensures { IfOk result (λ top. top ≡ self.now.top) }
     {
-        let machine = self.copied(steps)?;
-        let boxed = Box::new(self.alloc, machine)?;
-        Ok(boxed)
+        match &self.top {
+            None => Ok(None),
+            Some(frame) => Ok(Some(frame.copy()?)),
+        }
     }
 
-    /// The same machine once more, which has this copy of its innermost frame and shares the others.
-    fn keep(&self, top: Option<Frame>) -> Result<Machine, NoMemory>
-        requires { top ≡ self.now.top }
-        ensures focus { IfOk result (λ m. m.focus ≡ self.now.focus) }
-        ensures here { IfOk result (λ m. here_of m ≡ here_of self.now) }
+    /// The same machine once more, which looks at this. It shares all frames but the innermost.
+    pub(crate) fn copied(&self, focus: Focus) -> Result<Machine, NoMemory>
+        ensures focus { IfOk result (λ m. m.focus ≡ focus) }
+        ensures looks { IfOk result (λ m. focus_view focus (here_of m) ≡ focus_view focus (here_of self.now)) }
         ensures round { IfOk result (λ m. round_of m ≡ round_of self.now) }
         ensures mark { IfOk result (λ m. m.mark ≡ self.now.mark) }
     {
-        let focus = match &self.focus {
-            Focus::Begun(n) => Focus::Begun(*n),
-            Focus::Form => Focus::Form,
-            Focus::Act(a) => Focus::Act(*a),
-            Focus::Value(v) => Focus::Value(v.copy(self.alloc)?),
-            Focus::Fault(k) => Focus::Fault(*k),
-        };
+        let done = self.values_for(&focus)?;
+        let top = self.top_copy()?;
         Ok(Machine {
             alloc: self.alloc,
             focus,
             site: self.site,
-            done: copied(self.alloc, self.done.as_slice())?,
+            done,
             env: Arc::try_clone(&self.env)?,
             top,
             frames: self.frames.keep()?,

@@ -12,11 +12,9 @@ use crate::control::Control;
 use crate::machine::{Focus, Machine};
 use stab_base::NoMemory;
 use stab_code::Program;
-use std::marker::{Brand, Model};
+use std::marker::Model;
 use std::mem;
 use std::sync::Arc;
-use std::sync::ledger::{Blank, Ledger};
-use step_counter::Steps;
 
 /// A control, how many pure steps it made, and where it then is. The steps are those of the program, and the
 /// redex of where it is is found.
@@ -135,26 +133,17 @@ impl Machine {
 }
 
 /// This many pure steps of an equal control, and where they lead.
-fn advanced<L: Ledger>(
-    p: &Program,
-    control: &Control,
-    quantum: u32,
-    blank: Blank,
-) -> Result<(u32, Control), NoMemory>
-    requires fits { Fits p.now control.now }
-    requires name { blank.name ≡ L.name }
-    requires parts { blank.parts ≡ L.parts }
-    requires one { blank.parts ≡ 1 }
+fn advanced(p: &Program, control: &Control, quantum: u32) -> Result<(u32, Control), NoMemory>
+    requires { Fits p.now control.now }
     ensures made { IfOk result (λ r. Advances p.now control.now r.0 r.1) }
     ensures within { IfOk result (λ r. r.0 ≤ quantum) }
     ensures stops { IfOk result (λ r. r.0 < quantum → Rests p.now r.1) }
 {
-    // The step counter is discarded.
-    let mut count: Steps<L> = Steps::new(blank);
-    let mut machine = control.machine.boxed_copy(&mut count)?;
+    let mut machine = control.opened()?;
     machine.find(p)?;
     let steps = machine.run(p, quantum)?;
-    Ok((steps, Control { machine }))
+    let end = Control::parted(machine)?;
+    Ok((steps, end))
 }
 
 /// Makes pure steps of a control that fits the program until the quantum is used or none is left.
@@ -173,7 +162,7 @@ pub fn advance(
     let Ok(program) = Arc::try_clone(program) else {
         return Err(AdvanceRefused { control });
     };
-    match advanced::<Brand>(&program, &control, quantum, Blank::new(1)) {
+    match advanced(&program, &control, quantum) {
         Ok((steps, end)) => Ok(Progress {
             program,
             origin: control,

@@ -1,12 +1,13 @@
 //! Whether two controls are equal.
 ghost use Rattle.std.specs.Prelude.{◌≡◌, ◌↔◌, IsTrue};
-ghost use Rattle.step_eval.specs.ControlView.{focus_view, view_of};
+ghost use Rattle.step_eval.specs.ControlView.{focus_view};
 ghost use Rattle.step_eval.specs.View.{here_of, round_of};
+ghost use Rattle.step_eval.specs.declared.machine.Focus.TheVariants as Focus;
 
 use crate::env::Env;
 use crate::frame::Frame;
 use crate::machine::{Focus, Machine};
-use stab_base::{Same, all_same};
+use stab_base::{Fault, Same, all_same};
 
 impl Env {
     fn same(&self, other: &Env) -> bool
@@ -24,7 +25,17 @@ impl Same for Frame {
     }
 }
 
+impl Focus {
+    /// Whether it is this fault.
+    pub(crate) fn is_fault(&self, fault: Fault) -> bool
+        ensures { IsTrue result ↔ (self.now ≡ Focus.Fault fault) }
+    {
+        matches!(self, Focus::Fault(k) if *k == fault)
+    }
+}
+
 impl Machine {
+    /// Whether the form at hand and the values of variables are equal.
     fn same_here(&self, other: &Machine) -> bool
         ensures { IsTrue result ↔ (here_of self.now ≡ here_of other.now) }
     {
@@ -33,25 +44,22 @@ impl Machine {
             && self.env.same(&other.env)
     }
 
-    /// Whether two machines look at the same.
-    fn same_focus(&self, other: &Machine) -> bool
-        ensures { IsTrue result ↔ (focus_view self.now.focus (here_of self.now) ≡ focus_view other.now.focus (here_of other.now)) }
+    /// Whether what two controls look at is equal, where these are their machines.
+    pub(crate) fn same_focus(&self, focus: &Focus, other: &Machine, others: &Focus) -> bool
+        ensures { IsTrue result ↔ (focus_view focus.now (here_of self.now) ≡ focus_view others.now (here_of other.now)) }
     {
-        match &self.focus {
-            Focus::Begun(n) => {
-                matches!(&other.focus, Focus::Begun(m) if n == m) && self.env.same(&other.env)
-            }
-            Focus::Form => matches!(&other.focus, Focus::Form) && self.same_here(other),
-            Focus::Act(a) => {
-                matches!(&other.focus, Focus::Act(b) if a == b) && self.same_here(other)
-            }
-            Focus::Value(v) => matches!(&other.focus, Focus::Value(w) if v.same(w)),
-            Focus::Fault(k) => matches!(&other.focus, Focus::Fault(l) if k == l),
+        match focus {
+            Focus::Begun(n) => matches!(others, Focus::Begun(m) if n == m)
+                && self.env.same(&other.env),
+            Focus::Form => matches!(others, Focus::Form) && self.same_here(other),
+            Focus::Act(a) => matches!(others, Focus::Act(b) if a == b) && self.same_here(other),
+            Focus::Value(v) => matches!(others, Focus::Value(w) if v.same(w)),
+            Focus::Fault(k) => matches!(others, Focus::Fault(l) if k == l),
         }
     }
 
-    /// Whether two machines have equal frames.
-    fn same_round(&self, other: &Machine) -> bool
+    /// Whether the frames are equal.
+    fn same_frames(&self, other: &Machine) -> bool
         ensures { IsTrue result ↔ (round_of self.now ≡ round_of other.now) }
     {
         match (&self.top, &other.top) {
@@ -62,10 +70,10 @@ impl Machine {
         }
     }
 
-    /// Whether two machines look at the same, within equal frames.
-    pub(crate) fn same(&self, other: &Machine) -> bool
-        ensures { IsTrue result ↔ (view_of self.now ≡ view_of other.now) }
+    /// Whether what stands round the focus is equal, and its mark.
+    pub(crate) fn same_round(&self, other: &Machine) -> bool
+        ensures { IsTrue result ↔ ((round_of self.now ≡ round_of other.now) × (self.now.mark ≡ other.now.mark)) }
     {
-        self.mark == other.mark && self.same_focus(other) && self.same_round(other)
+        self.mark == other.mark && self.same_frames(other)
     }
 }
