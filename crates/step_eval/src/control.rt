@@ -185,7 +185,8 @@ impl Control {
         ensures fits { Fits program.now self.new }
     {
         let machine: &Machine = &self.machine;
-        self.focus = machine.replied(program, v);
+        let reply = machine.replied(program, v);
+        self.focus = reply;
     }
 
     /// The body of the function whose section is entered takes the place of the act, in the section of this number.
