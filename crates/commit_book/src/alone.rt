@@ -54,7 +54,7 @@ impl Parts {
     {
         self.history.reserve(2)?;
         self.printed.reserve()?;
-        first(end.operands()).copy(self.alloc())
+        first(end.operands()).copy()
     }
 
     /// The thread gets the next number of the script, 0 behind its end.
