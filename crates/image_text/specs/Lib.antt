@@ -1,0 +1,9 @@
+pub mod ImageText
+pub mod Rising
+pub mod Pieces
+pub mod Names
+pub mod Reading
+pub mod Seen
+pub mod Range
+pub mod ExpressionIn
+pub mod Expressions
