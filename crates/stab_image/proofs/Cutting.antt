@@ -43,7 +43,7 @@ pub probes_within : (es : List Event) → length (probed es) ≤ length es
 probes_within [] = omega arith
 probes_within (e ∷ es) = omega (arith, length-append (probed_by e.what) (probed es), few_probes e.what, probes_within es)
 
-label_in : (q : ℕ) (es : List Event) (k : ℕ) (l : Label) → AreEvents q es → label_at es k ≡ Some l → IsLabel l
+pub label_in : (q : ℕ) (es : List Event) (k : ℕ) (l : Label) → AreEvents q es → label_at es k ≡ Some l → IsLabel l
 label_in q es zero l all at = absurd (let no : None ≡ Some l = at in cc)
 label_in q [] (suc k) l all at = absurd (let no : None ≡ Some l = at in cc)
 label_in q (e ∷ es) (suc zero) l all at = of_what e.what all.0.what at

@@ -3,3 +3,5 @@ pub mod ImageCode
 pub mod View
 pub mod Named
 pub mod Found
+pub mod Numbered
+pub mod ImageText

@@ -1,12 +1,16 @@
 -- What contracts see of an image in memory, and what is true of each.
-use Rattle.std.specs.Prelude.{ℕ, ◌≤◌, length}
+use Rattle.std.specs.Prelude.{◌≡◌, ℕ, ◌≤◌, false, length}
+use Rattle.std.specs.Ordering.{nat_cmp}
+use Rattle.std.specs.FinMap as map
 use Rattle.std.specs.FinMap.{from_entries}
 use Rattle.stab_code.specs.Limits.{max_script}
 use Rattle.stab_text.specs.Text.{IsTextOf}
 use Rattle.journal_laws.specs.Known.{IsExprIn, IsKnown}
 use Rattle.image_laws.specs.Image.{Image}
 use Rattle.stab_image.specs.declared.image.Image.TheInside.{Inside}
+use Rattle.image_text.specs.Rising.{IsRising}
 use Rattle.stab_image.specs.Limits.{IsNext, max_number}
+use Rattle.stab_image.specs.Numbered.{AreBelow}
 
 abbrev pub image_of : Inside → Image
 image_of a = record {
@@ -22,7 +26,8 @@ image_of a = record {
   generations = from_entries a.generations.items;
 }
 
--- the text is that of the program, each number is in its range, and each channel and reference that occurs in the state is there
+-- the text is that of the program, each number is in its range, each channel and reference that occurs in the state is there, and each
+-- thread has its generation, in the order of their numbers
 pub record IsSound (a : Inside) : Type 0 where
   pub text : IsTextOf a.text.items a.state.program
   pub script : length a.script.items ≤ max_script
@@ -32,3 +37,7 @@ pub record IsSound (a : Inside) : Type 0 where
   pub chan : IsNext a.next_chan
   pub reference : IsNext a.next_ref
   pub known : IsKnown IsExprIn a.state.state
+  pub below : AreBelow a.next_chan a.state.state
+  pub thread_0 : map.contains_key a.state.state.threads 0 ≡ false
+  pub rising : IsRising 0 a.generations.items
+  pub same : (t : ℕ) → map.contains_key (from_entries {R = nat_cmp} a.generations.items) t ≡ map.contains_key a.state.state.threads t

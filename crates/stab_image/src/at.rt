@@ -10,6 +10,7 @@ ghost use Rattle.plain_language.specs.Plain.{standing};
 ghost use Rattle.plain_language.specs.Standing.{event};
 ghost use Rattle.trace_verify.specs.Verdict.{IsOfRun};
 ghost use Rattle.image_laws.specs.Image.{StandsAt};
+ghost use Rattle.image_text.specs.Rising.{IsRising};
 ghost use Rattle.stab_image.specs.Found.{AreFound};
 ghost use Rattle.stab_image.specs.Limits.{max_number};
 
@@ -60,7 +61,8 @@ fn generations_of(
     generations: &Generations,
 ) -> Result<Vec<(u32, u64)>, NoMemory>
     requires { standing state.now.state 0 ≡ None }
-    ensures { IfOk result (λ found. AreFound state.now.state generations.now (from_entries found.items)) }
+    ensures found { IfOk result (λ found. AreFound state.now.state generations.now (from_entries found.items)) }
+    ensures rising { IfOk result (λ found. IsRising 0 found.items) }
 {
     let mut found = Vec::new(alloc);
     let mut last = 0;

@@ -4,6 +4,8 @@
 mod at;
 mod image;
 mod named;
+mod put;
 
 pub use at::image_at;
 pub use image::Image;
+pub use put::put_image;

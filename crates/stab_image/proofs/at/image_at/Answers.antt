@@ -1,8 +1,12 @@
 use Rattle.std.proofs.Common.{ℕ, ℤ, ◌+◌, ◌≤◌, List, length, take, refl, sym, ap, subst, ◌∙◌, arith}
+use Rattle.std.specs.Prelude.{is_some}
 use Rattle.stab_code.specs.Limits.{max_script}
 use Rattle.stab_text.specs.Text.{IsTextOf}
+use Rattle.stab_image.specs.Numbered.{AreBelow}
 use Rattle.stab_image.proofs.Cutting.{events_front, is_there, no_thread_0}
 use Rattle.stab_image.proofs.Imaging.{all_known, few_used, image_stands, text_is}
+use Rattle.stab_image.proofs.Listing.{same_keys}
+use Rattle.stab_image.proofs.Numbering.{numbers_below}
 use Rattle.stab_image.proofs.at.image_at.Goals as goal
 
 pub replayed-requires-clause-there : goal.replayed-requires-clause-there
@@ -33,6 +37,11 @@ invariant_of-result c =
       thread = (omega arith, omega (arith, c.max.ensures, names.thread));
       chan = (omega arith, omega (arith, names.chan));
       reference = (omega arith, omega (arith, names.reference));
+      below = subst (λ (n : ℕ). AreBelow n c.in_ok-led.led.state.state) (ap (λ (k : ℕ). k + 1) (sym c.by_first-named.ensures.named.chan))
+          (numbers_below p (take q es) led.run c.in_ok-led.led.state.state (events_front 1 q es c.len.ensures.valid.in_range) led.stands);
+      thread_0 = ap is_some (no_thread_0 p (take q es) led.run c.in_ok-led.led.state.state (events_front 1 q es c.len.ensures.valid.in_range) led.stands);
+      rising = c.in_ok-generations_of.ensures.rising;
+      same = same_keys c.in_ok-led.led.state.state c.in_ok-led.led.generations _ c.in_ok-generations_of.ensures.found;
       known = all_known p script es q c.in_ok-led.led led;
     }
 
@@ -40,4 +49,4 @@ pub returns-clause-stands : goal.returns-clause-stands
 returns-clause-stands c =
     image_stands c.args.job.now.program c.args.job.now.script c.args.history.now.events c.args.q.0 c.requires.cut.0 c.requires.cut.1 _ c.in_ok-led.led c.by_first-named.result
     c.requires.cut.2 c.in_ok-led.ensures c.by_first-named.ensures.named
-    refl (c.in_ok-from_slice-2.ensures.items ∙ c.script.ensures.value) refl refl (ap (λ (k : ℕ). k + 1) c.max.ensures) refl refl refl c.in_ok-generations_of.ensures
+    refl (c.in_ok-from_slice-2.ensures.items ∙ c.script.ensures.value) refl refl (ap (λ (k : ℕ). k + 1) c.max.ensures) refl refl refl c.in_ok-generations_of.ensures.found
