@@ -1,16 +1,14 @@
 -- What the first events lead to, as an image.
-use Rattle.std.proofs.Common.{◌≡◌, ℕ, ℤ, ◌+◌, ◌-◌, ◌≤◌, List, length, take, max, refl, sym, ap, subst, ◌∙◌, arith}
-use Rattle.std.specs.Prelude.{Some, None, IfSome}
+use Rattle.std.proofs.Common.{◌≡◌, ℕ, ℤ, ◌+◌, ◌-◌, ◌≤◌, List, length, take, max, sym, ap, subst, ◌∙◌, arith}
+use Rattle.std.specs.Prelude.{Some, IfSome}
 use Rattle.std.specs.FinMap as map
 use Rattle.std.proofs.lemmas.List.{length-take}
 use Rattle.stab_base.specs.declared.numbers.ThreadId.{ThreadId}
-use Rattle.stab_code.specs.Limits.{max_script}
 use Rattle.stab_code.specs.Program.{ProgramParts}
 use Rattle.stab_text.specs.Text.{IsTextOf}
 use Rattle.stab_journal.specs.declared.event.Event.{Event}
 use Rattle.stab_journal.specs.declared.event.Label.TheVariants.{Cut}
 use Rattle.stab_journal.specs.declared.event.What.TheVariants.{Step}
-use Rattle.stab_journal.specs.Generation.{generation}
 use Rattle.stab_journal.specs.Journal.{event_at}
 use Rattle.plain_language.specs.Plain.{PlainState, standing}
 use Rattle.plain_language.specs.Standing.{StandsFor, event}

@@ -1,10 +1,9 @@
 -- Lists of threads with their generations.
-use Rattle.std.proofs.Common.{◌≡◌, ℕ, ◌<◌, ◌≤◌, Bool, List, [], ◌∷◌, ◌++◌, refl, sym, ap, ◌∙◌, arith}
-use Rattle.std.specs.Prelude.{Option, Some, None, IfSome, is_some}
+use Rattle.std.proofs.Common.{◌≡◌, ℕ, ◌<◌, ◌≤◌, List, [], ◌∷◌, ◌++◌, refl, ap, arith}
+use Rattle.std.specs.Prelude.{Some, None, IfSome, is_some}
 use Rattle.std.specs.Ordering.{nat_cmp}
 use Rattle.std.specs.FinMap as map
 use Rattle.std.specs.FinMap.{FinMap}
-use Rattle.plain_language.specs.Expression.{Expr}
 use Rattle.plain_language.specs.Plain.{PlainState, standing}
 use Rattle.trace_verify.specs.declared.generations.Generations.{Generations}
 use Rattle.trace_verify.specs.Generations.{times}

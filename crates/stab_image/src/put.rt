@@ -4,7 +4,8 @@ ghost use Rattle.stab_image.specs.ImageText.{head_text, lines_of_state, text_of_
 
 use crate::image::Image;
 use image_text::{
-    put_channels, put_end, put_next, put_output, put_probes, put_program, put_references, put_threads,
+    put_channels, put_end, put_next, put_output, put_probes, put_program, put_references,
+    put_threads,
 };
 use stab_base::NoMemory;
 use std::alloc::Global;

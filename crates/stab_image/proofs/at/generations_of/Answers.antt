@@ -1,4 +1,4 @@
-use Rattle.std.proofs.Common.{◌≡◌, ℕ, List, [], ◌∷◌, ◌++◌, sym, ap, subst, ◌∙◌, arith}
+use Rattle.std.proofs.Common.{ℕ, List, [], ◌∷◌, ◌++◌, sym, ap, subst, ◌∙◌, arith}
 use Rattle.std.specs.FinMap.{from_entries}
 use Rattle.trace_verify.specs.Generations.{times}
 use Rattle.stab_image.proofs.Finding.{SoFar, all_found, none_found, one_found}

@@ -1,5 +1,5 @@
-use Rattle.std.proofs.Common.{◌≡◌, ◌+◌, add-one, refl, sym, ap, subst, ◌∙◌, take, arith}
-use Rattle.std.specs.Prelude.{Some, IfSome, option_copied}
+use Rattle.std.proofs.Common.{◌≡◌, ◌+◌, add-one, sym, ap, subst, ◌∙◌, take, arith}
+use Rattle.std.specs.Prelude.{option_copied}
 use Rattle.stab_journal.specs.Journal.{event_at}
 use Rattle.stab_image.specs.Named.{AreNamed}
 use Rattle.stab_image.proofs.Naming.{named_more}
