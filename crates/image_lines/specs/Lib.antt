@@ -1,0 +1,5 @@
+pub mod ReadBack
+pub mod Head
+pub mod HeadText
+pub mod Line
+pub mod LineText
