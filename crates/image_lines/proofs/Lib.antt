@@ -4,3 +4,8 @@ pub mod HeadRead
 pub mod LinePieces
 pub mod LinesWritten
 pub mod LinesRead
+pub mod CutLines
+pub mod BodySteps
+pub mod BodyLaws
+pub mod OpeningLaws
+pub mod OpeningSteps

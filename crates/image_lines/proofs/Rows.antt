@@ -39,3 +39,7 @@ piece_there (b ∷ bytes) h = refl
 pub not_failed : (b : Bool) → false ≡ not b → b ≡ true
 not_failed true h = refl
 not_failed false h = absurd (false≢true h)
+
+pub not_passed : (b : Bool) → true ≡ not b → b ≡ false
+not_passed true h = absurd (false≢true (sym h))
+not_passed false h = refl

@@ -3,3 +3,7 @@ pub mod Head
 pub mod HeadText
 pub mod Line
 pub mod LineText
+pub mod Body
+pub mod BodyText
+pub mod Opening
+pub mod OpeningText

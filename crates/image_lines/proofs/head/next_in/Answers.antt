@@ -12,5 +12,5 @@ pub returns : goal.returns
 returns c =
     let left = pieces_left (option_copied c.in-Some.rest) in
     let named : bytes_eq c.in-Some.name.now (codes "next") ≡ true =
-        not_failed (bytes_eq c.in-Some.name.now (codes "next")) (c.if-ne.ensures ∙ ap (λ (bs : List ℕ). not (bytes_eq c.in-Some.name.now bs)) c.as_slice.ensures) in
+    not_failed (bytes_eq c.in-Some.name.now (codes "next")) (c.if-ne.ensures ∙ ap (λ (bs : List ℕ). not (bytes_eq c.in-Some.name.now bs)) c.as_slice.ensures) in
     c.next_named.ensures ∙ sym (ap next_in c.in-Some.ensures ∙ ap (λ b. cond b (next_named left) (Err BadLine)) named)

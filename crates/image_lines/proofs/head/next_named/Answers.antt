@@ -19,4 +19,4 @@ returns c =
     ∙ ap (λ (o : Option ℕ). next_behind o c.one_next.result left) c.cut_in.ensures
     ∙ ap (λ (o : Option ℕ). next_behind (number_in 0 4294967295 q) o left) c.one_next.ensures
     ∙ sym (ap next_named (c.in-Some.ensures ∙ ap (λ (ps : List (List ℕ)). q ∷ ps) c.in-Some-next_piece.ensures)
-        ∙ ap (λ b. cond b (next_behind (number_in 0 4294967295 q) (number_in 1 4000000001 t) left) (Err BadLine)) some)
+    ∙ ap (λ b. cond b (next_behind (number_in 0 4294967295 q) (number_in 1 4000000001 t) left) (Err BadLine)) some)
