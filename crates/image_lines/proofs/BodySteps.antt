@@ -1,5 +1,5 @@
 -- One line more of a state.
-use Rattle.std.proofs.Common.{◌≡◌, ℕ, ◌+◌, Bool, true, false, cond, eqb, List, [], ◌∷◌, ◌++◌, length, Option, Some, None, Result, Ok, Err, refl, sym, ap, subst, ◌∙◌, append_assoc}
+use Rattle.std.proofs.Common.{◌≡◌, ℕ, ◌+◌, true, false, cond, eqb, List, [], ◌∷◌, ◌++◌, length, Option, Some, Result, Ok, refl, sym, ap, subst, ◌∙◌, append_assoc}
 use Rattle.text_lines.specs.Lines.{longer, split}
 use Rattle.text_lines.proofs.Splits.{pieces}
 use Rattle.image_text.specs.declared.fault.LineFault.{LineFault}

@@ -1,7 +1,6 @@
 -- The pieces of a line's text.
-use Rattle.std.proofs.Common.{◌≡◌, ℕ, ◌<◌, ◌≤◌, ◌^◌, Bool, true, ◌&&◌, List, [], ◌∷◌, ◌++◌, refl, sym, ap, ◌∙◌, arith}
+use Rattle.std.proofs.Common.{◌≡◌, ℕ, true, List, [], ◌∷◌, ◌++◌, refl, sym, ap, ◌∙◌, arith}
 use Rattle.std.specs.Prelude.{codes, decimal}
-use Rattle.std.proofs.lemmas.Bool.{and_parts}
 use Rattle.std.proofs.lemmas.List.{append-nil}
 use Rattle.text_lines.specs.Lines.{split}
 use Rattle.text_lines.proofs.Splits.{all_lack, lacks, lacks-separated, rejoined}
@@ -12,7 +11,7 @@ use Rattle.image_text.specs.Range.{AreInRange, all_pieces, pieces}
 use Rattle.image_text.proofs.WordBytes.{lack_feeds, lack_more, line_pieces as pieces_behind, one_lacks, two_lack}
 use Rattle.image_lines.specs.declared.line.Line.{Line}
 use Rattle.image_lines.specs.declared.line.Line.TheVariants.{Chan, Ref, Out, Thread, End}
-use Rattle.image_lines.specs.LineText.{IsLine, IsRight, line_text}
+use Rattle.image_lines.specs.LineText.{IsLine, line_text}
 use Rattle.image_lines.specs.ReadBack.{has_no_feed}
 
 abbrev pub line_pieces : Line → List (List ℕ)

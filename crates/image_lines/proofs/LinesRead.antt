@@ -1,15 +1,13 @@
 -- Pieces that are read as a line are those of the line.
-use Rattle.std.proofs.Common.{◌≡◌, ℕ, Bool, true, false, ◌&&◌, cond, List, [], ◌∷◌, Option, Some, None, Result, Ok, Err, refl, sym, ap, subst, ◌∙◌, arith}
+use Rattle.std.proofs.Common.{◌≡◌, ℕ, true, false, ◌&&◌, cond, List, [], ◌∷◌, Some, None, Ok, Err, refl, sym, ap, subst, ◌∙◌, arith}
 use Rattle.std.specs.Prelude.{decimal}
-use Rattle.std.proofs.lemmas.Bool.{false≢true}
 use Rattle.text_lines.specs.Lines.{split}
 use Rattle.text_lines.proofs.Numerals.{number_in-some}
 use Rattle.stab_base.specs.Datum.{Datum}
 use Rattle.plain_language.specs.Depth.{max_expr_depth}
 use Rattle.plain_language.specs.Expression.{Expr, value, variable, failed, form}
 use Rattle.trace_text.proofs.Lines.{value_in-some}
-use Rattle.expression_text.specs.Spelling.{spell, spell_value}
-use Rattle.image_text.specs.declared.fault.LineFault.{LineFault}
+use Rattle.expression_text.specs.Spelling.{spell}
 use Rattle.image_text.specs.declared.fault.LineFault.TheVariants.{BadLine, BadNumber}
 use Rattle.image_text.specs.ExpressionIn.{expression_in}
 use Rattle.image_text.specs.Range.{all_pieces}
@@ -19,7 +17,7 @@ use Rattle.image_lines.specs.declared.begin.Begin.{Begin}
 use Rattle.image_lines.specs.declared.begin.Begin.TheVariants as begin
 use Rattle.image_lines.specs.declared.line.Line.{Line}
 use Rattle.image_lines.specs.declared.line.Line.TheVariants.{Chan, Ref, Out, Thread, End}
-use Rattle.image_lines.specs.Line.{begin_named, begin_text, begins, begins_value, channel_of, fault_behind, line_begun, line_in, output_of, reference_of, thread_of, value_in, value_read}
+use Rattle.image_lines.specs.Line.{begin_named, begin_text, begins, begins_value, channel_of, line_begun, line_in, output_of, reference_of, thread_of, value_in, value_read}
 use Rattle.image_lines.specs.LineText.{IsLine, IsRight, line_text}
 use Rattle.image_lines.proofs.LinePieces.{line_pieces, text_pieces}
 use Rattle.image_lines.proofs.Rows.{no_ok, ok_was, same_bytes}

@@ -1,13 +1,12 @@
 -- The program at the front of an image is read from its text and from no other bytes.
-use Rattle.std.proofs.Common.{◌≡◌, ℕ, suc, ◌+◌, ◌≤◌, Bool, true, false, cond, eqb, List, [], ◌∷◌, ◌++◌, length, take, drop, Option, Some, None, Result, Ok, Err, refl, sym, ap, subst, ◌∙◌, arith, append_assoc}
-use Rattle.std.specs.Prelude.{codes, decimal, nat_lt}
+use Rattle.std.proofs.Common.{◌≡◌, ℕ, ◌+◌, ◌≤◌, true, false, cond, eqb, List, [], ◌∷◌, ◌++◌, length, take, drop, Some, None, Result, Ok, Err, refl, sym, ap, subst, ◌∙◌, arith, append_assoc}
+use Rattle.std.specs.Prelude.{codes, nat_lt}
 use Rattle.std.specs.Str.{bytes_eq}
 use Rattle.std.proofs.Math.Seq.{drop-append_seam, take-append_seam}
 use Rattle.std.proofs.lemmas.Bool.{eqb-true, le-ltb, ltb-false}
 use Rattle.std.proofs.lemmas.List.{length-append, length-take-le, take-append-drop}
 use Rattle.text_lines.specs.Lines.{split}
-use Rattle.expression_text.specs.WordText.{spaced}
-use Rattle.image_text.specs.ImageText.{line, program_text, row}
+use Rattle.image_text.specs.ImageText.{line}
 use Rattle.image_text.specs.declared.fault.LineFault.{LineFault}
 use Rattle.image_text.specs.declared.fault.LineFault.TheVariants.{BadLine}
 use Rattle.image_lines.specs.declared.body.TextFault.{TextFault}

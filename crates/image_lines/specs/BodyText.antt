@@ -1,10 +1,9 @@
 -- The text of the lines of a state and the end.
-use Rattle.std.specs.Prelude.{◌≡◌, ℕ, ◌+◌, false, List, [], ◌∷◌, ◌++◌, length, None}
+use Rattle.std.specs.Prelude.{◌≡◌, ℕ, ◌+◌, false, List, [], ◌∷◌, ◌++◌, length}
 use Rattle.std.specs.List.{AllByRecursion}
-use Rattle.text_lines.specs.Lines.{split}
 use Rattle.image_lines.specs.declared.line.Line.{Line}
 use Rattle.image_lines.specs.declared.line.Line.TheVariants.{End}
-use Rattle.image_lines.specs.Body.{Body, is_end, read_lines}
+use Rattle.image_lines.specs.Body.{Body, is_end}
 use Rattle.image_lines.specs.LineText.{IsLine, line_text}
 
 -- each line is ended by a line feed

@@ -6,7 +6,7 @@ use Rattle.plain_language.specs.Expression.{Expr}
 use Rattle.plain_language.specs.Given.{value_of}
 use Rattle.trace_text.specs.Form as form
 use Rattle.image_text.specs.declared.fault.LineFault.{LineFault}
-use Rattle.image_text.specs.declared.fault.LineFault.TheVariants.{BadLine, BadNumber, BadState}
+use Rattle.image_text.specs.declared.fault.LineFault.TheVariants.{BadLine, BadNumber}
 use Rattle.image_text.specs.ExpressionIn.{expression_in}
 use Rattle.image_text.specs.Reading.{count_in, is_piece, name_in}
 use Rattle.image_lines.specs.declared.begin.Begin.{Begin}

@@ -1,5 +1,5 @@
 -- The program at the front of an image, and what stands behind it.
-use Rattle.std.specs.Prelude.{◌≡◌, ℕ, List, ◌++◌, length, Result, Ok}
+use Rattle.std.specs.Prelude.{◌≡◌, ℕ, List, ◌++◌, length, Ok}
 use Rattle.image_text.specs.ImageText.{program_text}
 use Rattle.image_lines.specs.HeadText.{IsLength}
 use Rattle.image_lines.specs.Opening.{program_in}
