@@ -5,3 +5,5 @@ pub mod Imaging
 pub mod Listing
 pub mod Numbering
 pub mod Putting
+pub mod BelowNext
+pub mod Resuming

@@ -6,7 +6,8 @@ use Rattle.std.specs.FinMap.{from_entries}
 use Rattle.stab_code.specs.Limits.{max_script}
 use Rattle.stab_text.specs.Text.{IsTextOf}
 use Rattle.journal_laws.specs.Known.{IsExprIn, IsKnown}
-use Rattle.image_laws.specs.Image.{Image}
+use Rattle.image_laws.specs.Image.{Image, generation_at}
+use Rattle.image_run.specs.Next.{AreBelowNext}
 use Rattle.stab_image.specs.declared.image.Image.TheInside.{Inside}
 use Rattle.image_text.specs.Rising.{IsRising}
 use Rattle.stab_image.specs.Limits.{IsNext, max_number}
@@ -26,8 +27,8 @@ image_of a = record {
   generations = from_entries a.generations.items;
 }
 
--- the text is that of the program, each number is in its range, each channel and reference that occurs in the state is there, and each
--- thread has its generation, in the order of their numbers
+-- the text is that of the program, each number is in its range, each channel and reference that occurs in the state is there, those and
+-- the threads are below the next ones, and each thread has its generation, in the order of their numbers
 pub record IsSound (a : Inside) : Type 0 where
   pub text : IsTextOf a.text.items a.state.program
   pub script : length a.script.items ≤ max_script
@@ -41,3 +42,5 @@ pub record IsSound (a : Inside) : Type 0 where
   pub thread_0 : map.contains_key a.state.state.threads 0 ≡ false
   pub rising : IsRising 0 a.generations.items
   pub same : (t : ℕ) → map.contains_key (from_entries {R = nat_cmp} a.generations.items) t ≡ map.contains_key a.state.state.threads t
+  pub named : AreBelowNext (record { thread = a.next_thread; chan = a.next_chan; reference = a.next_ref }) a.state.state
+  pub put_back : (t : ℕ) → generation_at (image_of a) t ≤ max_number

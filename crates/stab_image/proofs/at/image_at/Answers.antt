@@ -1,8 +1,12 @@
-use Rattle.std.proofs.Common.{ℕ, ℤ, ◌+◌, ◌≤◌, List, length, take, refl, sym, ap, subst, ◌∙◌, arith}
+use Rattle.std.proofs.Common.{ℕ, ℤ, ◌+◌, ◌≤◌, List, length, take, refl, sym, ap, subst, ◌∙◌, arith, length-take}
 use Rattle.std.specs.Prelude.{is_some}
 use Rattle.stab_code.specs.Limits.{max_script}
 use Rattle.stab_text.specs.Text.{IsTextOf}
+use Rattle.plain_language.specs.Plain.{standing}
+use Rattle.trace_verify.specs.Generations.{times}
+use Rattle.stab_image.specs.Limits.{max_number}
 use Rattle.stab_image.specs.Numbered.{AreBelow}
+use Rattle.stab_image.proofs.BelowNext.{found_few, put_back_few, state_below}
 use Rattle.stab_image.proofs.Cutting.{events_front, is_there, no_thread_0}
 use Rattle.stab_image.proofs.Imaging.{all_known, few_used, image_stands, text_is}
 use Rattle.stab_image.proofs.Listing.{same_keys}
@@ -43,6 +47,14 @@ invariant_of-result c =
       rising = c.in_ok-generations_of.ensures.rising;
       same = same_keys c.in_ok-led.led.state.state c.in_ok-led.led.generations _ c.in_ok-generations_of.ensures.found;
       known = all_known p script es q c.in_ok-led.led led;
+      named =
+          let given = c.by_first-named.ensures.named in
+          state_below _ (take q es) (omega (arith, c.max.ensures, given.thread)) (omega (arith, given.chan)) (omega (arith, given.reference)) p led.run c.in_ok-led.led.state.state
+          (events_front 1 q es c.len.ensures.valid.in_range) led.stands;
+      put_back = λ t.
+          let found = c.in_ok-generations_of.ensures.found in
+          found_few (standing c.in_ok-led.led.state.state t) _ (times c.in_ok-led.led.generations t) max_number (found.each t) (found.only t)
+          (omega (arith, led.generations t, put_back_few t (take q es), length-take q es, c.requires.small));
     }
 
 pub returns-clause-stands : goal.returns-clause-stands
