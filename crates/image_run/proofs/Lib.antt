@@ -2,3 +2,4 @@ pub mod Names
 pub mod Noting
 pub mod Stepping
 pub mod Fitting
+pub mod Turning

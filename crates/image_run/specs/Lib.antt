@@ -3,3 +3,4 @@ pub mod Origin
 pub mod Machine
 pub mod Noted
 pub mod Acting
+pub mod Turns

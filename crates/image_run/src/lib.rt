@@ -2,10 +2,16 @@
 #![tactic(auto)]
 
 mod acting;
+mod choice;
+mod going;
 mod machine;
 mod next;
+mod order;
 mod origin;
+mod turn;
+mod waiting;
 
+pub use going::{Resumed, go_on};
 pub use machine::Machine;
 pub use next::Next;
 pub use origin::Origin;

@@ -1,0 +1,89 @@
+-- What the turns of a machine's threads ask for.
+use Rattle.std.proofs.Common.{◌≡◌, ℕ, zero, suc, ◌≤◌, Bool, true, false, Option, Some, None, refl, sym, ap, subst, ◌∙◌, arith}
+use Rattle.std.specs.Prelude.{IsSome, is_some, option_map}
+use Rattle.std.specs.FinMap as map
+use Rattle.std.proofs.lemmas.Bool.{false≢true}
+use Rattle.stab_base.specs.declared.numbers.Seq.{Seq}
+use Rattle.stab_base.specs.declared.numbers.ThreadId.{ThreadId}
+use Rattle.stab_journal.specs.declared.event.Label.TheVariants.{Comm, Local, Refuse}
+use Rattle.stab_journal.specs.Since.{is_mark_revocable_since, is_revocable_since}
+use Rattle.plain_language.specs.Expression.{Expr}
+use Rattle.plain_language.specs.Plain.{language_of, look_in, mark_in, plain_step, standing}
+use Rattle.plain_language.specs.Quiet.{IsQuiet}
+use Rattle.plain_language.specs.Since.{MayUndoSince}
+use Rattle.ready_steps.specs.declared.deed.Deed.{Deed}
+use Rattle.ready_steps.specs.declared.deed.Deed.TheVariants.{Ended, Pure, Spawn, NewChan, NewRef, Get, Set, Send, Recv, Pick, Enter, Stabilize, Cut, Pin, Print, Probe, Attempt}
+use Rattle.ready_steps.specs.declared.ready.Meeting.{Meeting}
+use Rattle.ready_steps.specs.declared.ready.Ready.{Ready}
+use Rattle.ready_steps.specs.declared.ready.Ready.TheVariants.{Alone, Meet}
+use Rattle.ready_steps.specs.Deeds.{deed_of, is_resting}
+use Rattle.ready_steps.specs.Ready.{CanMeet, IsReady, deed_in, rests_at}
+use Rattle.ready_steps.proofs.Searching.{meets_none, rests_all}
+use Rattle.ready_steps.proofs.Together.{meets, refuses, stands, steps_purely}
+use Rattle.image_laws.specs.Image.{IsContinuedBy}
+use Rattle.image_run.specs.declared.machine.Machine.{Machine}
+use Rattle.image_run.specs.declared.origin.Origin.{Origin}
+use Rattle.image_run.specs.Acting.{is_lone}
+use Rattle.image_run.specs.Machine.{IsAt, MayMake, number_of, run_of, state_of}
+use Rattle.image_run.specs.Origin.{image_of}
+use Rattle.image_run.proofs.Fitting.{state_below}
+
+none_of : (o : Option Expr) → (is_some o ≡ true → ⊥) → o ≡ None
+none_of None h = refl
+none_of (Some e) h = absurd (h refl)
+
+module _ (m : Machine) where
+  pub may_meet : (k : Meeting) → CanMeet m.surviving.state.program (state_of m) k → MayMake m (Comm k.sender k.receiver k.chan)
+  may_meet k can = record {
+    has = meets m.surviving.state.program (state_of m) (number_of m) k can;
+    fits = record { may = tt; script = tt; next = tt; some = omega arith; little = omega arith };
+  }
+
+  module _ (t : ThreadId) (at : deed_in m.surviving.state.program (state_of m) t.0 ≡ Some Stabilize) where
+    pub may_refuse : is_mark_revocable_since m.origin.cut (run_of m) (mark_in (state_of m) t.0) ≡ false → MayMake m (Refuse t)
+    may_refuse not = record {
+      has = refuses m.surviving.state.program (state_of m) (number_of m) t at;
+      fits = record { may = not; script = tt; next = tt; some = omega arith; little = omega arith };
+    }
+
+    pub may_undo : (q : Seq) → mark_in (state_of m) t.0 ≡ Some q.0 → is_revocable_since m.surviving.parts.since (run_of m) q.0 ≡ true
+        → MayUndoSince m.surviving.parts.since m.surviving.state.program (run_of m) (state_of m) t.0 q.0
+    may_undo q mark revocable = record { at = stands m.surviving.state.program (state_of m) (number_of m) t.0 at; mark = mark; revocable = revocable }
+
+  -- no thread is numbered 0
+  pub first_thread : IsAt m → deed_in m.surviving.state.program (state_of m) 0 ≡ None
+  first_thread h = ap (option_map (λ (e : Expr). deed_of (look_in m.surviving.state.program e))) (none_of (standing (state_of m) 0) (λ yes. let one = (state_below m h).threads 0 yes in omega (arith, one.0)))
+
+  -- a thread that has a pure step makes one
+  pub some_made : (t : ThreadId) (n : ℕ) → deed_in m.surviving.state.program (state_of m) t.0 ≡ Some Pure → (n ≡ 0 → plain_step m.surviving.state.program (state_of m) (number_of m) (Local t 1) ≡ None) → 1 ≤ n
+  some_made t zero at none = absurd (false≢true (subst IsSome (none refl) (steps_purely m.surviving.state.program (state_of m) (number_of m) t at)))
+  some_made t (suc n) at none = omega arith
+
+  -- somebody who can step is no sign of quiet
+  pub not_quiet : (r : Ready) → IsReady m.surviving.state.program (state_of m) r → IsQuiet (language_of m.surviving.state.program) (state_of m) → ⊥
+  not_quiet (Alone t) at quiet = rests_all m.surviving.state.program (state_of m) quiet t.0 at
+  not_quiet (Meet k) at quiet = meets_none m.surviving.state.program (state_of m) quiet k.sender.0 k.receiver.0 k.chan.0 at.sends at.receives
+
+  -- what the machine made continues the image of where it began
+  pub ended : (o : Origin) → IsAt m → m.origin ≡ o → IsContinuedBy (image_of o) m.events.items (state_of m)
+  ended o h is = subst (λ (x : Origin). IsContinuedBy (image_of x) m.events.items (state_of m)) is (record { run = run_of m; continues = h.played.continues; follows = h.counted.follows })
+
+-- a thread that doesn't rest and has no pure step makes another one by itself
+pub lone : (d : Deed) → is_resting d ≡ false → (d ≡ Pure → ⊥) → is_lone d ≡ true
+lone Ended h n = absurd (false≢true (sym h))
+lone (Send c) h n = absurd (false≢true (sym h))
+lone (Recv c) h n = absurd (false≢true (sym h))
+lone (Pick c d) h n = absurd (false≢true (sym h))
+lone Pure h n = absurd (n refl)
+lone Spawn h n = refl
+lone NewChan h n = refl
+lone NewRef h n = refl
+lone (Get r) h n = refl
+lone (Set r) h n = refl
+lone Enter h n = refl
+lone Stabilize h n = refl
+lone Cut h n = refl
+lone Pin h n = refl
+lone Print h n = refl
+lone Probe h n = refl
+lone Attempt h n = refl

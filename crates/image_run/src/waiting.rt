@@ -1,0 +1,121 @@
+//! How threads wait for one another and come back to the queue.
+
+use crate::order::Order;
+use plain_language::PlainState;
+use ready_steps::{Deed, Meeting};
+use stab_base::{NoMemory, ThreadId};
+use stab_journal::{Label, Numbered};
+use std::alloc::Global;
+use std::collections::BTreeSet;
+
+/// The thread that waits for this one for longest, as a meeting of the two. A pick looks at its first channel first.
+pub(crate) fn candidate(order: &mut Order, t: ThreadId, deed: Deed) -> Option<Meeting> {
+    match deed {
+        Deed::Send(c) => Some(Meeting {
+            sender: t,
+            receiver: order.receiver(c)?,
+            chan: c,
+        }),
+        Deed::Recv(c) => Some(Meeting {
+            sender: order.sender(c)?,
+            receiver: t,
+            chan: c,
+        }),
+        Deed::Pick(c, d) => match order.sender(c) {
+            Some(sender) => Some(Meeting {
+                sender,
+                receiver: t,
+                chan: c,
+            }),
+            None => Some(Meeting {
+                sender: order.sender(d)?,
+                receiver: t,
+                chan: d,
+            }),
+        },
+        _ => None,
+    }
+}
+
+/// A thread waits on its channels.
+pub(crate) fn wait(
+    order: &mut Order,
+    alloc: Global,
+    t: ThreadId,
+    deed: Deed,
+) -> Result<(), NoMemory> {
+    match deed {
+        Deed::Send(c) => order.send(alloc, t, c),
+        Deed::Recv(c) => order.receive(alloc, t, c, c),
+        Deed::Pick(c, d) => order.receive(alloc, t, c, d),
+        _ => Ok(()),
+    }
+}
+
+/// A thread that made a step comes to the queue, behind the one that it made if it made one.
+pub(crate) fn come(order: &mut Order, t: ThreadId, label: Label) -> Result<(), NoMemory> {
+    if let Label::Spawn(_, u) = label {
+        order.push(u)?;
+    }
+    order.push(t)
+}
+
+/// Two that met come to the queue, the one whose turn it was last.
+pub(crate) fn part(order: &mut Order, meeting: Meeting, turn: ThreadId) -> Result<(), NoMemory> {
+    if turn.0 == meeting.sender.0 {
+        order.push(meeting.receiver)?;
+    } else {
+        order.push(meeting.sender)?;
+    }
+    order.push(turn)
+}
+
+/// The threads of steps that were taken back leave their places. Those that are still there come to the queue, in the order of
+/// their numbers.
+pub(crate) fn restore(
+    order: &mut Order,
+    alloc: Global,
+    state: &PlainState,
+    goes: &[Numbered],
+) -> Result<(), NoMemory> {
+    let threads = touched(alloc, goes)?;
+    for t in threads.iter() {
+        let t = ThreadId(*t);
+        order.leave(t);
+        if state.expr(t).is_some() {
+            order.push(t)?;
+        }
+    }
+    Ok(())
+}
+
+// The threads that steps touch.
+fn touched(alloc: Global, steps: &[Numbered]) -> Result<BTreeSet<u32>, NoMemory> {
+    let mut threads = BTreeSet::new(alloc);
+    for step in steps {
+        let (t, u) = touched_by(step.label);
+        threads.insert(t.0)?;
+        threads.insert(u.0)?;
+    }
+    Ok(threads)
+}
+
+// The threads that a step touches; one that it touches alone stands twice.
+fn touched_by(label: Label) -> (ThreadId, ThreadId) {
+    match label {
+        Label::Comm(s, r, _) => (s, r),
+        Label::Spawn(t, u) => (t, u),
+        Label::Local(t, _)
+        | Label::NewChan(t, _)
+        | Label::NewRef(t, _)
+        | Label::Get(t, _)
+        | Label::Set(t, _)
+        | Label::Enter(t)
+        | Label::Cut(t)
+        | Label::Print(t)
+        | Label::Probe(t, _)
+        | Label::Refuse(t)
+        | Label::Pin(t)
+        | Label::Attempt(t, _) => (t, t),
+    }
+}
