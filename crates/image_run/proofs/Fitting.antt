@@ -7,6 +7,8 @@ use Rattle.std.proofs.lemmas.Bool.{false≢true}
 use Rattle.std.proofs.lemmas.Bool.Decides.{nat_tests}
 use Rattle.stab_base.specs.declared.numbers.ThreadId.{ThreadId}
 use Rattle.stab_journal.specs.declared.event.Label.{Label}
+use Rattle.stab_journal.specs.declared.event.What.TheVariants.{Step}
+use Rattle.stab_journal.specs.Event.{weigh}
 use Rattle.plain_language.specs.Plain.{effect_of, plain_step}
 use Rattle.journal_laws.specs.Known.{IsExprIn, IsKnown}
 use Rattle.journal_laws.proofs.Runs.{closed, run_keeps}
@@ -91,3 +93,23 @@ lone_some t g Pin lone other = refl
 lone_some t g Print lone other = refl
 lone_some t g Probe lone other = refl
 lone_some t g Attempt lone other = refl
+
+-- a step that a thread makes by itself, and that isn't pure, weighs 1
+pub one_weighed : (t : ThreadId) (g : Given) (d : Deed) → IfSome (label_of t g d) (λ l. weigh (Step l) ≡ 1)
+one_weighed t g Ended = tt
+one_weighed t g Pure = tt
+one_weighed t g (Send c) = tt
+one_weighed t g (Recv c) = tt
+one_weighed t g (Pick c d) = tt
+one_weighed t g Stabilize = tt
+one_weighed t g Spawn = refl
+one_weighed t g NewChan = refl
+one_weighed t g NewRef = refl
+one_weighed t g (Get r) = refl
+one_weighed t g (Set r) = refl
+one_weighed t g Enter = refl
+one_weighed t g Cut = refl
+one_weighed t g Pin = refl
+one_weighed t g Print = refl
+one_weighed t g Probe = refl
+one_weighed t g Attempt = refl

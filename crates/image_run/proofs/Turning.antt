@@ -5,9 +5,11 @@ use Rattle.std.specs.FinMap as map
 use Rattle.std.proofs.lemmas.Bool.{false≢true}
 use Rattle.stab_base.specs.declared.numbers.Seq.{Seq}
 use Rattle.stab_base.specs.declared.numbers.ThreadId.{ThreadId}
+use Rattle.stab_code.specs.Program.{ProgramParts}
 use Rattle.stab_journal.specs.declared.event.Label.TheVariants.{Comm, Local, Refuse}
 use Rattle.stab_journal.specs.Since.{is_mark_revocable_since, is_revocable_since}
 use Rattle.plain_language.specs.Expression.{Expr}
+use Rattle.plain_language.specs.Held.{Held}
 use Rattle.plain_language.specs.Plain.{language_of, look_in, mark_in, plain_step, standing}
 use Rattle.plain_language.specs.Quiet.{IsQuiet}
 use Rattle.plain_language.specs.Since.{MayUndoSince}
@@ -67,6 +69,18 @@ module _ (m : Machine) where
   -- what the machine made continues the image of where it began
   pub ended : (o : Origin) → IsAt m → m.origin ≡ o → IsContinuedBy (image_of o) m.events.items (state_of m)
   ended o h is = subst (λ (x : Origin). IsContinuedBy (image_of x) m.events.items (state_of m)) is (record { run = run_of m; continues = h.played.continues; follows = h.counted.follows })
+
+  module _ (o : Origin) (h : IsAt m) (is : m.origin ≡ o) where
+    program : m.surviving.state.program ≡ o.state.program
+    program = h.played.program ∙ ap (λ (x : Origin). x.state.program) is
+
+    pub quiet_for : (k : Held) → k ≡ m.surviving.state → IsQuiet (language_of m.surviving.state.program) (state_of m) → IsQuiet (language_of o.state.program) k.state
+    quiet_for k same q = subst (λ (x : Held). IsQuiet (language_of o.state.program) x.state) (sym same) (subst (λ (p : ProgramParts). IsQuiet (language_of p) (state_of m)) program q)
+
+    pub ready_for : (k s : Held) (r : Ready) → k ≡ m.surviving.state → s ≡ m.surviving.state → IsReady s.program s.state r → IsQuiet (language_of o.state.program) k.state → ⊥
+    ready_for k s r same also at q =
+        not_quiet r (subst (λ (x : Held). IsReady x.program x.state r) also at)
+        (subst (λ (p : ProgramParts). IsQuiet (language_of p) (state_of m)) (sym program) (subst (λ (x : Held). IsQuiet (language_of o.state.program) x.state) same q))
 
 -- a thread that doesn't rest and has no pure step makes another one by itself
 pub lone : (d : Deed) → is_resting d ≡ false → (d ≡ Pure → ⊥) → is_lone d ≡ true

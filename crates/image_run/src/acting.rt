@@ -1,5 +1,7 @@
 //! What a machine can do next.
 ghost use Rattle.std.specs.Prelude.{◌≡◌, ◌+◌, true, false, Some, IfOk, IfSome, IsSome, MatchOption};
+ghost use Rattle.stab_journal.specs.declared.event.What.TheVariants.{Step};
+ghost use Rattle.stab_journal.specs.Event.{weigh};
 ghost use Rattle.stab_journal.specs.Script.{script_at};
 ghost use Rattle.stab_journal.specs.Since.{is_mark_revocable_since, is_revocable_since};
 ghost use Rattle.plain_language.specs.Plain.{mark_in};
@@ -31,6 +33,7 @@ impl Machine {
         requires room { HasRoom self.now }
         requires deed { deed_in self.now.surviving.state.program (state_of self.now) t.0 ≡ Some deed }
         ensures may { IfSome result (MayMake self.now) }
+        ensures one { IfSome result (λ l. weigh (Step l) ≡ 1) }
         ensures some { is_lone deed ≡ true → (deed ≡ Deed.Stabilize → ⊥) → IsSome result }
     {
         label_for(t, deed, self.given(t))

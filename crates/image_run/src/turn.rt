@@ -83,8 +83,7 @@ impl Run {
     {
         match self.machine.deed(t) {
             Some(Deed::Pure) => {
-                let _made = self.machine.local(self.alloc, t, self.quantum)?;
-                self.go_on(t)?;
+                self.pure(t)?;
                 Ok(())
             }
             Some(deed) => {
@@ -93,6 +92,18 @@ impl Run {
             }
             None => unreachable!(),
         }
+    }
+
+    // The pure steps of a thread, and what it does then.
+    fn pure(&mut self, t: ThreadId) -> Result<(), NoMemory>
+        requires run { IsRun self.old }
+        requires room { self.old.machine.weight ≤ 16000000 }
+        requires pure { deed_in self.old.machine.surviving.state.program (state_of self.old.machine) t.0 ≡ Some Deed.Pure }
+        ensures { OnOk result (IsMoved 1 10001 self.old self.new) }
+    {
+        self.machine.local(self.alloc, t, self.quantum)?;
+        self.go_on(t)?;
+        Ok(())
     }
 
     // What a thread does after its pure steps.

@@ -1,7 +1,9 @@
 use Rattle.std.proofs.Common.{sym, subst}
-use Rattle.std.specs.Prelude.{IsSome}
+use Rattle.std.specs.Prelude.{◌≡◌, IfSome, IsSome}
+use Rattle.stab_journal.specs.declared.event.What.TheVariants.{Step}
+use Rattle.stab_journal.specs.Event.{weigh}
 use Rattle.image_run.specs.Machine.{number_of, state_of}
-use Rattle.image_run.proofs.Fitting.{lone_some, may_make}
+use Rattle.image_run.proofs.Fitting.{lone_some, may_make, one_weighed}
 use Rattle.image_run.proofs.machine.Machine.label.Goals as goal
 
 pub returns-clause-may : goal.returns-clause-may
@@ -12,3 +14,6 @@ returns-clause-may c =
 
 pub returns-clause-some : goal.returns-clause-some
 returns-clause-some c = λ lone other. subst IsSome (sym c.label_for.ensures.label) (lone_some c.args.t c.given.result c.args.deed lone other)
+
+pub returns-clause-one : goal.returns-clause-one
+returns-clause-one c = subst (λ o. IfSome o (λ l. weigh (Step l) ≡ 1)) (sym c.label_for.ensures.label) (one_weighed c.args.t c.given.result c.args.deed)
