@@ -35,10 +35,7 @@ pub(crate) fn first_queued(
 }
 
 /// The first of all threads that can step.
-pub(crate) fn first_chosen(
-    alloc: Global,
-    state: &PlainState,
-) -> Result<Option<Chosen>, NoMemory>
+pub(crate) fn first_chosen(alloc: Global, state: &PlainState) -> Result<Option<Chosen>, NoMemory>
     requires { deed_in state.now.program state.now.state 0 ≡ None }
     ensures { IfOk result (λ o. MatchOption o (IsQuiet (language_of state.now.program) state.now.state)
         (λ k. IsReady state.now.program state.now.state k.ready)) }
@@ -53,11 +50,7 @@ pub(crate) fn first_chosen(
 }
 
 // The first of the queue leaves it, and is returned if it can step.
-fn front(
-    order: &mut Order,
-    alloc: Global,
-    state: &PlainState,
-) -> Result<Option<Chosen>, NoMemory>
+fn front(order: &mut Order, alloc: Global, state: &PlainState) -> Result<Option<Chosen>, NoMemory>
     ensures { IfOk result (λ o. IfSome o (λ k. IsReady state.now.program state.now.state k.ready)) }
 {
     match order.pop() {

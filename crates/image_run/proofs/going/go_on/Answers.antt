@@ -10,7 +10,7 @@ use Rattle.image_run.proofs.Turning.{first_thread, quiet_for, ready_for}
 use Rattle.image_run.proofs.going.go_on.Goals as goal
 
 pub loop-run-smaller : goal.loop-run-smaller
-loop-run-smaller c = omega (arith, ap (λ (m : Machine). m.weight) c.in_ok-next.ensures.machine, c.in_ok-turn.ensures.more)
+loop-run-smaller c = omega (arith, ap (λ (m : Machine). m.weight) c.in_ok-next.ensures.machine, c.in_ok-turn-in-Some.ensures.more)
 
 pub turn-requires-clause-room : goal.turn-requires-clause-room
 turn-requires-clause-room c = omega (arith, ap (λ (m : Machine). m.weight) c.in_ok-next.ensures.machine)

@@ -1,7 +1,6 @@
-use Rattle.std.proofs.Common.{◌≡◌, true, sym, ap, ◌∙◌, arith}
+use Rattle.std.proofs.Common.{sym, ap, ◌∙◌}
 use Rattle.std.proofs.lemmas.Bool.{false≢true}
 use Rattle.ready_steps.specs.Ready.{rests_at}
-use Rattle.image_run.proofs.Turning.{lone}
 use Rattle.image_run.proofs.turn.Run.alone.Goals as goal
 
 pub unreachable-requires : goal.unreachable-requires
