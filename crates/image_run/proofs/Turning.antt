@@ -1,7 +1,6 @@
 -- What the turns of a machine's threads ask for.
-use Rattle.std.proofs.Common.{◌≡◌, ℕ, zero, suc, ◌≤◌, Bool, true, false, Option, Some, None, refl, sym, ap, subst, ◌∙◌, arith}
+use Rattle.std.proofs.Common.{◌≡◌, ℕ, zero, suc, ◌≤◌, true, false, Option, Some, None, refl, sym, ap, subst, ◌∙◌, arith}
 use Rattle.std.specs.Prelude.{IsSome, is_some, option_map}
-use Rattle.std.specs.FinMap as map
 use Rattle.std.proofs.lemmas.Bool.{false≢true}
 use Rattle.stab_base.specs.declared.numbers.Seq.{Seq}
 use Rattle.stab_base.specs.declared.numbers.ThreadId.{ThreadId}
@@ -19,7 +18,7 @@ use Rattle.ready_steps.specs.declared.ready.Meeting.{Meeting}
 use Rattle.ready_steps.specs.declared.ready.Ready.{Ready}
 use Rattle.ready_steps.specs.declared.ready.Ready.TheVariants.{Alone, Meet}
 use Rattle.ready_steps.specs.Deeds.{deed_of, is_resting}
-use Rattle.ready_steps.specs.Ready.{CanMeet, IsReady, deed_in, rests_at}
+use Rattle.ready_steps.specs.Ready.{CanMeet, IsReady, deed_in}
 use Rattle.ready_steps.proofs.Searching.{meets_none, rests_all}
 use Rattle.ready_steps.proofs.Together.{meets, refuses, stands, steps_purely}
 use Rattle.image_laws.specs.Image.{IsContinuedBy}
