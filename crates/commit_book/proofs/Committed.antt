@@ -222,12 +222,11 @@ pub record IsOnTime (job : JobParts) (parts : Parts) (lease : LeaseView) (progre
   pub light : ¬ IsOver (view_of job parts)
   pub limits : IsWithinLimits job
 
-pub on_time : (job : JobParts) (parts : Parts) (lease : LeaseView) (progress : ProgressView) (b : BookView) (r over : Bool) (given : ControlView) → view_of job parts ≡ b
-    → IsTrue r ↔ IsCurrent parts.slots.threads lease given → given ≡ progress.origin → r ≡ true → IsTrue over ↔ IsOver b → over ≡ false → IsWithinLimits b.job → IsOnTime job parts lease progress
-on_time job parts lease progress b r over given view tests same holds weighs below within = record {
-  current = current_by r parts.slots.threads lease given progress.origin tests same holds;
-  light = λ heavy. false≢true (sym below ∙ weighs.1 (subst IsOver view heavy));
-  limits = subst (λ (k : BookView). IsWithinLimits k.job) (sym view) within;
+pub on_time : (job : JobParts) (parts : Parts) (lease : LeaseView) (progress : ProgressView) (b : BookView) → view_of job parts ≡ b → IsCurrent b.threads lease progress.origin → (¬ IsOver b) → IsWithinLimits job → IsOnTime job parts lease progress
+on_time job parts lease progress b view current light within = record {
+  current = subst (λ (k : BookView). IsCurrent k.threads lease progress.origin) (sym view) current;
+  light = λ heavy. light (subst IsOver view heavy);
+  limits = within;
 }
 
 -- its history is short

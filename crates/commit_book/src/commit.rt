@@ -1,6 +1,5 @@
 //! Commits.
 ghost use Rattle.std.specs.Prelude.{◌≡◌, ◌↔◌, ◌<◌, ◌≤◌, ◌+◌, ◌-◌, length, IfOk, IfErr, IsTrue, OnErr};
-ghost use Rattle.stab_code.specs.JobParts.{IsWithinLimits};
 ghost use Rattle.stab_journal.specs.Event.{weight_of};
 ghost use Rattle.commit_book.specs.Acting.{IsLateAnswer, answer_to, ended_by};
 ghost use Rattle.commit_book.specs.Book.{IsShown};
@@ -34,8 +33,26 @@ impl Book {
         if self.is_over() {
             return Ok(self.over(lease));
         }
+        self.commit_current(lease, progress)
+    }
+
+    /// What `commit` does with a lease that is known to be current, in a book that takes commits: the thread's control
+    /// isn't compared with where the pure steps began.
+    pub fn commit_current(
+        &mut self,
+        lease: Lease,
+        progress: Progress,
+    ) -> Result<Done, CommitRefused>
+        requires program { progress.program ≡ self.old.job.program }
+        requires current { IsCurrent self.old.threads lease progress.origin }
+        requires going { ¬ IsOver self.old }
+        ensures done { IfOk result (IsCommitted self.old self.new lease progress) }
+        ensures back { IfErr result (λ refused. (refused.lease ≡ lease) × (refused.progress ≡ progress)) }
+        ensures err { OnErr result (self.new ≡ self.old) }
+        ensures shown { IsShown self.new }
+    {
+        let (_fuel, _steps, _end) = (self.job.fuel(), progress.steps(), progress.end());
         let first = Seq(self.parts.history.len() + 1);
-        let (_steps, _end) = (progress.steps(), progress.end());
         match self.parts.perform(&self.job, &lease, progress) {
             Ok(outcome) => Ok(self.taken(lease, outcome, first)),
             Err(progress) => Err(CommitRefused { lease, progress }),
@@ -45,7 +62,6 @@ impl Book {
     /// Whether the fuel is used up and the reserve too.
     fn is_over(&self) -> bool
         ensures over { IsTrue result ↔ IsOver self.now }
-        ensures limits { IsWithinLimits self.now.job }
     {
         self.parts.history.weight().saturating_sub(self.job.fuel()) >= COMMIT_RESERVE
     }

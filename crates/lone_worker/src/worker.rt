@@ -103,7 +103,7 @@ fn commit(book: &mut Book, lease: Lease, progress: Progress) -> Option<RunEnd>
     ensures shown { IsShown book.new }
 {
     let (_quantum, _texts) = (book.job().quantum(), book.job().program().texts());
-    match book.commit(lease, progress) {
+    match book.commit_current(lease, progress) {
         Ok(Done::Taken { .. }) => None,
         Ok(Done::Parked { .. }) => None,
         Ok(Done::Undone { .. }) => {

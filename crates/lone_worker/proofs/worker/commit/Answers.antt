@@ -4,15 +4,21 @@ use Rattle.stab_code.specs.Valid.{IsValid}
 use Rattle.commit_book.specs.Book.{BookView}
 use Rattle.commit_book.specs.Turns.{given_back}
 use Rattle.lone_worker.specs.Turn.{is_made}
-use Rattle.lone_worker.proofs.Ending.{is_undone}
+use Rattle.lone_worker.proofs.Ending.{current, is_undone, not_over}
 use Rattle.lone_worker.proofs.Turning.{IsGivenBack, IsGoodCommit, committed, committed_undo, gave_back}
 use Rattle.lone_worker.proofs.worker.commit.Goals as goal
 use Rattle.lone_worker.proofs.worker.commit.Goals.{After-give_back}
 
-taken : (c : goal.Joined-commit-3) → IsGoodCommit c.args.book.now c.commit.new.self c.args.lease c.args.progress c.requires.lent
+pub commit_current-requires-clause-current : goal.commit_current-requires-clause-current
+commit_current-requires-clause-current c = current c.args.book.now c.args.lease c.args.progress.origin c.requires.lent
+
+pub commit_current-requires-clause-going : goal.commit_current-requires-clause-going
+commit_current-requires-clause-going c = not_over c.args.book.now c.args.lease c.args.progress.origin c.requires.lent
+
+taken : (c : goal.Joined-commit_current-3) → IsGoodCommit c.args.book.now c.commit_current.new.self c.args.lease c.args.progress c.requires.lent
 taken c =
-    committed c.args.book.now c.commit.new.self c.args.lease c.args.progress c.requires.lent
-    c.job.ensures.shown c.commit.ensures.shown c.requires.advanced c.in-Ok-Taken.field-0 (ap is_made c.in-Ok-Taken.field-0-is) c.in-Ok-Taken.ensures.done
+    committed c.args.book.now c.commit_current.new.self c.args.lease c.args.progress c.requires.lent
+    c.job.ensures.shown c.commit_current.ensures.shown c.requires.advanced c.in-Ok-Taken.field-0 (ap is_made c.in-Ok-Taken.field-0-is) c.in-Ok-Taken.ensures.done
     (subst IsValid (c.deref.ensures ∙ c.program.ensures.value ∙ ap (λ (j : JobParts). j.program) c.job-2.ensures.job) c.texts-texts.ensures.valid)
     (subst (λ (j : JobParts). 1 ≤ j.quantum) c.job.ensures.job c.quantum-quantum.ensures.limits.some_quantum)
     (ap is_undone c.in-Ok-Taken.field-0-is)
@@ -29,10 +35,10 @@ returns-in-Ok-Taken-clause-worked c = (taken c).worked
 pub returns-in-Ok-Taken-clause-nearer : goal.returns-in-Ok-Taken-clause-nearer
 returns-in-Ok-Taken-clause-nearer c = (taken c).nearer
 
-parked : (c : goal.Joined-this) → IsGoodCommit c.args.book.now c.commit.new.self c.args.lease c.args.progress c.requires.lent
+parked : (c : goal.Joined-this) → IsGoodCommit c.args.book.now c.commit_current.new.self c.args.lease c.args.progress c.requires.lent
 parked c =
-    committed c.args.book.now c.commit.new.self c.args.lease c.args.progress c.requires.lent
-    c.job.ensures.shown c.commit.ensures.shown c.requires.advanced c.in-Ok-Parked.field-0 (ap is_made c.in-Ok-Parked.field-0-is) c.in-Ok-Parked.ensures.done
+    committed c.args.book.now c.commit_current.new.self c.args.lease c.args.progress c.requires.lent
+    c.job.ensures.shown c.commit_current.ensures.shown c.requires.advanced c.in-Ok-Parked.field-0 (ap is_made c.in-Ok-Parked.field-0-is) c.in-Ok-Parked.ensures.done
     (subst IsValid (c.deref.ensures ∙ c.program.ensures.value ∙ ap (λ (j : JobParts). j.program) c.job-2.ensures.job) c.texts-texts.ensures.valid)
     (subst (λ (j : JobParts). 1 ≤ j.quantum) c.job.ensures.job c.quantum-quantum.ensures.limits.some_quantum)
     (ap is_undone c.in-Ok-Parked.field-0-is)
@@ -49,10 +55,10 @@ returns-in-Ok-Parked-clause-worked c = (parked c).worked
 pub returns-in-Ok-Parked-clause-nearer : goal.returns-in-Ok-Parked-clause-nearer
 returns-in-Ok-Parked-clause-nearer c = (parked c).nearer
 
-undone : (c : goal.Joined-this-3) → IsGoodCommit c.args.book.now c.commit.new.self c.args.lease c.args.progress c.requires.lent
+undone : (c : goal.Joined-this-3) → IsGoodCommit c.args.book.now c.commit_current.new.self c.args.lease c.args.progress c.requires.lent
 undone c =
-    committed_undo c.args.book.now c.commit.new.self c.args.lease c.args.progress c.requires.lent
-    c.job.ensures.shown c.commit.ensures.shown c.requires.advanced c.in-Ok-Undone.field-0 (ap is_made c.in-Ok-Undone.field-0-is) c.in-Ok-Undone.ensures.done
+    committed_undo c.args.book.now c.commit_current.new.self c.args.lease c.args.progress c.requires.lent
+    c.job.ensures.shown c.commit_current.ensures.shown c.requires.advanced c.in-Ok-Undone.field-0 (ap is_made c.in-Ok-Undone.field-0-is) c.in-Ok-Undone.ensures.done
     (subst IsValid (c.deref.ensures ∙ c.program.ensures.value ∙ ap (λ (j : JobParts). j.program) c.job-2.ensures.job) c.texts-texts.ensures.valid)
     (subst (λ (j : JobParts). 1 ≤ j.quantum) c.job.ensures.job c.quantum-quantum.ensures.limits.some_quantum)
     c.last_thread-last.result.0 c.last_thread-last.ensures.last (omega arith)
