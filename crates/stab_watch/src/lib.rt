@@ -3,6 +3,7 @@
 
 mod board;
 mod crossing;
+mod on_desk;
 mod passes;
 mod reading;
 mod rule;
