@@ -1,5 +1,5 @@
 //! A table of types.
-ghost use Rattle.std.specs.Prelude.{◌≡◌, ◌<◌, ◌^◌, true, Some, List, length, slice_get, IfOk, OnErr};
+ghost use Rattle.std.specs.Prelude.{◌≡◌, ◌<◌, ◌^◌, ◌⊎◌, ◌++◌, ◌∷◌, [], true, Some, List, length, slice_get, IfOk, OnErr};
 ghost use Rattle.stab_code.specs.Written.{Written};
 ghost use Rattle.type_table.specs.declared.shape.TypeId.{TypeId as Number};
 ghost use Rattle.type_table.specs.Table.{IsLonger, base_shapes, base_types, is_made, is_made_below, type_at, written_by};
@@ -79,6 +79,7 @@ impl TypeTable {
         ensures longer { IfOk result (λ n. IsLonger self.old self.new) }
         ensures within { IfOk result (λ n. n.0 < length self.new) }
         ensures is { IfOk result (λ n. (all : List Written) → IsLonger self.new all → type_at all n ≡ written_by all shape) }
+        ensures next { IfOk result (λ n. (self.new ≡ self.old) ⊎ (self.new ≡ self.old ++ written_by self.old shape ∷ [])) }
         ensures err { OnErr result (self.new ≡ self.old) }
     {
         self.begins();
@@ -100,6 +101,7 @@ impl TypeTable {
         ensures longer { IfOk result (λ n. IsLonger self.old self.new) }
         ensures within { IfOk result (λ n. n.0 < length self.new) }
         ensures is { IfOk result (λ n. (all : List Written) → IsLonger self.new all → type_at all n ≡ written_by all shape) }
+        ensures next { IfOk result (λ n. (self.new ≡ self.old) ⊎ (self.new ≡ self.old ++ written_by self.old shape ∷ [])) }
         ensures err { OnErr result (self.new ≡ self.old) }
     {
         if let Some(found) = self.shapes.get_index_of(&shape) {

@@ -1,4 +1,4 @@
-use Rattle.std.proofs.Common.{refl, arith}
+use Rattle.std.proofs.Common.{refl, inl, arith}
 use Rattle.type_table.specs.declared.shape.TypeShape.TheVariants as shape
 use Rattle.type_table.proofs.Types.{base_number, base_within, longer_refl}
 use Rattle.type_table.proofs.table.TypeTable.number.Goals as goal
@@ -38,3 +38,15 @@ returns-in-Text-clause-within c = base_within c.args.self.now c.begins.ensures 3
 
 pub returns-in-Text-clause-is : goal.returns-in-Text-clause-is
 returns-in-Text-clause-is c = λ all l. base_number c.args.self.now all c.begins.ensures l 3 shape.Text c.args.shape refl c.in-Text.is
+
+pub returns-in-Unit-clause-next : goal.returns-in-Unit-clause-next
+returns-in-Unit-clause-next c = inl refl
+
+pub returns-in-Bool-clause-next : goal.returns-in-Bool-clause-next
+returns-in-Bool-clause-next c = inl refl
+
+pub returns-in-Int-clause-next : goal.returns-in-Int-clause-next
+returns-in-Int-clause-next c = inl refl
+
+pub returns-in-Text-clause-next : goal.returns-in-Text-clause-next
+returns-in-Text-clause-next c = inl refl

@@ -1,4 +1,4 @@
-use Rattle.std.proofs.Common.{◌≡◌, ◌<◌, ◌^◌, ◌+◌, ℕ, true, false, if◌then◌else◌, List, [], ◌∷◌, ◌++◌, length, Some, slice_get, sym, ap, subst, ◌∙◌, arith, length-append}
+use Rattle.std.proofs.Common.{◌≡◌, ◌<◌, ◌^◌, ◌+◌, ℕ, true, false, if◌then◌else◌, List, [], ◌∷◌, ◌++◌, length, Some, slice_get, inl, inr, refl, sym, ap, subst, ◌∙◌, arith, length-append}
 use Rattle.std.specs.List.{list_any}
 use Rattle.type_table.specs.declared.shape.TypeShape.{TypeShape}
 use Rattle.type_table.specs.contracts.shape.TypeShapePartialEq.TheImpl.{eq-value}
@@ -87,3 +87,16 @@ returns-clause-is c = λ all l.
     let low : is_made_below (length before) s ≡ true = subst (λ (n : ℕ). is_made_below n s ≡ true) (ap length (sym v) ∙ length-types_of before) c.requires.below in
     let longer : IsLonger (types_of (before ++ s ∷ [])) all = subst (λ (ks : List TypeShape). IsLonger (types_of ks) all) is l in
     ap (λ n. type_at all (id n)) here ∙ types_at (before ++ s ∷ []) (made_with before s c.self.invariant.0 low) all longer (length before) s (found_last before s)
+
+pub returns-in-Some-clause-next : goal.returns-in-Some-clause-next
+returns-in-Some-clause-next c = inl refl
+
+pub returns-clause-next : goal.returns-clause-next
+returns-clause-next c =
+    let keys = c.self.inside.shapes.keys in
+    let before = base_shapes ++ keys in
+    let s = c.args.shape in
+    let absent : list_any (eq-value.it s) keys ≡ false = sym c.in_default.ensures.found in
+    let is : base_shapes ++ c.insert.new.self.keys ≡ before ++ s ∷ [] = added keys s c.insert.new.self.keys absent c.in_ok-insert.ensures.keys in
+    let v : types_of before ≡ c.args.self.now = c.self.view_is in
+    inr (ap types_of is ∙ types_snoc before s ∙ ap (λ ts. ts ++ written_by ts s ∷ []) v)
