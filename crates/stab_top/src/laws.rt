@@ -76,7 +76,7 @@ pub fn undos_and_output()
         length book.printed ≡ count_by (λ (n : Numbered). is_print n.label) (survivors book.history) }
 {}
 
-/// Where the words ask for a run, and the files tell that the text of a program is held within the limit under its
+/// Where the words ask for a run, and the files say that the text of a program is held within the limit under its
 /// name, and so is the script that the words name, the run came to its end, or memory was refused, or a fault was counted.
 pub fn good_programs_run()
     ensures { (words : List (List ℕ)) (c : Call) (args : Args) (bytes : List ℕ) (program : ProgramParts)
@@ -98,7 +98,7 @@ pub fn mills_run()
         asked words ≡ Ok (Mill args) → IsTextOf (mill_text args.size) program → Ran (status_of c) ⊎ CountedFault c }
 {}
 
-/// Where the words ask for a check, and the files tell that the text of a program is held within the limit under its name,
+/// Where the words ask for a check, and the files say that the text of a program is held within the limit under its name,
 /// it was told of, or memory was refused, or a fault was counted.
 pub fn good_programs_check()
     ensures { (words : List (List ℕ)) (c : Call) (file bytes : List ℕ) (program : ProgramParts) → Says words c →
@@ -106,7 +106,7 @@ pub fn good_programs_check()
         Checked (status_of c) ⊎ CountedFault c }
 {}
 
-/// Where the words ask for the types of a program, and the files tell that its text is held within the limit under its name, it was
+/// Where the words ask for the types of a program, and the files say that its text is held within the limit under its name, it was
 /// told that it is typed, or the first function was blamed that isn't, or memory was refused, or a fault was counted.
 pub fn types_are_told()
     ensures { (words : List (List ℕ)) (c : Call) (file bytes : List ℕ) (program : ProgramParts) → Says words c →
@@ -125,7 +125,7 @@ pub fn typed_files_never_go_wrong()
     typed_programs_never_go_wrong();
 }
 
-/// Where the words ask for a verdict, and the files tell that the program, the script and the trace are held within their
+/// Where the words ask for a verdict, and the files say that the program, the script and the trace are held within their
 /// limits, the status is that of the verdict, or memory was refused, or a fault was counted.
 pub fn traces_are_judged()
     ensures { (words : List (List ℕ)) (c : Call) (args : VerifyArgs) (text bytes : List ℕ) (program : ProgramParts)
@@ -135,7 +135,7 @@ pub fn traces_are_judged()
         WasJudged c program script bytes ⊎ CountedFault c }
 {}
 
-/// Where the words ask for a verdict, and the files tell that the program, the script and the trace of a run of these, as `run`
+/// Where the words ask for a verdict, and the files say that the program, the script and the trace of a run of these, as `run`
 /// and `trace` make one, are held within their limits, the verdict is yes, or memory was refused, or a fault was counted.
 pub fn traces_of_runs_pass()
     ensures { (job : JobParts) (book : BookView) (state : PlainState) (words : List (List ℕ)) (c : Call) (args : VerifyArgs)
@@ -145,7 +145,7 @@ pub fn traces_of_runs_pass()
         ((status_of c ≡ DoneStatus) ⊎ (status_of c ≡ NoMemoryStatus)) ⊎ CountedFault c }
 {}
 
-/// Where the words ask for a drill, and the files tell that the program, the script of probes and the script of the drill are held
+/// Where the words ask for a drill, and the files say that the program, the script of probes and the script of the drill are held
 /// within their limits, it was played and written, or a line of it can't be played and is told, or memory was refused, or a fault
 /// was counted.
 pub fn scripts_are_drilled()
@@ -190,7 +190,7 @@ pub fn runs_have_one_history()
         IsWholeSolo a.job a.history.events → BeginsWith a.history.events b.history.events }
 {}
 
-/// Where the words ask for what is built, and the files tell that bytes with a fault are held within the limit under the name
+/// Where the words ask for what is built, and the files say that bytes with a fault are held within the limit under the name
 /// of the program, the answer is this fault, or memory was refused, or a fault was counted.
 pub fn bad_texts_are_refused()
     ensures { (words : List (List ℕ)) (c : Call) (request : Request) (bytes : List ℕ) (fault : TextFault) → Says words c →

@@ -1,4 +1,4 @@
-//! The line that tells a reason.
+//! The line that gives a reason.
 ghost use Rattle.std.specs.Prelude.{◌≡◌, ◌++◌, IfOk, OnOk, OnErr, string_bytes};
 ghost use Rattle.stab_top.specs.Reason.{blame_of, blame_words, failing_words, fault_words, number_word, probes_words, reason_text, role_word, script_words, text_words, trace_words, type_words, verdict_words, why_name};
 
@@ -13,7 +13,7 @@ use std::alloc::Global;
 use trace_text::TraceFault;
 use trace_verify::{Verdict, Why};
 
-/// Adds the line that tells why a call didn't end as Done: the status, and the cause: a file, the fault of the words or of a text,
+/// Adds the line that says why a call didn't end as Done: the status, and the cause: a file, the fault of the words or of a text,
 /// a function, or the event of a trace that fails. Nothing is added for Done.
 pub fn reason(alloc: Global, report: &Report, out: &mut Vec<u8>) -> Result<(), NoMemory>
     ensures ok { OnOk result (out.new.items ≡ out.old.items ++ reason_text report.now.status (blame_of report.now)) }
@@ -44,7 +44,7 @@ fn blame_words(alloc: Global, report: &Report) -> Result<String, NoMemory>
     Ok(format!(in alloc; "{role}{fault}{text}{probes}{trace}{script}{types}{verdict}")?)
 }
 
-// The word for the file, behind a space.
+// The word for the file, after a space.
 fn role_word(alloc: Global, file: Option<Role>) -> Result<String, NoMemory>
     ensures { IfOk result (λ word. string_bytes word ≡ role_word file) }
 {
@@ -55,7 +55,7 @@ fn role_word(alloc: Global, file: Option<Role>) -> Result<String, NoMemory>
     Ok(format!(in alloc; " {name}")?)
 }
 
-// The name of the fault and its number, each behind a space.
+// The name of the fault and its number, each after a space.
 fn fault_words(alloc: Global, fault: Option<WordFault>) -> Result<String, NoMemory>
     ensures { IfOk result (λ words. string_bytes words ≡ fault_words fault) }
 {
@@ -67,7 +67,7 @@ fn fault_words(alloc: Global, fault: Option<WordFault>) -> Result<String, NoMemo
     Ok(format!(in alloc; " {name}{number}")?)
 }
 
-// The name of the fault, its place, and the length of the name that it is about, each behind a space.
+// The name of the fault, its place, and the length of the name that it is about, each after a space.
 fn text_words(alloc: Global, fault: Option<TextFault>) -> Result<String, NoMemory>
     ensures { IfOk result (λ words. string_bytes words ≡ text_words fault) }
 {
@@ -95,7 +95,7 @@ fn number_word(alloc: Global, number: Option<usize>) -> Result<String, NoMemory>
     Ok(format!(in alloc; " {number}")?)
 }
 
-// The name of the fault and its place, each behind a space.
+// The name of the fault and its place, each after a space.
 fn probes_words(alloc: Global, fault: Option<ProbesFault>) -> Result<String, NoMemory>
     ensures { IfOk result (λ words. string_bytes words ≡ probes_words fault) }
 {
@@ -106,7 +106,7 @@ fn probes_words(alloc: Global, fault: Option<ProbesFault>) -> Result<String, NoM
     }
 }
 
-// The name of the fault and its place, each behind a space.
+// The name of the fault and its place, each after a space.
 fn trace_words(alloc: Global, fault: Option<TraceFault>) -> Result<String, NoMemory>
     ensures { IfOk result (λ words. string_bytes words ≡ trace_words fault) }
 {
@@ -120,7 +120,7 @@ fn trace_words(alloc: Global, fault: Option<TraceFault>) -> Result<String, NoMem
     }
 }
 
-// The name of the fault and its place, each behind a space.
+// The name of the fault and its place, each after a space.
 fn script_words(alloc: Global, fault: Option<DrillFault>) -> Result<String, NoMemory>
     ensures { IfOk result (λ words. string_bytes words ≡ script_words fault) }
 {
@@ -133,7 +133,7 @@ fn script_words(alloc: Global, fault: Option<DrillFault>) -> Result<String, NoMe
     }
 }
 
-// The number of the function, behind a space.
+// The number of the function, after a space.
 fn type_words(alloc: Global, fault: Option<TypeFault>) -> Result<String, NoMemory>
     ensures { IfOk result (λ words. string_bytes words ≡ type_words fault) }
 {
@@ -153,7 +153,7 @@ fn verdict_words(alloc: Global, verdict: Option<Verdict>) -> Result<String, NoMe
     }
 }
 
-/// The number of the event that fails and what is wrong with it, each behind a space.
+/// The number of the event that fails and what is wrong with it, each after a space.
 pub(crate) fn failing_words(alloc: Global, verdict: Verdict) -> Result<String, NoMemory>
     ensures { IfOk result (λ words. string_bytes words ≡ failing_words verdict) }
 {

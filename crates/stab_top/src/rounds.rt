@@ -26,8 +26,8 @@ pub enum RoundEnd {
     NoMemory,
 }
 
-/// Runs the book until no thread can step, the fuel is used up, or printed values are due. These are then released. What was
-/// released stands in `lines`, and nothing else.
+/// Runs the book until no thread can step, the fuel is used up, or printed values are due. These are then released. `lines` then
+/// has what was released, and nothing else.
 pub fn round(book: &mut Book, lines: &mut Vec<u8>) -> RoundEnd
     requires { IsBetween book.old }
     ensures later { IsLater book.old book.new }

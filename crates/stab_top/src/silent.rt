@@ -3,7 +3,7 @@ ghost use Rattle.std.specs.Prelude.{None};
 
 use stab_files::{Sink, SinkFail};
 
-/// Takes each piece, and tells none. No put fails.
+/// Takes each piece, and shows none. No put fails.
 #[derive(Drop)]
 pub struct Silent;
 
