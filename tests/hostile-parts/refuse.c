@@ -61,9 +61,9 @@ __attribute__((destructor)) static void end(void) {
 
 static int is_refused(enum kind kind) {
     if (!is_on) return 0;
-    counts[kind]++;
-    if (is_scarce && kind == ALLOC) return counts[kind] > at;
-    return refused == kind && counts[kind] == at;
+    long number = __atomic_add_fetch(&counts[kind], 1, __ATOMIC_SEQ_CST);
+    if (is_scarce && kind == ALLOC) return number > at;
+    return refused == kind && number == at;
 }
 
 // Whether this call of the system fails, and with what.

@@ -33,14 +33,14 @@ use Rattle.stab_top.specs.declared.report.Role.TheVariants as roles
 use Rattle.stab_top.specs.declared.report.Status.{Status}
 use Rattle.stab_top.specs.declared.report.Status.TheVariants.{Done, Held, BadWords, BadText, NoFile, TooBig, FileFault, SinkFault, Spent, NoMemory, BadProbes, BadTrace, BadScript, No, NotBuilt, Untyped}
 use Rattle.stab_top.specs.Words.{is_built}
-use Rattle.stab_top.specs.Device.{Device}
-use Rattle.stab_top.specs.Ending.{AsReleased, AtTheEnd, CheckEnds, IsJudged, IsTold, RunEnds, VerdictEnds, milled_by, shown_by}
+use Rattle.sink_lines.specs.Device.{Device}
+use Rattle.stab_top.specs.Ending.{AsReleased, AtTheEnd, CheckEnds, IsJudged, IsTold, RunEnds, VerdictEnds, Writing, milled_by, shown_by}
 use Rattle.stab_top.specs.Drilling.{DrillEnds, PlayEnds}
 use Rattle.stab_top.specs.Milling.{MillEnds}
 use Rattle.stab_top.specs.Loading.{Finds, LoadRefused, Loads, max_bytes}
 use Rattle.stab_top.specs.Reading.{Blames, Form, ReadRefused, probes_form, program_form, trace_form}
 use Rattle.stab_top.specs.Typing.{TypesEnds}
-use Rattle.stab_top.specs.Call.{BuiltSays, Call, CheckSays, CountedFault, DrillSays, LastSays, OrdersSay, ReadSays, RequestSays, RunSaysBy, Says, ScriptSays, TraceSays, VerifySays, WordsSay, Writing, status_of}
+use Rattle.stab_top.specs.Call.{BuiltSays, Call, CheckSays, CountedFault, DrillSays, LastSays, OrdersSay, ReadSays, RequestSays, RunSaysBy, Says, ScriptSays, TraceSays, VerifySays, WordsSay, status_of}
 use Rattle.stab_top.specs.Complete.{Checked, IsHeld, IsHeldFor, IsRefused, IsScriptFor, Ran, WasDrilled, WasJudged, WasStuck}
 
 -- what is found, where the files tell
@@ -154,41 +154,41 @@ failed_checked : (c : Call) → Failed (status_of c) c → Checked (status_of c)
 failed_checked c (inl none) = inl (subst Checked (sym none) tt)
 failed_checked c (inr counted) = inr counted.1
 
-ran : (text_by : BookView → PlainState → List ℕ) (status : Status) (c : Call) (job : JobParts) → RunEnds (AsReleased text_by) status job c.outcome → Ran status ⊎ CountedFault c
-ran text_by Done c job says = inl tt
-ran text_by Held c job says = inl tt
-ran text_by BadWords c job says = elim says.writes.rest [ ]
-ran text_by BadText c job says = elim says.writes.rest [ ]
-ran text_by NoFile c job says = elim says.writes.rest [ ]
-ran text_by TooBig c job says = elim says.writes.rest [ ]
-ran text_by FileFault c job says = elim says.writes.rest [ ]
-ran text_by SinkFault c job says = inr (inr says.writes.1)
-ran text_by Spent c job says = inl tt
-ran text_by NoMemory c job says = inl tt
-ran text_by BadProbes c job says = elim says.writes.rest [ ]
-ran text_by BadTrace c job says = elim says.writes.rest [ ]
-ran text_by BadScript c job says = elim says.writes.rest [ ]
-ran text_by No c job says = elim says.writes.rest [ ]
-ran text_by NotBuilt c job says = elim says.writes.rest [ ]
-ran text_by Untyped c job says = elim says.writes.rest [ ]
+ran : (text_by : BookView → PlainState → List ℕ) (workers : ℕ) (status : Status) (c : Call) (job : JobParts) → RunEnds (AsReleased text_by) workers status job c.outcome → Ran status ⊎ CountedFault c
+ran text_by workers Done c job says = inl tt
+ran text_by workers Held c job says = inl tt
+ran text_by workers BadWords c job says = elim says.writes.rest [ ]
+ran text_by workers BadText c job says = elim says.writes.rest [ ]
+ran text_by workers NoFile c job says = elim says.writes.rest [ ]
+ran text_by workers TooBig c job says = elim says.writes.rest [ ]
+ran text_by workers FileFault c job says = elim says.writes.rest [ ]
+ran text_by workers SinkFault c job says = inr (inr says.writes.1)
+ran text_by workers Spent c job says = inl tt
+ran text_by workers NoMemory c job says = inl tt
+ran text_by workers BadProbes c job says = elim says.writes.rest [ ]
+ran text_by workers BadTrace c job says = elim says.writes.rest [ ]
+ran text_by workers BadScript c job says = elim says.writes.rest [ ]
+ran text_by workers No c job says = elim says.writes.rest [ ]
+ran text_by workers NotBuilt c job says = elim says.writes.rest [ ]
+ran text_by workers Untyped c job says = elim says.writes.rest [ ]
 
-traced : (status : Status) (c : Call) (job : JobParts) → RunEnds AtTheEnd status job c.outcome → Ran status ⊎ CountedFault c
-traced Done c job says = inl tt
-traced Held c job says = inl tt
-traced BadWords c job says = elim says.writes.rest [ ]
-traced BadText c job says = elim says.writes.rest [ ]
-traced NoFile c job says = elim says.writes.rest [ ]
-traced TooBig c job says = elim says.writes.rest [ ]
-traced FileFault c job says = elim says.writes.rest [ ]
-traced SinkFault c job says = inr (inr says.writes.1.1)
-traced Spent c job says = inl tt
-traced NoMemory c job says = inl tt
-traced BadProbes c job says = elim says.writes.rest [ ]
-traced BadTrace c job says = elim says.writes.rest [ ]
-traced BadScript c job says = elim says.writes.rest [ ]
-traced No c job says = elim says.writes.rest [ ]
-traced NotBuilt c job says = elim says.writes.rest [ ]
-traced Untyped c job says = elim says.writes.rest [ ]
+traced : (workers : ℕ) (status : Status) (c : Call) (job : JobParts) → RunEnds AtTheEnd workers status job c.outcome → Ran status ⊎ CountedFault c
+traced workers Done c job says = inl tt
+traced workers Held c job says = inl tt
+traced workers BadWords c job says = elim says.writes.rest [ ]
+traced workers BadText c job says = elim says.writes.rest [ ]
+traced workers NoFile c job says = elim says.writes.rest [ ]
+traced workers TooBig c job says = elim says.writes.rest [ ]
+traced workers FileFault c job says = elim says.writes.rest [ ]
+traced workers SinkFault c job says = inr (inr says.writes.1.1)
+traced workers Spent c job says = inl tt
+traced workers NoMemory c job says = inl tt
+traced workers BadProbes c job says = elim says.writes.rest [ ]
+traced workers BadTrace c job says = elim says.writes.rest [ ]
+traced workers BadScript c job says = elim says.writes.rest [ ]
+traced workers No c job says = elim says.writes.rest [ ]
+traced workers NotBuilt c job says = elim says.writes.rest [ ]
+traced workers Untyped c job says = elim says.writes.rest [ ]
 
 checked : (status : Status) (c : Call) (program : ProgramParts) → CheckEnds status program c.outcome → Checked status ⊎ CountedFault c
 checked Done c program says = inl tt
@@ -208,10 +208,10 @@ checked No c program says = elim says [ ]
 checked NotBuilt c program says = elim says [ ]
 checked Untyped c program says = elim says [ ]
 
-run_came : (writes : Writing) → ((status : Status) (c : Call) (job : JobParts) → RunEnds writes status job c.outcome → Ran status ⊎ CountedFault c) → (c : Call) (job : JobParts) → Failed (status_of c) c ⊎ RunEnds writes (status_of c) job c.outcome
+run_came : (writes : Writing) (workers : ℕ) → ((status : Status) (c : Call) (job : JobParts) → RunEnds writes workers status job c.outcome → Ran status ⊎ CountedFault c) → (c : Call) (job : JobParts) → Failed (status_of c) c ⊎ RunEnds writes workers (status_of c) job c.outcome
     → Ran (status_of c) ⊎ CountedFault c
-run_came writes came c job (inl failed) = failed_ran c failed
-run_came writes came c job (inr ends) = came (status_of c) c job ends
+run_came writes workers came c job (inl failed) = failed_ran c failed
+run_came writes workers came c job (inr ends) = came (status_of c) c job ends
 
 check_came : (c : Call) (program : ProgramParts) → Failed (status_of c) c ⊎ CheckEnds (status_of c) program c.outcome → Checked (status_of c) ⊎ CountedFault c
 check_came c program (inl failed) = failed_checked c failed
@@ -225,39 +225,39 @@ request_said words c request says is built =
 
 module _ (writes : Writing) (c : Call) (args : RunArgs) (bytes : List ℕ) (program : ProgramParts) (held : IsHeld roles.Program c args.file bytes) (text : IsTextOf bytes program) where
   behind : (name : List ℕ) (script : List ℤ) (probe_bytes : List ℕ) → IsHeld roles.Probes c name probe_bytes → probes.reading probe_bytes ≡ Ok script
-      → Failed (status_of c) c ⊎ LastSays probes_form c name (λ s. RunEnds writes (status_of c) (job_of program s args.fuel args.quantum) c.outcome) → Failed (status_of c) c ⊎ RunEnds writes (status_of c) (job_of program script args.fuel args.quantum) c.outcome
+      → Failed (status_of c) c ⊎ LastSays probes_form c name (λ s. RunEnds writes args.workers (status_of c) (job_of program s args.fuel args.quantum) c.outcome) → Failed (status_of c) c ⊎ RunEnds writes args.workers (status_of c) (job_of program script args.fuel args.quantum) c.outcome
   behind name script probe_bytes there reads (inl failed) = inl failed
-  behind name script probe_bytes there reads (inr says) = script_said c name probe_bytes script there reads c.files_after (λ s. RunEnds writes (status_of c) (job_of program s args.fuel args.quantum) c.outcome) says
+  behind name script probe_bytes there reads (inr says) = script_said c name probe_bytes script there reads c.files_after (λ s. RunEnds writes args.workers (status_of c) (job_of program s args.fuel args.quantum) c.outcome) says
 
   -- what is said of a run of a program and a script that are held
-  run_said : (named : Option (List ℕ)) (script : List ℤ) → IsScriptFor c named script → RunSaysBy writes c args named → Failed (status_of c) c ⊎ RunEnds writes (status_of c) (job_of program script args.fuel args.quantum) c.outcome
+  run_said : (named : Option (List ℕ)) (script : List ℤ) → IsScriptFor c named script → RunSaysBy writes c args named → Failed (status_of c) c ⊎ RunEnds writes args.workers (status_of c) (job_of program script args.fuel args.quantum) c.outcome
   run_said None script is says =
-      subst (λ s. Failed (status_of c) c ⊎ RunEnds writes (status_of c) (job_of program s args.fuel args.quantum) c.outcome) (sym is)
-      (program_said c args.file bytes program held text c.files_after (λ p. RunEnds writes (status_of c) (job_of p [] args.fuel args.quantum) c.outcome) says)
+      subst (λ s. Failed (status_of c) c ⊎ RunEnds writes args.workers (status_of c) (job_of program s args.fuel args.quantum) c.outcome) (sym is)
+      (program_said c args.file bytes program held text c.files_after (λ p. RunEnds writes args.workers (status_of c) (job_of p [] args.fuel args.quantum) c.outcome) says)
   run_said (Some name) script is says =
-      behind name script is.0 is.1 is.2 (program_said c args.file bytes program held text c.files.faults (λ p. LastSays probes_form c name (λ s. RunEnds writes (status_of c) (job_of p s args.fuel args.quantum) c.outcome)) says)
+      behind name script is.0 is.1 is.2 (program_said c args.file bytes program held text c.files.faults (λ p. LastSays probes_form c name (λ s. RunEnds writes args.workers (status_of c) (job_of p s args.fuel args.quantum) c.outcome)) says)
 
   probes_of_run : (name probe_bytes : List ℕ) (fault : ProbesFault) → IsHeld roles.Probes c name probe_bytes → probes.reading probe_bytes ≡ Err fault
-      → Failed (status_of c) c ⊎ LastSays probes_form c name (λ s. RunEnds writes (status_of c) (job_of program s args.fuel args.quantum) c.outcome) → IsRefused probes_form c fault ⊎ CountedFault c
+      → Failed (status_of c) c ⊎ LastSays probes_form c name (λ s. RunEnds writes args.workers (status_of c) (job_of program s args.fuel args.quantum) c.outcome) → IsRefused probes_form c fault ⊎ CountedFault c
   probes_of_run name probe_bytes fault there has (inl failed) = failed_refused probes_form c name probe_bytes there fault failed
   probes_of_run name probe_bytes fault there has (inr says) =
-      fault_refused probes_form c name probe_bytes there fault (λ s is. not_ok s fault (sym is ∙ has)) (λ other is. err_is other fault (sym is ∙ has)) c.files_after (λ s. RunEnds writes (status_of c) (job_of program s args.fuel args.quantum) c.outcome) says
+      fault_refused probes_form c name probe_bytes there fault (λ s is. not_ok s fault (sym is ∙ has)) (λ other is. err_is other fault (sym is ∙ has)) c.files_after (λ s. RunEnds writes args.workers (status_of c) (job_of program s args.fuel args.quantum) c.outcome) says
 
   bad_probes_said : (named : Option (List ℕ)) (name probe_bytes : List ℕ) (fault : ProbesFault) → named ≡ Some name → IsHeld roles.Probes c name probe_bytes → probes.reading probe_bytes ≡ Err fault
       → RunSaysBy writes c args named → IsRefused probes_form c fault ⊎ CountedFault c
   bad_probes_said named name probe_bytes fault is there has says =
       probes_of_run name probe_bytes fault there has
-      (program_said c args.file bytes program held text c.files.faults (λ p. LastSays probes_form c name (λ s. RunEnds writes (status_of c) (job_of p s args.fuel args.quantum) c.outcome)) (subst (RunSaysBy writes c args) is says))
+      (program_said c args.file bytes program held text c.files.faults (λ p. LastSays probes_form c name (λ s. RunEnds writes args.workers (status_of c) (job_of p s args.fuel args.quantum) c.outcome)) (subst (RunSaysBy writes c args) is says))
 
 pub good_program_runs : (words : List (List ℕ)) (c : Call) (args : RunArgs) (bytes : List ℕ) (program : ProgramParts) (script : List ℤ) → Says words c → asked words ≡ Ok (Run args) →
     IsHeld roles.Program c args.file bytes → IsTextOf bytes program → IsScriptFor c args.probes script → Ran (status_of c) ⊎ CountedFault c
 good_program_runs words c args bytes program script says is held text for_script =
-    run_came (AsReleased shown_by) (ran shown_by) c (job_of program script args.fuel args.quantum) (run_said (AsReleased shown_by) c args bytes program held text args.probes script for_script (request_said words c (Run args) says is refl))
+    run_came (AsReleased shown_by) args.workers (ran shown_by args.workers) c (job_of program script args.fuel args.quantum) (run_said (AsReleased shown_by) c args bytes program held text args.probes script for_script (request_said words c (Run args) says is refl))
 
 pub good_program_is_traced : (words : List (List ℕ)) (c : Call) (args : RunArgs) (bytes : List ℕ) (program : ProgramParts) (script : List ℤ) → Says words c → asked words ≡ Ok (Trace args) →
     IsHeld roles.Program c args.file bytes → IsTextOf bytes program → IsScriptFor c args.probes script → Ran (status_of c) ⊎ CountedFault c
 good_program_is_traced words c args bytes program script says is held text for_script =
-    run_came AtTheEnd traced c (job_of program script args.fuel args.quantum) (run_said AtTheEnd c args bytes program held text args.probes script for_script (request_said words c (Trace args) says is refl))
+    run_came AtTheEnd args.workers (traced args.workers) c (job_of program script args.fuel args.quantum) (run_said AtTheEnd c args bytes program held text args.probes script for_script (request_said words c (Trace args) says is refl))
 
 pub run_with_bad_probes : (words : List (List ℕ)) (c : Call) (args : RunArgs) (text name bytes : List ℕ) (program : ProgramParts) (fault : ProbesFault) → Says words c → (asked words ≡ Ok (Run args)) ⊎ (asked words ≡ Ok (Trace args)) →
     IsHeld roles.Program c args.file text → IsTextOf text program → args.probes ≡ Some name → IsHeld roles.Probes c name bytes → probes_form.HasFault bytes fault → IsRefused probes_form c fault ⊎ CountedFault c
@@ -273,7 +273,7 @@ mill_runs words c args program says is text = by (request_said words c (Mill arg
     by : MillEnds (status_of c) args c.outcome → Ran (status_of c) ⊎ CountedFault c
     by (inl (inl have, rests)) = absurd (not_both (mill_text args.size) program have.fault text have.has)
     by (inl (inr none, rests)) = inl (subst Ran (sym none.0) tt)
-    by (inr (other, same, ends)) = ran (milled_by args.size) (status_of c) c (job_of other (mill_script args.size) args.fuel args.quantum) ends
+    by (inr (other, same, ends)) = ran (milled_by args.size) args.workers (status_of c) c (job_of other (mill_script args.size) args.fuel args.quantum) ends
 
 pub good_program_checks : (words : List (List ℕ)) (c : Call) (file bytes : List ℕ) (program : ProgramParts) → Says words c → asked words ≡ Ok (Check file) →
     IsHeld roles.Program c file bytes → IsTextOf bytes program → Checked (status_of c) ⊎ CountedFault c
@@ -442,8 +442,8 @@ text_with_fault c name bytes fault faults Said is has says =
 
 run_with_fault : (writes : Writing) (c : Call) (args : RunArgs) (named : Option (List ℕ)) (bytes : List ℕ) (fault : TextFault) → RunSaysBy writes c args named → IsHeld roles.Program c args.file bytes → HasFault bytes fault
     → IsRefused program_form c fault ⊎ CountedFault c
-run_with_fault writes c args None bytes fault says is has = text_with_fault c args.file bytes fault c.files_after (λ p. RunEnds writes (status_of c) (job_of p [] args.fuel args.quantum) c.outcome) is has says
-run_with_fault writes c args (Some name) bytes fault says is has = text_with_fault c args.file bytes fault c.files.faults (λ p. LastSays probes_form c name (λ s. RunEnds writes (status_of c) (job_of p s args.fuel args.quantum) c.outcome)) is has says
+run_with_fault writes c args None bytes fault says is has = text_with_fault c args.file bytes fault c.files_after (λ p. RunEnds writes args.workers (status_of c) (job_of p [] args.fuel args.quantum) c.outcome) is has says
+run_with_fault writes c args (Some name) bytes fault says is has = text_with_fault c args.file bytes fault c.files.faults (λ p. LastSays probes_form c name (λ s. RunEnds writes args.workers (status_of c) (job_of p s args.fuel args.quantum) c.outcome)) is has says
 
 request_with_fault : (c : Call) (request : Request) (bytes : List ℕ) (fault : TextFault) → BuiltSays c request → IsHeldFor c request bytes → HasFault bytes fault → IsRefused program_form c fault ⊎ CountedFault c
 request_with_fault c (Run args) bytes fault says is has = run_with_fault (AsReleased shown_by) c args args.probes bytes fault says is has

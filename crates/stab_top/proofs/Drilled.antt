@@ -10,7 +10,7 @@ use Rattle.schedule_drill.specs.Drilled.{IsDrilled, IsNew, IsRefused, StopsAt}
 use Rattle.schedule_drill.specs.Played.{Stand}
 use Rattle.stab_top.specs.declared.report.Status.{Status}
 use Rattle.stab_top.specs.declared.report.Status.TheVariants.{Done, Held, BadWords, BadText, NoFile, TooBig, FileFault, SinkFault, Spent, NoMemory, BadProbes, BadTrace, BadScript, No, NotBuilt, Untyped}
-use Rattle.stab_top.specs.Device.{Gains, GainsPrefix}
+use Rattle.sink_lines.specs.Device.{Gains, GainsPrefix}
 use Rattle.stab_top.specs.Drilling.{IsPlayedOut, IsStuck, PlayEnds, Reports, WriteEnds, unplayed_blame, unplayed_status}
 use Rattle.stab_top.specs.Ending.{Outcome, Refuses}
 use Rattle.stab_top.specs.Reason.{blames_script}

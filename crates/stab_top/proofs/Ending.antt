@@ -1,7 +1,5 @@
 -- What a status says of a job that was run.
-use Rattle.std.proofs.Common.{◌≡◌, ◌⊎◌, ◌∙◌, inl, inr, ℕ, List, [], ◌++◌, take, drop, Option, Some, None, Result, Ok, Err, IfOk, IfErr, refl, sym, ap, subst, append-nil, append_assoc}
-use Rattle.std.specs.List.{flat_map}
-use Rattle.std.specs.FinMap as map
+use Rattle.std.proofs.Common.{◌≡◌, ◌∙◌, inl, inr, ℕ, List, [], ◌++◌, take, drop, Option, Some, None, Result, Ok, Err, IfOk, IfErr, refl, sym, ap, subst, append-nil, append_assoc}
 use Rattle.std.proofs.lemmas.Grind.{flat_map-append}
 use Rattle.std.proofs.lemmas.List.{take-append-drop}
 use Rattle.stab_base.specs.Datum.{Datum}
@@ -10,30 +8,30 @@ use Rattle.stab_base.specs.Printed.{printed}
 use Rattle.stab_base.proofs.GainLemmas.{SomePrefix-append}
 use Rattle.stab_code.specs.JobParts.{JobParts}
 use Rattle.stab_files.specs.Count.{Rose}
-use Rattle.stab_files.specs.Told.{Appends, AppendsPrefix}
+use Rattle.stab_files.specs.Told.{Appends}
 use Rattle.stab_files.proofs.Puts.{appends_trans}
 use Rattle.stab_journal.specs.Due.{released}
-use Rattle.stab_journal.specs.Journal.{survivors}
-use Rattle.plain_language.specs.Plain.{PlainState, end_of}
+use Rattle.plain_language.specs.Plain.{PlainState}
 use Rattle.plain_language.specs.Shown.{line, shown, value_lines}
 use Rattle.commit_book.specs.Book.{BookView, IsShown}
-use Rattle.book_text.specs.Written.{IsRestText, released_lines}
+use Rattle.book_text.specs.Written.{released_lines}
 use Rattle.trace_text.specs.Text.{trace}
-use Rattle.stab_top.specs.declared.playing.Stop.{Stop}
-use Rattle.stab_top.specs.declared.playing.Stop.TheVariants as stops
+use Rattle.worker_rounds.specs.declared.rounds.Stop.TheVariants as stops
+use Rattle.worker_rounds.specs.Releases.{HasReleases, StopSays}
 use Rattle.stab_top.specs.declared.report.Status.{Status}
 use Rattle.stab_top.specs.declared.report.Status.TheVariants.{Done, Held, BadWords, BadText, NoFile, TooBig, FileFault, SinkFault, Spent, NoMemory, BadProbes, BadTrace, BadScript, No, NotBuilt, Untyped}
-use Rattle.stab_top.specs.Device.{Device, Gains, GainsPrefix, Rests}
-use Rattle.stab_top.specs.Ending.{AsReleased, AtTheEnd, Ends, HasReleases, IsOver, IsRunOf, IsWritten, Outcome, Refuses, RestSays, RunEnds, WritesReleases, mill_line, milled_by, shown_by, text_with}
-use Rattle.stab_top.specs.Playing.{HasRun, HasStopped, IsTextBehind, StopSays, WritesOf, line_behind}
+use Rattle.sink_lines.specs.Device.{Device, Gains, GainsPrefix, Rests}
+use Rattle.sink_lines.proofs.Gained.{gains_on}
+use Rattle.stab_top.specs.Ending.{AsReleased, AtTheEnd, Ends, IsOver, IsRunOf, IsWritten, Outcome, Refuses, RunEnds, Writing, mill_line, shown_by, text_with}
+use Rattle.stab_top.specs.Playing.{HasRun, HasStopped, IsTextBehind, WritesOf}
 use Rattle.stab_top.specs.Reason.{blame_of, no_blame}
 use Rattle.stab_top.proofs.Led.{leads}
 use Rattle.stab_top.proofs.Played.{has_all}
 
 -- ---- the report
 
-module _ (writes : Status → BookView → PlainState → Outcome → Type 0) where
-  ended : (status : Status) (job : JobParts) (o : Outcome) → Ends writes status job o → RunEnds writes status job o
+module _ (writes : Writing) (workers : ℕ) where
+  ended : (status : Status) (job : JobParts) (o : Outcome) → Ends writes workers status job o → RunEnds writes workers status job o
   ended Done job o e = e
   ended Held job o e = e
   ended BadWords job o e = e
@@ -52,21 +50,18 @@ module _ (writes : Status → BookView → PlainState → Outcome → Type 0) wh
   ended Untyped job o e = e
 
   -- the report has the book
-  pub with_book : (status said : Status) (job : JobParts) (o : Outcome) (book : BookView) (state : PlainState) → status ≡ said → o.report.book ≡ Some book → blame_of o.report ≡ no_blame → IsRunOf job book state → writes said book state o → RunEnds writes status job o
+  pub with_book : (status said : Status) (job : JobParts) (o : Outcome) (book : BookView) (state : PlainState) → status ≡ said → o.report.book ≡ Some book → blame_of o.report ≡ no_blame → IsRunOf workers job book state → writes workers said book state o → RunEnds writes workers status job o
   with_book status said job o book state is reported blame run wrote =
-      subst (λ s. RunEnds writes s job o) (sym is) (ended said job o (record { book = book; state = state; reported = reported; blame = blame; run = run; writes = wrote }))
+      subst (λ s. RunEnds writes workers s job o) (sym is) (ended said job o (record { book = book; state = state; reported = reported; blame = blame; run = run; writes = wrote }))
 
   -- there was no memory
-  pub without_book : (status : Status) (job : JobParts) (o : Outcome) → status ≡ NoMemory → Refuses o no_blame → RunEnds writes status job o
-  without_book status job o is nothing = subst (λ s. RunEnds writes s job o) (sym is) (inl nothing)
+  pub without_book : (status : Status) (job : JobParts) (o : Outcome) → status ≡ NoMemory → Refuses o no_blame → RunEnds writes workers status job o
+  without_book status job o is nothing = subst (λ s. RunEnds writes workers s job o) (sym is) (inl nothing)
 
 -- ---- a text that was written whole
 
-gains_on : (a b c : Device (List ℕ)) (first second : List ℕ) → Gains a b first → Gains b c second → Gains a c (first ++ second)
-gains_on a b c first second x y = (appends_trans a.told b.told c.told first second x.0 y.0, y.1 ∙ x.1)
-
-module _ (text_by : BookView → PlainState → List ℕ) (book : BookView) (state : PlainState) (o : Outcome) where
-  whole_by : (status : Status) → IsWritten status book state (text_by book state) o → AsReleased text_by status book state o
+module _ (text_by : BookView → PlainState → List ℕ) (workers : ℕ) (book : BookView) (state : PlainState) (o : Outcome) where
+  whole_by : (status : Status) → IsWritten workers status book state (text_by book state) o → AsReleased text_by workers status book state o
   whole_by Done w = w
   whole_by Held w = w
   whole_by BadWords w = w
@@ -84,8 +79,8 @@ module _ (text_by : BookView → PlainState → List ℕ) (book : BookView) (sta
   whole_by NotBuilt w = w
   whole_by Untyped w = w
 
-module _ (book : BookView) (state : PlainState) (o : Outcome) where
-  pub trace_whole : (status : Status) → IsWritten status book state (trace book.history) o → AtTheEnd status book state o
+module _ (workers : ℕ) (book : BookView) (state : PlainState) (o : Outcome) where
+  pub trace_whole : (status : Status) → IsWritten workers status book state (trace book.history) o → AtTheEnd workers status book state o
   trace_whole Done w = w
   trace_whole Held w = w
   trace_whole BadWords w = w
@@ -104,28 +99,28 @@ module _ (book : BookView) (state : PlainState) (o : Outcome) where
   trace_whole Untyped w = w
 
 -- a run whose end the status tells is over
-pub over_of : (status : Status) (job : JobParts) (book : BookView) (has : HasRun status job book) → IsOver book has.state
-over_of Done job book has = record { whole = has.whole; rest = inl has.rest.0 }
-over_of Held job book has = record { whole = has.whole; rest = inl has.rest.0 }
-over_of Spent job book has = record { whole = has.whole; rest = inr has.rest }
-over_of BadWords job book has = elim has.rest [ ]
-over_of BadText job book has = elim has.rest [ ]
-over_of NoFile job book has = elim has.rest [ ]
-over_of TooBig job book has = elim has.rest [ ]
-over_of FileFault job book has = elim has.rest [ ]
-over_of SinkFault job book has = elim has.rest [ ]
-over_of NoMemory job book has = elim has.rest [ ]
-over_of BadProbes job book has = elim has.rest [ ]
-over_of BadTrace job book has = elim has.rest [ ]
-over_of BadScript job book has = elim has.rest [ ]
-over_of No job book has = elim has.rest [ ]
-over_of NotBuilt job book has = elim has.rest [ ]
-over_of Untyped job book has = elim has.rest [ ]
+pub over_of : (workers : ℕ) (status : Status) (job : JobParts) (book : BookView) (has : HasRun workers status job book) → IsOver workers book has.state
+over_of workers Done job book has = record { whole = has.whole; rest = inl has.rest.0 }
+over_of workers Held job book has = record { whole = has.whole; rest = inl has.rest.0 }
+over_of workers Spent job book has = record { whole = has.whole; rest = inr has.rest }
+over_of workers BadWords job book has = elim has.rest [ ]
+over_of workers BadText job book has = elim has.rest [ ]
+over_of workers NoFile job book has = elim has.rest [ ]
+over_of workers TooBig job book has = elim has.rest [ ]
+over_of workers FileFault job book has = elim has.rest [ ]
+over_of workers SinkFault job book has = elim has.rest [ ]
+over_of workers NoMemory job book has = elim has.rest [ ]
+over_of workers BadProbes job book has = elim has.rest [ ]
+over_of workers BadTrace job book has = elim has.rest [ ]
+over_of workers BadScript job book has = elim has.rest [ ]
+over_of workers No job book has = elim has.rest [ ]
+over_of workers NotBuilt job book has = elim has.rest [ ]
+over_of workers Untyped job book has = elim has.rest [ ]
 
 -- ---- the text of a run, and what of it is written when it is over
 
 -- what a run shows begins with the lines of what was released
-module _ (book : BookView) (state : PlainState) (job : JobParts) (run : IsRunOf job book state) where
+module _ (workers : ℕ) (book : BookView) (state : PlainState) (job : JobParts) (run : IsRunOf workers job book state) where
   abbrev is_shown : IsShown book
   is_shown = record { run = run.run; state = state; shows = run.shown }
 
@@ -165,7 +160,7 @@ module _ (book : BookView) (state : PlainState) (job : JobParts) (run : IsRunOf 
 
   module _ (size : Option ℕ) (o : Outcome) where
     -- only the lines of what was released were written
-    lines_only : Gains o.sink o.sink_after (released_lines book) → AsReleased (text_with size) NoMemory book state o
+    lines_only : Gains o.sink o.sink_after (released_lines book) → AsReleased (text_with size) workers NoMemory book state o
     lines_only gains =
         let more = text_more size in (
           record {
@@ -178,7 +173,7 @@ module _ (book : BookView) (state : PlainState) (job : JobParts) (run : IsRunOf 
         )
 
     -- a line couldn't be written
-    fault_written : StopSays stops.SinkFault book state o.sink o.sink_after → AsReleased (text_with size) SinkFault book state o
+    fault_written : StopSays stops.SinkFault book state o.sink o.sink_after → AsReleased (text_with size) workers SinkFault book state o
     fault_written says =
         let more = text_more size in (
           subst (SomePrefix (λ front. Appends o.sink.told o.sink_after.told front × HasReleases book state front)) (sym more.1)
@@ -188,7 +183,7 @@ module _ (book : BookView) (state : PlainState) (job : JobParts) (run : IsRunOf 
 
     module _ (between : Device (List ℕ)) (so_far : Gains o.sink between (released_lines book)) where
       -- the rest was written, or a prefix of it
-      rest_prefix : (text : List ℕ) → IsTextBehind size book text → GainsPrefix between o.sink_after text → AsReleased (text_with size) SinkFault book state o
+      rest_prefix : (text : List ℕ) → IsTextBehind size book text → GainsPrefix between o.sink_after text → AsReleased (text_with size) workers SinkFault book state o
       rest_prefix text behind prefix =
           let part = prefix.0 in (
             record {
@@ -207,45 +202,45 @@ module _ (book : BookView) (state : PlainState) (job : JobParts) (run : IsRunOf 
       rest_whole text behind gains = subst (Gains o.sink o.sink_after) (sym (text_rest size text behind)) (gains_on o.sink between o.sink_after (released_lines book) text so_far gains)
 
       -- there was no memory for the rest
-      rest_none : Rests between o.sink_after → AsReleased (text_with size) NoMemory book state o
+      rest_none : Rests between o.sink_after → AsReleased (text_with size) workers NoMemory book state o
       rest_none rests = lines_only (rests.0 ∙ so_far.0, rests.1 ∙ so_far.1)
 
 -- ---- a run, from what is said of its play
 
-module _ (size : Option ℕ) (job : JobParts) (book : BookView) (o : Outcome) where
+module _ (size : Option ℕ) (workers : ℕ) (job : JobParts) (book : BookView) (o : Outcome) where
   -- it stopped
-  pub stopped_by_sink : HasStopped stops.SinkFault job book o.sink o.sink_after → o.report.status ≡ SinkFault → o.report.book ≡ Some book → blame_of o.report ≡ no_blame → RunEnds (AsReleased (text_with size)) o.report.status job o
-  stopped_by_sink has is reported blame = with_book (AsReleased (text_with size)) o.report.status SinkFault job o book has.state is reported blame has.run (fault_written book has.state job has.run size o has.says)
+  pub stopped_by_sink : HasStopped workers stops.SinkFault job book o.sink o.sink_after → o.report.status ≡ SinkFault → o.report.book ≡ Some book → blame_of o.report ≡ no_blame → RunEnds (AsReleased (text_with size)) workers o.report.status job o
+  stopped_by_sink has is reported blame = with_book (AsReleased (text_with size)) workers o.report.status SinkFault job o book has.state is reported blame has.run (fault_written workers book has.state job has.run size o has.says)
 
-  pub stopped_by_memory : HasStopped stops.NoMemory job book o.sink o.sink_after → o.report.status ≡ NoMemory → o.report.book ≡ Some book → blame_of o.report ≡ no_blame → RunEnds (AsReleased (text_with size)) o.report.status job o
-  stopped_by_memory has is reported blame = with_book (AsReleased (text_with size)) o.report.status NoMemory job o book has.state is reported blame has.run (lines_only book has.state job has.run size o has.says)
+  pub stopped_by_memory : HasStopped workers stops.NoMemory job book o.sink o.sink_after → o.report.status ≡ NoMemory → o.report.book ≡ Some book → blame_of o.report ≡ no_blame → RunEnds (AsReleased (text_with size)) workers o.report.status job o
+  stopped_by_memory has is reported blame = with_book (AsReleased (text_with size)) workers o.report.status NoMemory job o book has.state is reported blame has.run (lines_only workers book has.state job has.run size o has.says)
 
   -- it is over, and what was still to be written is this text, or there was no memory for it
-  module _ (end said : Status) (has : HasRun end job book) (between : Device (List ℕ)) (so_far : Gains o.sink between (released_lines book)) (is : o.report.status ≡ said) (reported : o.report.book ≡ Some book) (blame : blame_of o.report ≡ no_blame) where
-    by_state : AsReleased (text_with size) said book has.state o → RunEnds (AsReleased (text_with size)) o.report.status job o
-    by_state wrote = with_book (AsReleased (text_with size)) o.report.status said job o book has.state is reported blame has.run wrote
+  module _ (end said : Status) (has : HasRun workers end job book) (between : Device (List ℕ)) (so_far : Gains o.sink between (released_lines book)) (is : o.report.status ≡ said) (reported : o.report.book ≡ Some book) (blame : blame_of o.report ≡ no_blame) where
+    by_state : AsReleased (text_with size) workers said book has.state o → RunEnds (AsReleased (text_with size)) workers o.report.status job o
+    by_state wrote = with_book (AsReleased (text_with size)) workers o.report.status said job o book has.state is reported blame has.run wrote
 
-    pub rest_given : (text : List ℕ) → IsTextBehind size book text → WritesOf end said text between o.sink_after → RunEnds (AsReleased (text_with size)) o.report.status job o
+    pub rest_given : (text : List ℕ) → IsTextBehind size book text → WritesOf end said text between o.sink_after → RunEnds (AsReleased (text_with size)) workers o.report.status job o
     rest_given text behind (inl (same, gains)) =
-        by_state (subst (λ s. AsReleased (text_with size) s book has.state o) (sym same)
-        (whole_by (text_with size) book has.state o end (record { whole = has.whole; rest = has.rest; gains = rest_whole book has.state job has.run size o between so_far text behind gains })))
+        by_state (subst (λ s. AsReleased (text_with size) workers s book has.state o) (sym same)
+        (whole_by (text_with size) workers book has.state o end (record { whole = has.whole; rest = has.rest; gains = rest_whole workers book has.state job has.run size o between so_far text behind gains })))
     rest_given text behind (inr (fault, prefix)) =
-        by_state (subst (λ s. AsReleased (text_with size) s book has.state o) (sym fault) (rest_prefix book has.state job has.run size o between so_far text behind prefix))
+        by_state (subst (λ s. AsReleased (text_with size) workers s book has.state o) (sym fault) (rest_prefix workers book has.state job has.run size o between so_far text behind prefix))
 
-    pub rest_wanted : said ≡ NoMemory → Rests between o.sink_after → RunEnds (AsReleased (text_with size)) o.report.status job o
-    rest_wanted none rests = by_state (subst (λ s. AsReleased (text_with size) s book has.state o) (sym none) (rest_none book has.state job has.run size o between so_far rests))
+    pub rest_wanted : said ≡ NoMemory → Rests between o.sink_after → RunEnds (AsReleased (text_with size)) workers o.report.status job o
+    rest_wanted none rests = by_state (subst (λ s. AsReleased (text_with size) workers s book has.state o) (sym none) (rest_none workers book has.state job has.run size o between so_far rests))
 
   -- the same of a text for which there may have been no memory
-  pub rest_written : {T E : Type 0} (items : T → List ℕ) (rest : Result T E) (end said : Status) → HasRun end job book → (between : Device (List ℕ)) → Gains o.sink between (released_lines book) → o.report.status ≡ said → o.report.book ≡ Some book → blame_of o.report ≡ no_blame
-      → IfOk rest (λ text. IsTextBehind size book (items text)) → IfOk rest (λ text. WritesOf end said (items text) between o.sink_after) → IfErr rest (λ _. (said ≡ NoMemory) × Rests between o.sink_after) → RunEnds (AsReleased (text_with size)) o.report.status job o
+  pub rest_written : {T E : Type 0} (items : T → List ℕ) (rest : Result T E) (end said : Status) → HasRun workers end job book → (between : Device (List ℕ)) → Gains o.sink between (released_lines book) → o.report.status ≡ said → o.report.book ≡ Some book → blame_of o.report ≡ no_blame
+      → IfOk rest (λ text. IsTextBehind size book (items text)) → IfOk rest (λ text. WritesOf end said (items text) between o.sink_after) → IfErr rest (λ _. (said ≡ NoMemory) × Rests between o.sink_after) → RunEnds (AsReleased (text_with size)) workers o.report.status job o
   rest_written items (Ok text) end said has between so_far is reported blame behind wrote none = rest_given end said has between so_far is reported blame (items text) behind wrote
   rest_written items (Err e) end said has between so_far is reported blame behind wrote none = rest_wanted end said has between so_far is reported blame none.0 none.1
 
 -- ---- a trace
 
-module _ (job : JobParts) (book : BookView) (o : Outcome) (end : Status) (has : HasRun end job book) (reported : o.report.book ≡ Some book) (blame : blame_of o.report ≡ no_blame) where
-  pub trace_written : o.report.status ≡ end → Gains o.sink o.sink_after (trace book.history) → RunEnds AtTheEnd o.report.status job o
-  trace_written is gains = with_book AtTheEnd o.report.status end job o book has.state is reported blame has.run (trace_whole book has.state o end (record { whole = has.whole; rest = has.rest; gains = gains }))
+module _ (workers : ℕ) (job : JobParts) (book : BookView) (o : Outcome) (end : Status) (has : HasRun workers end job book) (reported : o.report.book ≡ Some book) (blame : blame_of o.report ≡ no_blame) where
+  pub trace_written : o.report.status ≡ end → Gains o.sink o.sink_after (trace book.history) → RunEnds AtTheEnd workers o.report.status job o
+  trace_written is gains = with_book AtTheEnd workers o.report.status end job o book has.state is reported blame has.run (trace_whole workers book has.state o end (record { whole = has.whole; rest = has.rest; gains = gains }))
 
-  pub trace_cut : o.report.status ≡ SinkFault → GainsPrefix o.sink o.sink_after (trace book.history) → RunEnds AtTheEnd o.report.status job o
-  trace_cut is prefix = with_book AtTheEnd o.report.status SinkFault job o book has.state is reported blame has.run (over_of end job book has, prefix)
+  pub trace_cut : o.report.status ≡ SinkFault → GainsPrefix o.sink o.sink_after (trace book.history) → RunEnds AtTheEnd workers o.report.status job o
+  trace_cut is prefix = with_book AtTheEnd workers o.report.status SinkFault job o book has.state is reported blame has.run (over_of workers end job book has, prefix)

@@ -2,7 +2,7 @@
 use Rattle.std.proofs.Common.{◌≡◌, ◌⊎◌, inl, inr, ℕ, List, Result, Ok, Err, IfOk, IfErr, sym, subst}
 use Rattle.stab_top.specs.declared.report.Status.{Status}
 use Rattle.stab_top.specs.Command.{EndsWith}
-use Rattle.stab_top.specs.Device.{Device}
+use Rattle.sink_lines.specs.Device.{Device}
 use Rattle.stab_top.specs.Reason.{Blame, no_blame}
 
 -- the line that was there was written, or there was none

@@ -1,17 +1,14 @@
 -- A run's program and its script, which are read one after the other, and what is said of the run.
 use Rattle.std.proofs.Common.{◌≡◌, inl, inr, ℕ, ℤ, List, [], Option, Some, None, sym, subst}
-use Rattle.plain_language.specs.Plain.{PlainState}
 use Rattle.stab_code.specs.JobParts.{job_of}
 use Rattle.stab_code.specs.Program.{ProgramParts}
 use Rattle.stab_files.specs.Entry.{Entry}
 use Rattle.stab_words.specs.declared.request.RunArgs.{RunArgs}
-use Rattle.commit_book.specs.Book.{BookView}
 use Rattle.stab_top.specs.Call.{RunSaysBy}
-use Rattle.stab_top.specs.Device.{Device, Rests}
-use Rattle.stab_top.specs.Ending.{Outcome, RunEnds}
+use Rattle.sink_lines.specs.Device.{Device, Rests}
+use Rattle.stab_top.specs.Ending.{Outcome, RunEnds, Writing}
 use Rattle.stab_top.specs.Reading.{AreGivenBy, AreRefusedBy, Holds, ReadRefused, probes_form, program_form}
 use Rattle.stab_top.specs.declared.report.Report.{Report}
-use Rattle.stab_top.specs.declared.report.Status.{Status}
 use Rattle.stab_top.proofs.ReadFirst.{finding, first, same_files}
 
 module _ (files between : Device (List Entry)) (after : ℕ) (file : List ℕ) (named : Option (List ℕ)) (program : ProgramParts) where
@@ -36,11 +33,20 @@ pub program_refused : (files : Device (List Entry)) (after : ℕ) (file : List �
 program_refused files after file None report refused = refused
 program_refused files after file (Some probes) report refused = inl refused
 
-module _ (writes : Status → BookView → PlainState → Outcome → Type 0) (outcome : Outcome) (after : ℕ) (files : Device (List Entry)) (args : RunArgs) where
-  pub given_says : (named : Option (List ℕ)) (program : ProgramParts) (script : List ℤ) → AreGivenBy files after args.file named program script → RunEnds writes outcome.report.status (job_of program script args.fuel args.quantum) outcome
+module _ (writes : Writing) (outcome : Outcome) (after : ℕ) (files : Device (List Entry)) (args : RunArgs) where
+  pub given_says : (named : Option (List ℕ)) (program : ProgramParts) (script : List ℤ) → AreGivenBy files after args.file named program script → RunEnds writes args.workers outcome.report.status (job_of program script args.fuel args.quantum) outcome
       → RunSaysBy writes (finding outcome after files) args named
-  given_says None program script given ends = inr (program, given.0, subst (λ numbers. RunEnds writes outcome.report.status (job_of program numbers args.fuel args.quantum) outcome) given.1 ends)
+  given_says None program script given ends = inr (program, given.0, subst (λ numbers. RunEnds writes args.workers outcome.report.status (job_of program numbers args.fuel args.quantum) outcome) given.1 ends)
   given_says (Some probes) program script given ends = inr (program, given.0, inr (script, given.1, ends))
+
+  -- of a run by other names of the same numbers
+  pub given_means : (named : Option (List ℕ)) (program : ProgramParts) (script : List ℤ) (workers fuel quantum : ℕ) → (workers ≡ args.workers) × (fuel ≡ args.fuel) × (quantum ≡ args.quantum)
+      → AreGivenBy files after args.file named program script → RunEnds writes workers outcome.report.status (job_of program script fuel quantum) outcome → RunSaysBy writes (finding outcome after files) args named
+  given_means named program script workers fuel quantum same given ends =
+      given_says named program script given
+      (subst (λ w. RunEnds writes w outcome.report.status (job_of program script args.fuel args.quantum) outcome) same.0
+      (subst (λ f. RunEnds writes workers outcome.report.status (job_of program script f args.quantum) outcome) same.1
+      (subst (λ q. RunEnds writes workers outcome.report.status (job_of program script fuel q) outcome) same.2 ends)))
 
   pub refused_says : (named : Option (List ℕ)) → AreRefusedBy files after args.file named outcome.report → Rests outcome.sink outcome.sink_after → RunSaysBy writes (finding outcome after files) args named
   refused_says None refused rests = inl (refused, rests)

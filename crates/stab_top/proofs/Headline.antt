@@ -24,9 +24,9 @@ use Rattle.stab_top.specs.declared.report.Report.{Report}
 use Rattle.stab_top.specs.declared.report.Status.{Status}
 use Rattle.stab_top.specs.declared.report.Status.TheVariants.{Done, Held, BadWords, BadText, NoFile, TooBig, FileFault, SinkFault, Spent, NoMemory, BadProbes, BadTrace, BadScript, No, NotBuilt, Untyped}
 use Rattle.stab_top.specs.Words.{is_built}
-use Rattle.stab_top.specs.Call.{BuiltSays, Call, DrillSays, LastSays, MillSays, OrdersSay, ReadSays, RunSaysBy, Says, ScriptSays, Writing, status_of}
-use Rattle.stab_top.specs.Device.{Device, Gains}
-use Rattle.stab_top.specs.Ending.{AsReleased, AtTheEnd, Ends, IsRunOf, IsWritten, Outcome, RestSays, RunEnds, milled_by, shown_by}
+use Rattle.stab_top.specs.Call.{BuiltSays, Call, DrillSays, LastSays, MillSays, OrdersSay, ReadSays, RunSaysBy, Says, ScriptSays, status_of}
+use Rattle.sink_lines.specs.Device.{Device, Gains}
+use Rattle.stab_top.specs.Ending.{AsReleased, AtTheEnd, Ends, IsRunOf, IsWritten, Outcome, RestSays, RunEnds, Writing, milled_by, shown_by}
 use Rattle.stab_top.specs.Drilling.{IsPlayedOut, PlayEnds}
 use Rattle.stab_top.specs.Headline.{AsksForRun, IsDrillOfOne, IsEnd, IsOfTheLanguage, ShowsRunOf}
 use Rattle.stab_top.specs.declared.report.Role.{Role}
@@ -45,8 +45,8 @@ of_shown book run state shows =
       pins = pinned_lasts book shown;
     }
 
-abbrev of_language : (job : JobParts) (book : BookView) (state : PlainState) → IsRunOf job book state → IsOfTheLanguage book
-of_language job book state r = of_shown book r.run state r.shown
+abbrev of_language : (workers : ℕ) (job : JobParts) (book : BookView) (state : PlainState) → IsRunOf workers job book state → IsOfTheLanguage book
+of_language workers job book state r = of_shown book r.run state r.shown
 
 -- a list of steps ends in one state
 one_end : (p : ProgramParts) (run steps : List Numbered) (s u : PlainState) → steps ≡ run → IsRun p steps u → IsRun p run s → u ≡ s
@@ -56,11 +56,11 @@ one_end p run steps s u same left right =
     let one : u ≡ s = cc in
     one
 
-ends_in : (job : JobParts) (book : BookView) (state : PlainState) (r : IsRunOf job book state) → (of_language job book state r).run.end ≡ state
-ends_in job book state r =
+ends_in : (workers : ℕ) (job : JobParts) (book : BookView) (state : PlainState) (r : IsRunOf workers job book state) → (of_language workers job book state r).run.end ≡ state
+ends_in workers job book state r =
     let p = book.job.program in
     let history = r.shown.journal.history in
-    let says = (of_language job book state r).run in
+    let says = (of_language workers job book state r).run in
     one_end p r.run (survivors book.history) state says.end history.left says.run (stands_run p book.history.events r.run state history.stands).1
 
 -- ---- a call
@@ -80,11 +80,11 @@ no_read_book form report files name faults (inl x) = x.1.no_book
 no_read_book form report files name faults (inr x) = no_bytes_book form report x.0 x.2
 
 module _ (o : Outcome) (b : BookView) (there : o.report.book ≡ Some b) where
-  module _ (writes : Status → BookView → PlainState → Outcome → Type 0) (job : JobParts) where
-    ends_book : (status : Status) → Ends writes status job o → IsOfTheLanguage b
-    ends_book status e = subst IsOfTheLanguage (same_book o.report.book e.book b e.reported there) (of_language job e.book e.state e.run)
+  module _ (writes : Writing) (workers : ℕ) (job : JobParts) where
+    ends_book : (status : Status) → Ends writes workers status job o → IsOfTheLanguage b
+    ends_book status e = subst IsOfTheLanguage (same_book o.report.book e.book b e.reported there) (of_language workers job e.book e.state e.run)
 
-    run_book : (status : Status) → RunEnds writes status job o → IsOfTheLanguage b
+    run_book : (status : Status) → RunEnds writes workers status job o → IsOfTheLanguage b
     run_book Done e = ends_book Done e
     run_book Held e = ends_book Held e
     run_book BadWords e = ends_book BadWords e
@@ -133,16 +133,16 @@ module _ (c : Call) (b : BookView) (there : c.outcome.report.book ≡ Some b) wh
 
   file_book : (writes : Writing) (args : RunArgs) (named : Option (List ℕ)) → RunSaysBy writes c args named → IsOfTheLanguage b
   file_book writes args None says =
-      read_book program_form args.file c.files_after (λ p. RunEnds writes (status_of c) (job_of p [] args.fuel args.quantum) c.outcome)
-      (λ p ends. run_book c.outcome b there writes (job_of p [] args.fuel args.quantum) (status_of c) ends) says
+      read_book program_form args.file c.files_after (λ p. RunEnds writes args.workers (status_of c) (job_of p [] args.fuel args.quantum) c.outcome)
+      (λ p ends. run_book c.outcome b there writes args.workers (job_of p [] args.fuel args.quantum) (status_of c) ends) says
   file_book writes args (Some name) says =
-      read_book program_form args.file c.files.faults (λ p. LastSays probes_form c name (λ script. RunEnds writes (status_of c) (job_of p script args.fuel args.quantum) c.outcome))
-      (λ p said. read_book probes_form name c.files_after (λ script. RunEnds writes (status_of c) (job_of p script args.fuel args.quantum) c.outcome)
-      (λ script ends. run_book c.outcome b there writes (job_of p script args.fuel args.quantum) (status_of c) ends) said) says
+      read_book program_form args.file c.files.faults (λ p. LastSays probes_form c name (λ script. RunEnds writes args.workers (status_of c) (job_of p script args.fuel args.quantum) c.outcome))
+      (λ p said. read_book probes_form name c.files_after (λ script. RunEnds writes args.workers (status_of c) (job_of p script args.fuel args.quantum) c.outcome)
+      (λ script ends. run_book c.outcome b there writes args.workers (job_of p script args.fuel args.quantum) (status_of c) ends) said) says
 
   mill_book : (args : MillArgs) → MillSays c args → IsOfTheLanguage b
   mill_book args (same, inl refused) = not_there c.outcome.report.book b (no_bytes_book program_form c.outcome.report _ refused.0) there
-  mill_book args (same, inr (p, is, ends)) = run_book c.outcome b there (AsReleased (milled_by args.size)) _ (status_of c) ends
+  mill_book args (same, inr (p, is, ends)) = run_book c.outcome b there (AsReleased (milled_by args.size)) args.workers _ (status_of c) ends
 
   -- the program was read, then the script of probes, then that of the drill
   behind_probes : (named : Option (List ℕ)) (Said : List ℤ → Type 0) → ((script : List ℤ) → Said script → IsOfTheLanguage b) → ScriptSays c named Said → IsOfTheLanguage b
@@ -202,8 +202,8 @@ module _ (c : Call) (args : RunArgs) (program : ProgramParts) (script : List ℤ
   abbrev job : JobParts
   job = job_of program script args.fuel args.quantum
 
-  ended : (book : BookView) (state : PlainState) → IsRunOf job book state → c.outcome.report.book ≡ Some book
-      → IsWritten (status_of c) book state (shown_by book state) c.outcome → ShowsRunOf c args
+  ended : (book : BookView) (state : PlainState) → IsRunOf args.workers job book state → c.outcome.report.book ≡ Some book
+      → IsWritten args.workers (status_of c) book state (shown_by book state) c.outcome → ShowsRunOf c args
   ended book state r reported writes = record {
     program = program;
     script = script;
@@ -211,16 +211,16 @@ module _ (c : Call) (args : RunArgs) (program : ProgramParts) (script : List ℤ
     book = book;
     reported = reported;
     of_job = r.of_job;
-    says = of_language job book state r;
-    rest = subst (λ (s : PlainState). RestSays (status_of c) book s) (sym (ends_in job book state r)) writes.rest;
-    alone = drill_of_one book writes.whole;
-    written = subst (λ (s : PlainState). Gains c.outcome.sink c.outcome.sink_after (shown_by book s)) (sym (ends_in job book state r)) writes.gains;
+    says = of_language args.workers job book state r;
+    rest = subst (λ (s : PlainState). RestSays (status_of c) book s) (sym (ends_in args.workers job book state r)) writes.rest;
+    alone = λ one. drill_of_one book (writes.whole one);
+    written = subst (λ (s : PlainState). Gains c.outcome.sink c.outcome.sink_after (shown_by book s)) (sym (ends_in args.workers job book state r)) writes.gains;
   }
 
-  ended_run : (status : Status) → status_of c ≡ status → IsEnd status → RunEnds (AsReleased shown_by) status job c.outcome → ShowsRunOf c args
-  ended_run Done is over e = ended e.book e.state e.run e.reported (subst (λ (s : Status). IsWritten s e.book e.state (shown_by e.book e.state) c.outcome) (sym is) e.writes)
-  ended_run Held is over e = ended e.book e.state e.run e.reported (subst (λ (s : Status). IsWritten s e.book e.state (shown_by e.book e.state) c.outcome) (sym is) e.writes)
-  ended_run Spent is over e = ended e.book e.state e.run e.reported (subst (λ (s : Status). IsWritten s e.book e.state (shown_by e.book e.state) c.outcome) (sym is) e.writes)
+  ended_run : (status : Status) → status_of c ≡ status → IsEnd status → RunEnds (AsReleased shown_by) args.workers status job c.outcome → ShowsRunOf c args
+  ended_run Done is over e = ended e.book e.state e.run e.reported (subst (λ (s : Status). IsWritten args.workers s e.book e.state (shown_by e.book e.state) c.outcome) (sym is) e.writes)
+  ended_run Held is over e = ended e.book e.state e.run e.reported (subst (λ (s : Status). IsWritten args.workers s e.book e.state (shown_by e.book e.state) c.outcome) (sym is) e.writes)
+  ended_run Spent is over e = ended e.book e.state e.run e.reported (subst (λ (s : Status). IsWritten args.workers s e.book e.state (shown_by e.book e.state) c.outcome) (sym is) e.writes)
   ended_run BadWords is over e = elim over [ ]
   ended_run BadText is over e = elim over [ ]
   ended_run NoFile is over e = elim over [ ]
@@ -269,7 +269,7 @@ module _ (c : Call) (args : RunArgs) (over : IsEnd (status_of c)) where
   read_ended form bad file faults Said all (inr (content, holds, said)) = all content holds said
 
   abbrev Ran : ProgramParts → List ℤ → Type 0
-  Ran program script = RunEnds (AsReleased shown_by) (status_of c) (job_of program script args.fuel args.quantum) c.outcome
+  Ran program script = RunEnds (AsReleased shown_by) args.workers (status_of c) (job_of program script args.fuel args.quantum) c.outcome
 
   file_ended : (named : Option (List ℕ)) → args.probes ≡ named → RunSaysBy (AsReleased shown_by) c args named → ShowsRunOf c args
   file_ended None is says =

@@ -1,10 +1,10 @@
-pub mod Pieces
 pub mod ReadFirst
 pub mod Led
 pub mod Drilled
 pub mod Resting
 pub mod Rounding
 pub mod Played
+pub mod Results
 pub mod Ending
 pub mod Complete
 pub mod Determined

@@ -63,8 +63,8 @@ same_ok r xs ys e f = cc
 -- ---- a run
 
 -- the history of a run is one of its program and its script
-is_of_run : (job : JobParts) (book : BookView) (state : PlainState) → IsRunOf job book state → IsOfRun job.program job.script book.history
-is_of_run job book state r = record {
+is_of_run : (workers : ℕ) (job : JobParts) (book : BookView) (state : PlainState) → IsRunOf workers job book state → IsOfRun job.program job.script book.history
+is_of_run workers job book state r = record {
   run = r.run;
   state = state;
   shows = subst (λ p. Shows p book.history r.run state) (ap (λ (j : JobParts). j.program) r.of_job) r.shown.journal.history;
@@ -82,9 +82,9 @@ module _ (c : Call) (program : ProgramParts) (script : List ℤ) (history : Jour
   passed (inl (inr none)) = inl (inr none)
   passed (inr counted) = inr counted
 
-pub trace_of_run_passes : (job : JobParts) (book : BookView) (state : PlainState) (words : List (List ℕ)) (c : Call) (args : VerifyArgs) (text : List ℕ) → IsRunOf job book state → IsValid book.history →
+pub trace_of_run_passes : (workers : ℕ) (job : JobParts) (book : BookView) (state : PlainState) (words : List (List ℕ)) (c : Call) (args : VerifyArgs) (text : List ℕ) → IsRunOf workers job book state → IsValid book.history →
     Says words c → asked words ≡ Ok (Verify args) → IsHeld roles.Program c args.file text → IsTextOf text job.program → IsScriptFor c args.probes job.script → IsHeld roles.Trace c args.trace (trace book.history) →
     ((status_of c ≡ Done) ⊎ (status_of c ≡ NoMemory)) ⊎ CountedFault c
-trace_of_run_passes job book state words c args text run valid says is held of for_script there =
-    passed c job.program job.script book.history valid (is_of_run job book state run)
+trace_of_run_passes workers job book state words c args text run valid says is held of for_script there =
+    passed c job.program job.script book.history valid (is_of_run workers job book state run)
     (trace_is_judged words c args text (trace book.history) job.program job.script book.history says is held of for_script there (trace-read book.history valid (few book.history valid)))

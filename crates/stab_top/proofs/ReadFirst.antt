@@ -2,7 +2,7 @@
 use Rattle.std.proofs.Common.{◌≡◌, inr, ℕ, ℤ, List, Option, Some, refl, ap, sym, subst, ◌∙◌}
 use Rattle.stab_files.specs.Entry.{Entry}
 use Rattle.stab_top.specs.Call.{Call, ScriptSays}
-use Rattle.stab_top.specs.Device.{Device}
+use Rattle.sink_lines.specs.Device.{Device}
 use Rattle.stab_top.specs.Ending.{Outcome}
 use Rattle.stab_top.specs.Reading.{Form, Holds, probes_form}
 

@@ -1,13 +1,12 @@
 -- What a round leaves: a run that ends where values are due, and their release.
-use Rattle.std.proofs.Common.{◌≡◌, ◌⊎◌, inl, inr, ℕ, zero, suc, ◌+◌, ◌-◌, ◌<◌, ◌≤◌, Bool, true, false, cond, ◌&&◌, nat_eq, List, [], ◌∷◌, ◌++◌, length, take, drop, refl, sym, ap, subst, ◌∙◌, append-nil, append_assoc, arith}
-use Rattle.std.specs.List.{AllByRecursion, flat_map}
+use Rattle.std.proofs.Common.{◌≡◌, ◌⊎◌, inl, inr, ℕ, zero, suc, ◌+◌, ◌-◌, ◌<◌, ◌≤◌, true, List, [], ◌∷◌, ◌++◌, take, drop, refl, sym, ap, subst, ◌∙◌, append-nil, append_assoc, arith}
+use Rattle.std.specs.List.{AllByRecursion}
 use Rattle.std.proofs.lemmas.Bool.{false≢true}
 use Rattle.std.proofs.lemmas.Grind.{flat_map-append}
 use Rattle.std.proofs.lemmas.List.{take-append-drop}
 use Rattle.std.proofs.lemmas.List.Sums.{sum_by-append}
 use Rattle.stab_base.specs.Datum.{Datum}
 use Rattle.stab_base.specs.Printed.{printed}
-use Rattle.stab_base.specs.declared.numbers.ThreadId.{ThreadId}
 use Rattle.stab_code.specs.JobParts.{JobParts}
 use Rattle.stab_code.specs.Program.{ProgramParts}
 use Rattle.stab_journal.specs.declared.event.Event.{Event}
@@ -17,7 +16,6 @@ use Rattle.stab_journal.specs.declared.event.What.TheVariants.{Release}
 use Rattle.stab_journal.specs.Due.{due, final_prints, released, released_by, released_from}
 use Rattle.stab_journal.specs.Event.{weigh, weight_of}
 use Rattle.stab_journal.specs.Surviving.{after_event, after_events, run_of}
-use Rattle.plain_language.specs.Plain.{PlainState}
 use Rattle.plain_language.specs.Shown.{line, value_lines}
 use Rattle.plain_language.specs.Standing.{StandsFor, event}
 use Rattle.journal_laws.proofs.Undone.{stands_run}
@@ -26,7 +24,7 @@ use Rattle.commit_book.specs.declared.done.Done.TheVariants.{Taken, Parked, Undo
 use Rattle.commit_book.specs.Book.{BookView, IsShown}
 use Rattle.commit_book.specs.Commits.{IsCommitted, IsLeftBy, row_at}
 use Rattle.commit_book.specs.Leases.{LeaseView}
-use Rattle.commit_book.specs.Releases.{IsReleased, due_lines, due_values, finals}
+use Rattle.commit_book.specs.Releases.{IsReleased, due_lines, finals}
 use Rattle.commit_book.specs.Rows.{Row, alone, starts, meets, waits, stays, undoes, events_by, local_of, steps_of}
 use Rattle.commit_book.specs.Undoing.{undo_by}
 use Rattle.commit_book.proofs.Chosen.{chosen_light}
@@ -36,10 +34,9 @@ use Rattle.book_text.specs.Written.{released_lines}
 use Rattle.step_eval.specs.Progress.{ProgressView}
 use Rattle.lone_worker.specs.declared.worker.RunEnd.{RunEnd}
 use Rattle.lone_worker.specs.declared.worker.RunEnd.TheVariants as ends
-use Rattle.lone_worker.specs.Desk.{IsUnlent}
 use Rattle.lone_worker.specs.Running.{AreTurns, none, one_more, IsLater, IsRun}
 use Rattle.lone_worker.specs.Turn.{IsTurnOf, is_made, worker}
-use Rattle.stab_top.specs.Rounds.{IsRound, fuel_left}
+use Rattle.stab_top.specs.Rounds.{one_if_any, rounds_left}
 
 -- ---- of what is released
 
@@ -206,12 +203,27 @@ module _ (a b : BookView) (shown : IsShown a) (behind : IsShown b) (later : IsLa
 
 -- ---- of a round
 
-pub nearer : (old last new : BookView) → IsLater old last → IsRun ends.Due old last → due old.history.events ≡ 0 → 0 < due last.history.events → IsReleased last new worker → fuel_left new < fuel_left old
-nearer old last new later run undue some is =
-    let light : weight_of old.history.events < old.job.fuel = due_light old last run undue some in
-    let more : weight_of new.history.events ≡ weight_of last.history.events + 1 = release_weight last new worker is in
-    let sum : weight_of last.history.events ≡ weight_of old.history.events + weight_of later.added =
-    ap weight_of later.events ∙ sum_by-append (λ (e : Event). weigh e.what) old.history.events later.added
-    in
-    let fuel : new.job.fuel ≡ old.job.fuel = ap (λ (x : BookView). x.job.fuel) is ∙ ap (λ (j : JobParts). j.fuel) later.job in
-    omega (arith, light, more, sum, fuel)
+-- a release leaves nothing due, so a round fewer is left: where nothing was due before, the turns of the round used fuel
+pub nearer : (old last new : BookView) → IsLater old last → IsRun ends.Due old last → 0 < due last.history.events → IsReleased last new worker → rounds_left new < rounds_left old
+nearer old last new later run some is = by (due old.history.events) refl
+  where
+    more : weight_of new.history.events ≡ weight_of last.history.events + 1
+    more = release_weight last new worker is
+
+    sum : weight_of last.history.events ≡ weight_of old.history.events + weight_of later.added
+    sum = ap weight_of later.events ∙ sum_by-append (λ (e : Event). weigh e.what) old.history.events later.added
+
+    fuel : new.job.fuel ≡ old.job.fuel
+    fuel = ap (λ (x : BookView). x.job.fuel) is ∙ ap (λ (j : JobParts). j.fuel) later.job
+
+    now : rounds_left new ≡ (new.job.fuel - weight_of new.history.events) + 0
+    now = ap (λ (n : ℕ). (new.job.fuel - weight_of new.history.events) + one_if_any n) (none_due last new worker is)
+
+    by : (n : ℕ) → due old.history.events ≡ n → rounds_left new < rounds_left old
+    by zero undue =
+        let light : weight_of old.history.events < old.job.fuel = due_light old last run undue some in
+        let before : rounds_left old ≡ (old.job.fuel - weight_of old.history.events) + 0 = ap (λ (n : ℕ). (old.job.fuel - weight_of old.history.events) + one_if_any n) undue in
+        let m = more in let s = sum in let f = fuel in let n = now in omega (arith, light, before, m, s, f, n)
+    by (suc k) owed =
+        let before : rounds_left old ≡ (old.job.fuel - weight_of old.history.events) + 1 = ap (λ (n : ℕ). (old.job.fuel - weight_of old.history.events) + one_if_any n) owed in
+        let m = more in let s = sum in let f = fuel in let n = now in omega (arith, before, m, s, f, n)

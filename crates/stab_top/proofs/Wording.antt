@@ -12,9 +12,9 @@ use Rattle.stab_top.specs.Reason.{blames_file, no_blame}
 use Rattle.stab_top.specs.Words.{is_built}
 use Rattle.stab_top.specs.Loading.{LoadRefused, blamed}
 use Rattle.stab_top.specs.Reading.{Blames, Form, probes_form, program_form}
-use Rattle.stab_top.specs.Ending.{AsReleased, AtTheEnd, CheckEnds, RunEnds, shown_by}
+use Rattle.stab_top.specs.Ending.{AsReleased, AtTheEnd, CheckEnds, RunEnds, Writing, shown_by}
 use Rattle.stab_top.specs.Typing.{TypesEnds}
-use Rattle.stab_top.specs.Call.{BuiltSays, Call, FaultSays, LastSays, NotBuiltSays, ReadSays, RequestSays, RunSaysBy, Says, OrdersSay, ScriptSays, TraceSays, Untouched, WordsSay, Writing, status_of}
+use Rattle.stab_top.specs.Call.{BuiltSays, Call, FaultSays, LastSays, NotBuiltSays, ReadSays, RequestSays, RunSaysBy, Says, OrdersSay, ScriptSays, TraceSays, Untouched, WordsSay, status_of}
 
 -- no file was loaded, for want of memory
 unread : {Content Fault : Type 0} (form : Form Content Fault) (c : Call) (file : List ℕ) (faults : ℕ) (Said : Content → Type 0) → status_of c ≡ NoMemory → Untouched c no_blame → ReadSays form c file faults Said
@@ -25,8 +25,8 @@ not_built : (c : Call) → status_of c ≡ NoMemory → Untouched c no_blame →
 not_built c none is = subst (λ s. NotBuiltSays s c) (sym none) is
 
 run_says : (writes : Writing) (args : RunArgs) (named : Option (List ℕ)) (c : Call) → status_of c ≡ NoMemory → Untouched c no_blame → RunSaysBy writes c args named
-run_says writes args None c none is = unread program_form c args.file c.files_after (λ p. RunEnds writes (status_of c) (job_of p [] args.fuel args.quantum) c.outcome) none is
-run_says writes args (Some name) c none is = unread program_form c args.file c.files.faults (λ p. LastSays probes_form c name (λ s. RunEnds writes (status_of c) (job_of p s args.fuel args.quantum) c.outcome)) none is
+run_says writes args None c none is = unread program_form c args.file c.files_after (λ p. RunEnds writes args.workers (status_of c) (job_of p [] args.fuel args.quantum) c.outcome) none is
+run_says writes args (Some name) c none is = unread program_form c args.file c.files.faults (λ p. LastSays probes_form c name (λ s. RunEnds writes args.workers (status_of c) (job_of p s args.fuel args.quantum) c.outcome)) none is
 
 request_says : (request : Request) (c : Call) → status_of c ≡ NoMemory → Untouched c no_blame → RequestSays (is_built request) c request
 request_says (Run args) c none is = run_says (AsReleased shown_by) args args.probes c none is

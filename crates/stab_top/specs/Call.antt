@@ -1,7 +1,5 @@
 -- What the one call says by the status that it reports.
 use Rattle.std.specs.Prelude.{◌≡◌, ℕ, ℤ, Bool, true, false, List, [], Option, Some, None, Result, Ok, Err, ◌⊎◌}
-use Rattle.plain_language.specs.Plain.{PlainState}
-use Rattle.commit_book.specs.Book.{BookView}
 use Rattle.stab_code.specs.JobParts.{job_of}
 use Rattle.stab_code.specs.Program.{ProgramParts}
 use Rattle.stab_files.specs.Count.{Rose}
@@ -16,13 +14,13 @@ use Rattle.stab_words.specs.declared.request.WordFault.{WordFault}
 use Rattle.stab_words.specs.Asked.{asked}
 use Rattle.stab_top.specs.declared.report.Status.{Status}
 use Rattle.stab_top.specs.declared.report.Status.TheVariants.{BadWords, NoMemory, NotBuilt}
-use Rattle.stab_top.specs.Ending.{AsReleased, AtTheEnd, CheckEnds, Outcome, Refuses, RunEnds, VerdictEnds, shown_by}
+use Rattle.stab_top.specs.Ending.{AsReleased, AtTheEnd, CheckEnds, Outcome, Refuses, RunEnds, VerdictEnds, Writing, shown_by}
 use Rattle.stab_top.specs.Milling.{MillEnds}
 use Rattle.stab_top.specs.Drilling.{DrillEnds}
 use Rattle.stab_top.specs.Typing.{TypesEnds}
 use Rattle.stab_top.specs.Loading.{FileSays, blamed}
 use Rattle.stab_top.specs.declared.report.Role.TheVariants.{Script}
-use Rattle.stab_top.specs.Device.{Device, Rests, device}
+use Rattle.sink_lines.specs.Device.{Device, Rests, device}
 use Rattle.stab_top.specs.Reading.{Form, Holds, ReadRefused, probes_form, program_form, trace_form}
 use Rattle.stab_top.specs.Reason.{Blame, blames_file, blames_words, no_blame}
 use Rattle.stab_top.specs.Words.{is_built}
@@ -72,19 +70,15 @@ module _ {Content Fault : Type 0} (form : Form Content Fault) where
   abbrev pub NextSays : Call → List ℕ → (Content → Type 0) → Type 0
   NextSays c file Said = ReadSays c file c.files.faults Said
 
--- how a command writes of a run
-abbrev pub Writing : Type 1
-Writing = Status → BookView → PlainState → Outcome → Type 0
-
 -- a run of the program of a file with the script of a probe file, or with none, of which the command writes so
 abbrev pub RunSaysBy : Writing → Call → RunArgs → Option (List ℕ) → Type 0
 RunSaysBy writes c args None =
     LastSays program_form c args.file (λ program.
-    RunEnds writes (status_of c) (job_of program [] args.fuel args.quantum) c.outcome)
+    RunEnds writes args.workers (status_of c) (job_of program [] args.fuel args.quantum) c.outcome)
 RunSaysBy writes c args (Some probes) =
     NextSays program_form c args.file (λ program.
     LastSays probes_form c probes (λ script.
-    RunEnds writes (status_of c) (job_of program script args.fuel args.quantum) c.outcome))
+    RunEnds writes args.workers (status_of c) (job_of program script args.fuel args.quantum) c.outcome))
 
 abbrev pub RunSays : Writing → Call → RunArgs → Type 0
 RunSays writes c args = RunSaysBy writes c args args.probes

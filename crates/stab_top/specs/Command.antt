@@ -4,7 +4,7 @@ use Rattle.stab_files.specs.Entry.{Entry}
 use Rattle.stab_top.specs.declared.report.Report.{Report}
 use Rattle.stab_top.specs.declared.report.Status.{Status}
 use Rattle.stab_top.specs.Call.{Call, Says}
-use Rattle.stab_top.specs.Device.{Device, Rests, Writes, device}
+use Rattle.sink_lines.specs.Device.{Device, Rests, Writes, device}
 use Rattle.stab_top.specs.Reason.{Blame, blame_of, no_blame, reason_text, status_number}
 
 -- the exit status is the status's number, and the reason stands on standard error, but for want of memory

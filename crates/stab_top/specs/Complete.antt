@@ -22,7 +22,7 @@ use Rattle.stab_top.specs.declared.report.Role.{Role}
 use Rattle.stab_top.specs.declared.report.Role.TheVariants.{Program, Probes}
 use Rattle.stab_top.specs.Call.{Call, CountedFault, status_of}
 use Rattle.stab_top.specs.Drilling.{IsPlayedOut, IsStuck, drill_text}
-use Rattle.stab_top.specs.Device.{Gains, GainsPrefix}
+use Rattle.sink_lines.specs.Device.{Gains, GainsPrefix}
 use Rattle.stab_top.specs.Ending.{Refuses, shown_by, verdict_status}
 use Rattle.stab_top.specs.Loading.{max_bytes}
 use Rattle.stab_top.specs.Reading.{Blames, Form, probes_form, trace_form}

@@ -14,7 +14,7 @@ use Rattle.schedule_drill.specs.Drilled.{IsDrilled, IsNew, StopsAt}
 use Rattle.schedule_drill.specs.Played.{Stand}
 use Rattle.stab_top.specs.declared.report.Status.{Status}
 use Rattle.stab_top.specs.declared.report.Status.TheVariants.{BadScript, Done, NoMemory, SinkFault}
-use Rattle.stab_top.specs.Device.{Gains, GainsPrefix}
+use Rattle.sink_lines.specs.Device.{Gains, GainsPrefix}
 use Rattle.stab_top.specs.Ending.{Outcome, Refuses, shown_by}
 use Rattle.stab_top.specs.Reason.{Blame, blame_of, blames_script, no_blame}
 

@@ -1,6 +1,5 @@
 -- What a call says of the end of what it does with a program.
-use Rattle.std.specs.Prelude.{◌≡◌, ℕ, ℤ, ◌<◌, ◌≤◌, true, false, List, [], ◌∷◌, ◌++◌, count_by, take, Option, Some, None, IfSome, IsSomeAnd, codes, decimal, length, ◌⊎◌}
-use Rattle.std.specs.List.{AllByRecursion}
+use Rattle.std.specs.Prelude.{◌≡◌, ℕ, ℤ, ◌<◌, ◌≤◌, true, false, List, [], ◌∷◌, ◌++◌, count_by, Option, Some, None, IfSome, IsSomeAnd, codes, decimal, length, ◌⊎◌}
 use Rattle.stab_base.specs.Gain.{SomePrefix}
 use Rattle.stab_code.specs.JobParts.{JobParts}
 use Rattle.stab_code.specs.Program.{ProgramParts}
@@ -8,18 +7,19 @@ use Rattle.stab_files.specs.Count.{Rose}
 use Rattle.stab_files.specs.Told.{Appends}
 use Rattle.stab_journal.specs.declared.event.Event.{Event}
 use Rattle.stab_journal.specs.declared.event.Numbered.{Numbered}
-use Rattle.stab_journal.specs.Due.{released}
 use Rattle.stab_journal.specs.Event.{weight_of}
 use Rattle.stab_journal.specs.Journal.{Journal}
 use Rattle.stab_journal.specs.Script.{FollowsScript}
 use Rattle.thread_slots.specs.declared.state.State.TheVariants.{Ready, Leased}
 use Rattle.plain_language.specs.Plain.{PlainState, language_of, look_in, standing}
 use Rattle.plain_language.specs.Quiet.{IsQuiet}
-use Rattle.plain_language.specs.Shown.{is_done, line, shown, value_lines}
+use Rattle.plain_language.specs.Shown.{is_done, line, shown}
 use Rattle.commit_book.specs.Book.{BookView, ShowsRun}
 use Rattle.commit_book.specs.Counts.{in_state, is_undo}
 use Rattle.lone_worker.specs.declared.worker.RunEnd.{RunEnd}
 use Rattle.lone_worker.specs.Solo.{IsSolo, IsWholeSolo}
+use Rattle.turn_floor.specs.Served.{AreOf}
+use Rattle.worker_rounds.specs.Releases.{HasReleases}
 use Rattle.trace_text.specs.Text.{trace}
 use Rattle.trace_verify.specs.declared.verdict.Verdict.{Verdict}
 use Rattle.trace_verify.specs.declared.verdict.Verdict.TheVariants as verdicts
@@ -27,7 +27,7 @@ use Rattle.trace_verify.specs.Verdict.{IsVerdict}
 use Rattle.stab_top.specs.declared.report.Report.{Report}
 use Rattle.stab_top.specs.declared.report.Status.{Status}
 use Rattle.stab_top.specs.declared.report.Status.TheVariants.{Done, Held, SinkFault, Spent, NoMemory, No}
-use Rattle.stab_top.specs.Device.{Device, Gains, GainsPrefix, Rests, device}
+use Rattle.sink_lines.specs.Device.{Device, Gains, GainsPrefix, Rests, device}
 use Rattle.stab_top.specs.Reading.{Blames}
 use Rattle.stab_top.specs.Reason.{Blame, blame_of, failing_words, names_verdict, no_blame}
 
@@ -53,15 +53,15 @@ abbrev pub IsSoloPart : JobParts → List Event → Type 0
 IsSoloPart job events = (end : RunEnd) × IsSolo job end events
 
 -- The book is of this job. It shows its history, which stands for this run of the program from the start state, and the state in
--- which the run ends; the history's probes got the numbers of the script. Worker 1 made it all, by the run of the job by one
--- worker.
-pub record IsRunOf (job : JobParts) (book : BookView) (state : PlainState) : Type 0 where
+-- which the run ends; the history's probes got the numbers of the script. Each event is one of these workers'. With one worker
+-- they are the first events of the run of the job by one worker.
+pub record IsRunOf (workers : ℕ) (job : JobParts) (book : BookView) (state : PlainState) : Type 0 where
   pub of_job : book.job ≡ job
   pub run : List Numbered
   pub shown : ShowsRun book run state
   pub follows : FollowsScript job.script book.history.events
-  pub by_one : AllByRecursion (λ (e : Event). e.worker ≡ 1) book.history.events
-  pub solo : IsSoloPart job book.history.events
+  pub named : AreOf workers book.history.events
+  pub solo : workers ≡ 1 → IsSoloPart job book.history.events
 
 -- no thread is ready or leased, and none can step
 pub record Rested (book : BookView) (state : PlainState) : Type 0 where
@@ -89,9 +89,9 @@ RestSays Held book state = Rested book state × SomeHeld book.job.program state
 RestSays Spent book state = IsSpent book
 RestSays _ book state = ⊥
 
--- a run is over: worker 1 made all events of the job's run by one worker
-pub record IsOver (book : BookView) (state : PlainState) : Type 0 where
-  pub whole : IsWholeSolo book.job book.history.events
+-- a run is over; with one worker its events are those of the whole run of the job by one worker
+pub record IsOver (workers : ℕ) (book : BookView) (state : PlainState) : Type 0 where
+  pub whole : workers ≡ 1 → IsWholeSolo book.job book.history.events
   pub rest : Rested book state ⊎ IsSpent book
 
 -- ---- what is written of a run
@@ -112,49 +112,43 @@ abbrev pub text_with : Option ℕ → BookView → PlainState → List ℕ
 text_with None = shown_by
 text_with (Some size) = milled_by size
 
--- the lines of the values that the first events released, of what the run printed that ends in the state
-abbrev pub released_lines : ProgramParts → PlainState → List Event → List ℕ
-released_lines p state first = value_lines p (take (released first) state.output)
-
--- the piece begins with the lines of every release behind which there is an event of worker 1
-abbrev pub HasReleases : BookView → PlainState → List ℕ → Type 0
-HasReleases book state piece =
-    (first after : List Event) (e : Event) → book.history.events ≡ first ++ e ∷ after → e.worker ≡ 1
-    → (more : List ℕ) × (piece ≡ released_lines book.job.program state first ++ more)
-
 -- a prefix of the text was written, which begins with these lines
 abbrev pub WritesReleases : BookView → PlainState → List ℕ → Outcome → Type 0
 WritesReleases book state text o =
     SomePrefix (λ front. Appends o.sink.told o.sink_after.told front × HasReleases book state front) text
 
--- the run is over as the status says, and the text was written whole
-pub record IsWritten (status : Status) (book : BookView) (state : PlainState) (text : List ℕ) (o : Outcome) : Type 0 where
-  pub whole : IsWholeSolo book.job book.history.events
+-- the run is over as the status says, and the text was written whole; with one worker its events are those of the whole run
+pub record IsWritten (workers : ℕ) (status : Status) (book : BookView) (state : PlainState) (text : List ℕ) (o : Outcome) : Type 0 where
+  pub whole : workers ≡ 1 → IsWholeSolo book.job book.history.events
   pub rest : RestSays status book state
   pub gains : Gains o.sink o.sink_after text
 
+-- how a command writes of a run by so many workers that ended so
+abbrev pub Writing : Type 1
+Writing = ℕ → Status → BookView → PlainState → Outcome → Type 0
+
 module _ (text_by : BookView → PlainState → List ℕ) where
   -- `run` and `mill` write the lines of values as soon as a release made them known, and the rest of their text at the end
-  abbrev pub AsReleased : Status → BookView → PlainState → Outcome → Type 0
-  AsReleased SinkFault book state o = WritesReleases book state (text_by book state) o × Rose o.sink.faults o.sink_after.faults
-  AsReleased NoMemory book state o = WritesReleases book state (text_by book state) o × (o.sink_after.faults ≡ o.sink.faults)
-  AsReleased status book state o = IsWritten status book state (text_by book state) o
+  abbrev pub AsReleased : Writing
+  AsReleased workers SinkFault book state o = WritesReleases book state (text_by book state) o × Rose o.sink.faults o.sink_after.faults
+  AsReleased workers NoMemory book state o = WritesReleases book state (text_by book state) o × (o.sink_after.faults ≡ o.sink.faults)
+  AsReleased workers status book state o = IsWritten workers status book state (text_by book state) o
 
 -- `trace` writes the trace of what happened, at the end
-abbrev pub AtTheEnd : Status → BookView → PlainState → Outcome → Type 0
-AtTheEnd SinkFault book state o = IsOver book state × GainsPrefix o.sink o.sink_after (trace book.history)
-AtTheEnd NoMemory book state o = ⊥
-AtTheEnd status book state o = IsWritten status book state (trace book.history) o
+abbrev pub AtTheEnd : Writing
+AtTheEnd workers SinkFault book state o = IsOver workers book state × GainsPrefix o.sink o.sink_after (trace book.history)
+AtTheEnd workers NoMemory book state o = ⊥
+AtTheEnd workers status book state o = IsWritten workers status book state (trace book.history) o
 
-module _ (WritesBy : Status → BookView → PlainState → Outcome → Type 0) where
+module _ (WritesBy : Writing) (workers : ℕ) where
   -- the report has the book of the job's run, and nothing to blame, and the status says how far it came and what was written
   pub record Ends (status : Status) (job : JobParts) (o : Outcome) : Type 0 where
     pub book : BookView
     pub state : PlainState
     pub reported : o.report.book ≡ Some book
     pub blame : blame_of o.report ≡ no_blame
-    pub run : IsRunOf job book state
-    pub writes : WritesBy status book state o
+    pub run : IsRunOf workers job book state
+    pub writes : WritesBy workers status book state o
 
   -- What each status says of a job that was to be run. Want of memory is free: there is no book and nothing was written, or
   -- there is one.

@@ -21,7 +21,7 @@ use Rattle.schedule_drill.specs.Solo.{IsDrilledByOne}
 use Rattle.stab_top.specs.declared.report.Status.{Status}
 use Rattle.stab_top.specs.declared.report.Status.TheVariants.{Done, Held, Spent}
 use Rattle.stab_top.specs.Call.{Call, status_of}
-use Rattle.stab_top.specs.Device.{Gains}
+use Rattle.sink_lines.specs.Device.{Gains}
 use Rattle.stab_top.specs.Ending.{RestSays, shown_by}
 use Rattle.stab_top.specs.Reading.{AreGiven}
 
@@ -39,7 +39,7 @@ pub record IsOfTheLanguage (book : BookView) : Type 0 where
   pub pins : (first after : List Event) → book.history.events ≡ first ++ after → (n pin : Numbered) → StandsIn (run_of first) n
       → is_pin pin.label ≡ true → Reaches (run_of first) n.seq.0 pin → StandsIn (survivors book.history) n
 
--- a request for which a program is run, by one worker or by a schedule that is written by hand
+-- a request for which a program is run, by workers or by a schedule that is written by hand
 abbrev pub AsksForRun : Request → Type 0
 AsksForRun (Run args) = Unit {0}
 AsksForRun (Trace args) = Unit {0}
@@ -61,8 +61,8 @@ pub record IsDrillOfOne (book : BookView) : Type 0 where
   pub events : last.history.events ≡ book.history.events
 
 -- The call ran the program of the file, with the script that the words name and their fuel and quantum, and reports the book of
--- that run, of which the above holds; the status says how the run ended; the run is a drill of one worker; and what it shows was
--- written, and nothing else.
+-- that run, of which the above holds; the status says how the run ended; with one worker the run is a drill of one worker; and
+-- what it shows was written, and nothing else.
 pub record ShowsRunOf (c : Call) (args : RunArgs) : Type 0 where
   pub program : ProgramParts
   pub script : List ℤ
@@ -72,5 +72,5 @@ pub record ShowsRunOf (c : Call) (args : RunArgs) : Type 0 where
   pub of_job : book.job ≡ job_of program script args.fuel args.quantum
   pub says : IsOfTheLanguage book
   pub rest : RestSays (status_of c) book says.run.end
-  pub alone : IsDrillOfOne book
+  pub alone : args.workers ≡ 1 → IsDrillOfOne book
   pub written : Gains c.outcome.sink c.outcome.sink_after (shown_by book says.run.end)

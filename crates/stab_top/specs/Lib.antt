@@ -1,4 +1,3 @@
-pub mod Device
 pub mod Reason
 pub mod Words
 pub mod Loading

@@ -6,7 +6,7 @@ use Rattle.stab_top.specs.declared.report.Status.{Status}
 use Rattle.stab_top.specs.declared.report.Status.TheVariants.{NoFile, TooBig, FileFault, NoMemory}
 use Rattle.stab_top.specs.declared.report.Role.{Role}
 use Rattle.stab_top.specs.declared.report.Role.TheVariants.{Program, Probes, Trace, Script}
-use Rattle.stab_top.specs.Device.{Device}
+use Rattle.sink_lines.specs.Device.{Device}
 
 -- how many bytes a file may have
 abbrev pub max_bytes : Role → ℕ

@@ -6,7 +6,7 @@ use Rattle.stab_text.specs.Text.{IsTextOf}
 use Rattle.stab_words.specs.declared.request.MillArgs.{MillArgs}
 use Rattle.mill_text.specs.Mill.{mill_script, mill_text}
 use Rattle.stab_top.specs.declared.report.Status.{Status}
-use Rattle.stab_top.specs.Device.{Rests}
+use Rattle.sink_lines.specs.Device.{Rests}
 use Rattle.stab_top.specs.Ending.{AsReleased, Outcome, RunEnds, milled_by}
 use Rattle.stab_top.specs.Reading.{BytesRefused, program_form}
 
@@ -15,4 +15,4 @@ abbrev pub MillEnds : Status → MillArgs → Outcome → Type 0
 MillEnds status args o =
     (BytesRefused program_form o.report (mill_text args.size) × Rests o.sink o.sink_after)
     ⊎ ((program : ProgramParts) × IsTextOf (mill_text args.size) program
-    × RunEnds (AsReleased (milled_by args.size)) status (job_of program (mill_script args.size) args.fuel args.quantum) o)
+    × RunEnds (AsReleased (milled_by args.size)) args.workers status (job_of program (mill_script args.size) args.fuel args.quantum) o)

@@ -1,39 +1,73 @@
 -- How far a run came whose lines are written as they are released.
 use Rattle.std.specs.Prelude.{◌≡◌, ◌⊎◌, ℕ, List, [], ◌++◌, Option, Some, None}
-use Rattle.stab_base.specs.Gain.{SomePrefix}
 use Rattle.stab_code.specs.JobParts.{JobParts}
-use Rattle.stab_files.specs.Count.{Rose}
-use Rattle.stab_files.specs.Told.{Appends}
 use Rattle.stab_journal.specs.declared.event.Event.{Event}
 use Rattle.plain_language.specs.Plain.{PlainState}
-use Rattle.commit_book.specs.Book.{BookView}
+use Rattle.commit_book.specs.Book.{BookView, IsShown}
 use Rattle.book_text.specs.Written.{IsRestText, released_lines}
-use Rattle.lone_worker.specs.Solo.{IsWholeSolo}
-use Rattle.stab_top.specs.declared.playing.Stop.{Stop}
-use Rattle.stab_top.specs.declared.playing.Stop.TheVariants as stops
+use Rattle.lone_worker.specs.declared.worker.RunEnd.{RunEnd}
+use Rattle.lone_worker.specs.Rounds.{IsPlayed}
+use Rattle.lone_worker.specs.Running.{IsLater}
+use Rattle.lone_worker.specs.Solo.{IsWhole, IsWholeSolo}
+use Rattle.sink_lines.specs.Device.{Device, Gains, GainsPrefix}
+use Rattle.worker_rounds.specs.declared.rounds.Stop.{Stop}
+use Rattle.worker_rounds.specs.declared.rounds.Stop.TheVariants as stops
+use Rattle.worker_rounds.specs.Releases.{StopSays}
 use Rattle.stab_top.specs.declared.report.Status.{Status}
 use Rattle.stab_top.specs.declared.report.Status.TheVariants.{SinkFault}
-use Rattle.stab_top.specs.Device.{Device, Gains, GainsPrefix}
-use Rattle.stab_top.specs.Ending.{HasReleases, IsRunOf, RestSays, mill_line}
+use Rattle.stab_top.specs.Ending.{IsRunOf, RestSays, mill_line}
+use Rattle.stab_top.specs.Rounds.{IsRound}
+
+-- ---- a book that one worker plays on
+
+-- the lines of what was released since were written
+pub record GainsSince (old new : BookView) (sink after : Device (List ℕ)) : Type 0 where
+  pub lines : List ℕ
+  pub more : released_lines new ≡ released_lines old ++ lines
+  pub gains : Gains sink after lines
+
+-- no turn comes any more, as the status says
+pub record IsPlayedOut (status : Status) (old new : BookView) : Type 0 where
+  pub end : RunEnd
+  pub whole : IsWhole end
+  pub played : IsPlayed end old new
+  pub rest : (shown : IsShown new) → RestSays status new shown.state
+
+-- the lines of the last release were cut short
+pub record IsCutShort (old new : BookView) (sink after : Device (List ℕ)) : Type 0 where
+  pub last : BookView
+  pub between : Device (List ℕ)
+  pub shown : IsShown last
+  pub later : IsLater last new
+  pub round : IsRound last new
+  pub so_far : GainsSince old last sink between
+  pub lines : List ℕ
+  pub more : released_lines new ≡ released_lines last ++ lines
+  pub cut : GainsPrefix between after lines
+
+abbrev pub BreakSays : Stop → BookView → BookView → Device (List ℕ) → Device (List ℕ) → Type 0
+BreakSays stops.SinkFault old new sink after = IsCutShort old new sink after
+BreakSays stops.NoMemory old new sink after = GainsSince old new sink after
+
+-- the play was stopped
+pub record IsBroken (stop : Stop) (old new : BookView) (sink after : Device (List ℕ)) : Type 0 where
+  pub end : RunEnd
+  pub played : IsPlayed end old new
+  pub says : BreakSays stop old new sink after
+
+-- ---- a run
 
 -- the job's run is over, as the status says
-pub record HasRun (status : Status) (job : JobParts) (book : BookView) : Type 0 where
+pub record HasRun (workers : ℕ) (status : Status) (job : JobParts) (book : BookView) : Type 0 where
   pub state : PlainState
-  pub run : IsRunOf job book state
-  pub whole : IsWholeSolo book.job book.history.events
+  pub run : IsRunOf workers job book state
+  pub whole : workers ≡ 1 → IsWholeSolo book.job book.history.events
   pub rest : RestSays status book state
 
--- what the sink gained of the lines that were released
-abbrev pub StopSays : Stop → BookView → PlainState → Device (List ℕ) → Device (List ℕ) → Type 0
-StopSays stops.SinkFault book state sink after =
-    SomePrefix (λ front. Appends sink.told after.told front × HasReleases book state front) (released_lines book)
-    × Rose sink.faults after.faults
-StopSays stops.NoMemory book state sink after = Gains sink after (released_lines book)
-
 -- the job's run isn't over
-pub record HasStopped (stop : Stop) (job : JobParts) (book : BookView) (sink after : Device (List ℕ)) : Type 0 where
+pub record HasStopped (workers : ℕ) (stop : Stop) (job : JobParts) (book : BookView) (sink after : Device (List ℕ)) : Type 0 where
   pub state : PlainState
-  pub run : IsRunOf job book state
+  pub run : IsRunOf workers job book state
   pub says : StopSays stop book state sink after
 
 -- the line that stands behind what a run shows

@@ -16,7 +16,7 @@ use Rattle.stab_top.specs.declared.report.Role.{Role}
 use Rattle.stab_top.specs.declared.report.Role.TheVariants.{Program, Probes, Trace}
 use Rattle.stab_top.specs.declared.report.Status.{Status}
 use Rattle.stab_top.specs.declared.report.Status.TheVariants.{BadProbes, BadText, BadTrace, NoMemory}
-use Rattle.stab_top.specs.Device.{Device}
+use Rattle.sink_lines.specs.Device.{Device}
 use Rattle.stab_top.specs.Loading.{FileSays, Loads, blamed}
 use Rattle.stab_top.specs.Reason.{Blame, blame_of, blames_file, blames_probes, blames_text, blames_trace, no_blame}
 

@@ -1,5 +1,5 @@
 -- The rounds of a run by one worker.
-use Rattle.std.specs.Prelude.{◌≡◌, ℕ, ◌-◌, ◌<◌}
+use Rattle.std.specs.Prelude.{◌≡◌, ℕ, zero, suc, ◌+◌, ◌-◌, ◌<◌}
 use Rattle.stab_journal.specs.Due.{due}
 use Rattle.stab_journal.specs.Event.{weight_of}
 use Rattle.commit_book.specs.Book.{BookView}
@@ -11,14 +11,14 @@ use Rattle.lone_worker.specs.Turn.{worker}
 use Rattle.stab_top.specs.declared.rounds.RoundEnd.{RoundEnd}
 use Rattle.stab_top.specs.declared.rounds.RoundEnd.TheVariants.{Released, Quiet, Spent, NoMemory}
 
--- before a round nobody has a lease, and nothing is due
-pub record IsBetween (b : BookView) : Type 0 where
-  pub unlent : IsUnlent b
-  pub none_due : due b.history.events ≡ 0
+-- 1 where any are due
+abbrev pub one_if_any : ℕ → ℕ
+one_if_any zero = 0
+one_if_any (suc n) = 1
 
--- the fuel that isn't used up
-abbrev pub fuel_left : BookView → ℕ
-fuel_left b = b.job.fuel - weight_of b.history.events
+-- at most so many rounds are left: each uses fuel, but for one that has only to release what was due before
+abbrev pub rounds_left : BookView → ℕ
+rounds_left b = (b.job.fuel - weight_of b.history.events) + one_if_any (due b.history.events)
 
 -- what was due is released
 abbrev pub ReleaseSays : RoundEnd → BookView → BookView → Type 0
@@ -35,7 +35,7 @@ pub record IsRound (old new : BookView) : Type 0 where
 
 -- a round was made, or the run came to its end, or memory is wanted
 abbrev pub RoundSays : RoundEnd → BookView → BookView → Type 0
-RoundSays Released old new = IsRound old new × (due new.history.events ≡ 0) × (fuel_left new < fuel_left old)
+RoundSays Released old new = IsRound old new × (rounds_left new < rounds_left old)
 RoundSays Quiet old new = IsRun ends.Quiet old new × EndSays ends.Quiet new
 RoundSays Spent old new = IsRun ends.Spent old new × EndSays ends.Spent new
 RoundSays NoMemory old new = IsRun ends.NoMemory old new

@@ -6,7 +6,7 @@ use Rattle.stab_types.specs.declared.typed.TypeFault.TheVariants as fault
 use Rattle.stab_types.specs.Typed.{IsFirstUntyped, IsTyped}
 use Rattle.stab_top.specs.declared.report.Status.{Status}
 use Rattle.stab_top.specs.declared.report.Status.TheVariants.{Done, NoMemory, SinkFault, Untyped}
-use Rattle.stab_top.specs.Device.{Gains, GainsPrefix}
+use Rattle.sink_lines.specs.Device.{Gains, GainsPrefix}
 use Rattle.stab_top.specs.Ending.{Outcome, Refuses}
 use Rattle.stab_top.specs.Reading.{Blames}
 use Rattle.stab_top.specs.Reason.{blames_types, no_blame}

@@ -14,10 +14,10 @@ ghost use Rattle.stab_top.specs.Reading.{Blames};
 
 use crate::reading::Given;
 use crate::report::{Report, Status};
-use crate::writing::put_lines;
 use book_text::shown_text;
 use commit_book::Book;
 use schedule_drill::{DrillEnd, DrillFault, drill};
+use sink_lines::put_lines;
 use stab_base::NoMemory;
 use stab_code::Job;
 use stab_files::{Sink, SinkFail};

@@ -53,8 +53,8 @@ use stab_types::typed_programs_never_go_wrong;
 /// name and their fuel and quantum; the journal of the report's book without its undone steps is, in order, a run of the plain
 /// language from the start state that ends in exactly the book's threads, channels, references and output; each granted stabilize
 /// undid its section's entry and precisely the steps that depend on it; no step that stands before a cut, or on which a pin
-/// depends, was undone; the status says how the run ended; its events are those of a drill of `lease 1` and `commit 1`; and what
-/// the run shows was written, and nothing else.
+/// depends, was undone; the status says how the run ended; and what the run shows was written, and nothing else. All this holds of
+/// any number of workers. With one worker the run's events are also those of a drill of `lease 1` and `commit 1`.
 pub fn runs_are_of_the_language()
     ensures { (words : List (List ℕ)) (c : Call) (args : Args) → Says words c → asked words ≡ Ok (Run args) →
         IsEnd (status_of c) → ShowsRunOf c args }
@@ -138,8 +138,8 @@ pub fn traces_are_judged()
 /// Where the words ask for a verdict, and the files say that the program, the script and the trace of a run of these, as `run`
 /// and `trace` make one, are held within their limits, the verdict is yes, or memory was refused, or a fault was counted.
 pub fn traces_of_runs_pass()
-    ensures { (job : JobParts) (book : BookView) (state : PlainState) (words : List (List ℕ)) (c : Call) (args : VerifyArgs)
-        (text : List ℕ) → IsRunOf job book state → IsValid book.history → Says words c → asked words ≡ Ok (Verify args) →
+    ensures { (workers : ℕ) (job : JobParts) (book : BookView) (state : PlainState) (words : List (List ℕ)) (c : Call) (args : VerifyArgs)
+        (text : List ℕ) → IsRunOf workers job book state → IsValid book.history → Says words c → asked words ≡ Ok (Verify args) →
         IsHeld ProgramFile c args.file text → IsTextOf text job.program → IsScriptFor c args.probes job.script →
         IsHeld TraceFile c args.trace (trace book.history) →
         ((status_of c ≡ DoneStatus) ⊎ (status_of c ≡ NoMemoryStatus)) ⊎ CountedFault c }
@@ -181,12 +181,12 @@ pub fn drills_are_determined()
         IsUnplayed (job_of program script args.fuel args.quantum) (script_of bytes) fault → StopsWith (status_of c) c fault }
 {}
 
-/// What happens in a run is fixed by its job, as `run`, `trace` and `mill` make one: two runs that are over have one history, and
-/// one that isn't over has the first events of one that is.
+/// What happens in a run by one worker is fixed by its job, as `run`, `trace` and `mill` make one: two such runs that are over have
+/// one history, and one that isn't over has the first events of one that is.
 pub fn runs_have_one_history()
-    ensures whole { (job : JobParts) (a b : BookView) (s t : PlainState) → IsRunOf job a s → IsRunOf job b t →
+    ensures whole { (job : JobParts) (a b : BookView) (s t : PlainState) → IsRunOf 1 job a s → IsRunOf 1 job b t →
         IsWholeSolo a.job a.history.events → IsWholeSolo b.job b.history.events → a.history.events ≡ b.history.events }
-    ensures part { (job : JobParts) (a b : BookView) (s t : PlainState) → IsRunOf job a s → IsRunOf job b t →
+    ensures part { (job : JobParts) (a b : BookView) (s t : PlainState) → IsRunOf 1 job a s → IsRunOf 1 job b t →
         IsWholeSolo a.job a.history.events → BeginsWith a.history.events b.history.events }
 {}
 

@@ -14,11 +14,11 @@ mod reason_line;
 mod report;
 mod rounds;
 mod running;
+mod sharing;
 mod silent;
 mod top;
 mod typing;
 mod words;
-mod writing;
 
 pub use laws::{
     bad_lines_stop_drills, bad_probes_are_refused, bad_probes_stop_drills, bad_probes_stop_runs,
@@ -30,5 +30,6 @@ pub use laws::{
 };
 pub use program::command;
 pub use reason_line::reason;
-pub use report::{Gate, Report, Role, Status};
+pub use report::{Report, Role, Status};
 pub use top::stab;
+pub use worker_lease::Gate;

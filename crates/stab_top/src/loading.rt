@@ -1,6 +1,6 @@
 //! Loads the files that a call reads.
 ghost use Rattle.std.specs.Prelude.{◌≡◌, IfOk, IfErr};
-ghost use Rattle.stab_top.specs.Device.{device};
+ghost use Rattle.sink_lines.specs.Device.{device};
 ghost use Rattle.stab_top.specs.Loading.{blamed, LoadRefused, Loads};
 ghost use Rattle.stab_top.specs.Reading.{Blames};
 ghost use Rattle.stab_top.specs.Reason.{blames_file};

@@ -11,21 +11,37 @@ ghost use Rattle.stab_top.specs.Reading.{BytesRefused, program_form};
 
 use crate::reading::{Given, program_of};
 use crate::report::{Report, Status};
-use crate::running::run_program;
+use crate::running::{Means, run_program};
 use mill_text::{mill_script, mill_text};
 use stab_base::NoMemory;
 use stab_files::Sink;
 use stab_words::MillArgs;
 use std::alloc::Global;
+use std::sync::Wait;
+use std::thread::Threads;
+use worker_lease::Gate;
 
 /// Runs the mill of this size, and writes what it shows and how many undos there were.
-pub fn run_mill<K: Sink>(alloc: Global, args: &MillArgs, sink: &mut K) -> Report
+pub fn run_mill<R: Threads + Wait + Sync, K: Sink, G: Gate + Sync>(
+    rt: &R,
+    alloc: Global,
+    args: &MillArgs,
+    gate: &G,
+    sink: &mut K,
+) -> Report
     requires size { IsUpTo most_size args.now.size }
     requires within { IsRunWithin args.now.workers args.now.fuel args.now.quantum }
     ensures { MillEnds result.status args.now (outcome_of K.told K.faults sink.old sink.new result) }
 {
     match mill(alloc, args.size) {
-        Ok(given) => run_program(alloc, given, args.fuel, args.quantum, Some(args.size), sink),
+        Ok(given) => {
+            let means = Means {
+                workers: args.workers,
+                fuel: args.fuel,
+                quantum: args.quantum,
+            };
+            run_program(rt, alloc, given, means, Some(args.size), gate, sink)
+        }
         Err(report) => report,
     }
 }

@@ -4,14 +4,14 @@ ghost use Rattle.std.specs.IoError.{error_kind};
 ghost use Rattle.std.specs.Vec.Iter.{into_iter_items};
 ghost use Rattle.stab_top.specs.Call.{Says, call_of};
 ghost use Rattle.stab_top.specs.Command.{EndsWith, EndsWithoutWords, Executes, execution_of};
-ghost use Rattle.stab_top.specs.Device.{Rests, Writes, device};
+ghost use Rattle.sink_lines.specs.Device.{Rests, Writes, device};
 ghost use Rattle.stab_top.specs.Ending.{outcome_of};
 ghost use Rattle.stab_top.specs.Reading.{Blames};
 ghost use Rattle.stab_top.specs.Reason.{blame_of, no_blame, reason_text, status_number};
 ghost use Rattle.stab_top.specs.declared.report.Status.TheVariants.{BadWords, NoMemory as OutOfMemory};
 
 use crate::reason_line::reason;
-use crate::report::{Gate, Report, Status};
+use crate::report::{Report, Status};
 use crate::top::stab;
 use stab_base::NoMemory;
 use stab_files::{Files, Sink};
@@ -20,6 +20,7 @@ use std::env::Args;
 use std::io::{self, ErrorKind};
 use std::sync::Wait;
 use std::thread::Threads;
+use worker_lease::Gate;
 
 /// A gate at which no worker waits.
 struct OpenGate;

@@ -2,7 +2,7 @@
 ghost use Rattle.std.specs.Prelude.{◌≡◌, ◌≤◌, [], length, IfOk, IfErr};
 ghost use Rattle.stab_code.specs.Limits.{max_script};
 ghost use Rattle.stab_text.specs.Text.{IsTextOf};
-ghost use Rattle.stab_top.specs.Device.{device};
+ghost use Rattle.sink_lines.specs.Device.{device};
 ghost use Rattle.stab_top.specs.Loading.{max_bytes};
 ghost use Rattle.stab_top.specs.Reading.{AreGiven, AreRefused, BytesRefused, Holds, ReadRefused, probes_form, program_form, trace_form};
 ghost use Rattle.stab_top.specs.declared.report.Role.TheVariants.{Probes as ProbesFile, Program as ProgramFile, Trace as TraceFile};

@@ -265,8 +265,3 @@ impl Report {
         }
     }
 }
-
-/// Is called by a worker before each commit.
-pub trait Gate {
-    fn before_commit(&self, worker: u32);
-}

@@ -4,7 +4,7 @@ ghost use Rattle.stab_journal.specs.Due.{due};
 ghost use Rattle.book_text.specs.Written.{released_lines};
 ghost use Rattle.lone_worker.specs.Desk.{IsUnlent};
 ghost use Rattle.lone_worker.specs.Running.{IsLater};
-ghost use Rattle.stab_top.specs.Rounds.{IsBetween, ReleaseSays, RoundSays};
+ghost use Rattle.stab_top.specs.Rounds.{ReleaseSays, RoundSays};
 
 use commit_book::Book;
 use lone_worker::{RunEnd, run};
@@ -29,7 +29,7 @@ pub enum RoundEnd {
 /// Runs the book until no thread can step, the fuel is used up, or printed values are due. These are then released. `lines` then
 /// has what was released, and nothing else.
 pub fn round(book: &mut Book, lines: &mut Vec<u8>) -> RoundEnd
-    requires { IsBetween book.old }
+    requires { IsUnlent book.old }
     ensures later { IsLater book.old book.new }
     ensures unlent { IsUnlent book.new }
     ensures says { RoundSays result book.old book.new }

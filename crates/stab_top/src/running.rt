@@ -3,74 +3,91 @@ ghost use Rattle.std.specs.Prelude.{◌≡◌, ◌≤◌, length, IfErr, IfOk};
 ghost use Rattle.stab_code.specs.JobParts.{job_of};
 ghost use Rattle.stab_code.specs.Limits.{max_script};
 ghost use Rattle.stab_words.specs.Command.{most_fuel, most_quantum};
-ghost use Rattle.stab_words.specs.Within.{IsUpTo};
+ghost use Rattle.stab_words.specs.Within.{IsRunWithin, IsUpTo};
 ghost use Rattle.commit_book.specs.Book.{IsAtStart};
 ghost use Rattle.stab_top.specs.declared.report.Status.TheVariants.{NoMemory as OutOfMemory};
-ghost use Rattle.stab_top.specs.Device.{Rests, device};
+ghost use Rattle.sink_lines.specs.Device.{Rests, device};
 ghost use Rattle.stab_top.specs.Ending.{AsReleased, AtTheEnd, RunEnds, outcome_of, text_with};
 ghost use Rattle.stab_top.specs.Playing.{IsTextBehind, WritesOf};
 
-use crate::playing::{Stop, play};
 use crate::reading::Given;
 use crate::report::{Report, Status};
+use crate::sharing::{Played, run_book};
 use crate::silent::Silent;
-use crate::writing::put_lines;
 use book_text::rest_text;
 use commit_book::Book;
+use sink_lines::put_lines;
 use stab_base::NoMemory;
 use stab_code::Job;
 use stab_files::{Sink, SinkFail};
 use std::alloc::Global;
-use std::sync::Arc;
+use std::sync::{Arc, Wait};
+use std::thread::Threads;
 use trace_text::{TraceWriteFault, write_trace};
+use worker_lease::Gate;
+use worker_rounds::Stop;
+
+/// By how many workers a job is run, and its fuel and its quantum.
+#[derive(Clone, Copy)]
+pub struct Means {
+    pub workers: u32,
+    pub fuel: u64,
+    pub quantum: u32,
+}
 
 /// Runs the program, and writes what it shows: the lines of printed values as soon as they are released, and the rest at the end.
 /// The run of a mill of this size, if it is one, has a last line of its own.
-pub fn run_program<K: Sink>(
+pub fn run_program<R: Threads + Wait + Sync, K: Sink, G: Gate + Sync>(
+    rt: &R,
     alloc: Global,
     given: Given,
-    fuel: u64,
-    quantum: u32,
+    means: Means,
     size: Option<u32>,
+    gate: &G,
     sink: &mut K,
 ) -> Report
-    requires fuel { IsUpTo most_fuel fuel }
-    requires quantum { IsUpTo most_quantum quantum }
+    requires within { IsRunWithin means.workers means.fuel means.quantum }
     requires few { length given.script.items ≤ max_script }
-    ensures { RunEnds (AsReleased (text_with size)) result.status (job_of given.program given.script.items fuel quantum)
+    ensures { RunEnds (AsReleased (text_with size)) means.workers result.status
+        (job_of given.program given.script.items means.fuel means.quantum)
         (outcome_of K.told K.faults sink.old sink.new result) }
 {
-    let Ok(mut book) = begun(alloc, given, fuel, quantum) else {
+    let Ok(book) = begun(alloc, given, means.fuel, means.quantum) else {
         return Report::bare(Status::NoMemory);
     };
-    match play(alloc, &mut book, sink) {
+    let Played { book, end } = run_book(rt, alloc, book, means.workers, gate, sink);
+    match end {
         Ok(status) => {
             let rest = rest_with(alloc, &book, size);
             Report::ending(write_rest(status, rest, sink), book)
         }
-        Err(Stop::SinkFault) => Report::ending(Status::SinkFault, book),
-        Err(Stop::NoMemory) => Report::ending(Status::NoMemory, book),
+        Err(stop) => match stop {
+            Stop::SinkFault => Report::ending(Status::SinkFault, book),
+            Stop::NoMemory => Report::ending(Status::NoMemory, book),
+        },
     }
 }
 
 /// Runs the program, and writes the trace of the run at its end.
-pub fn trace_program<K: Sink>(
+pub fn trace_program<R: Threads + Wait + Sync, K: Sink, G: Gate + Sync>(
+    rt: &R,
     alloc: Global,
     given: Given,
-    fuel: u64,
-    quantum: u32,
+    means: Means,
+    gate: &G,
     sink: &mut K,
 ) -> Report
-    requires fuel { IsUpTo most_fuel fuel }
-    requires quantum { IsUpTo most_quantum quantum }
+    requires within { IsRunWithin means.workers means.fuel means.quantum }
     requires few { length given.script.items ≤ max_script }
-    ensures { RunEnds AtTheEnd result.status (job_of given.program given.script.items fuel quantum)
+    ensures { RunEnds AtTheEnd means.workers result.status
+        (job_of given.program given.script.items means.fuel means.quantum)
         (outcome_of K.told K.faults sink.old sink.new result) }
 {
-    let Ok(mut book) = begun(alloc, given, fuel, quantum) else {
+    let Ok(book) = begun(alloc, given, means.fuel, means.quantum) else {
         return Report::bare(Status::NoMemory);
     };
-    let status = match play(alloc, &mut book, &mut Silent) {
+    let Played { book, end } = run_book(rt, alloc, book, means.workers, gate, &mut Silent);
+    let status = match end {
         Ok(status) => status,
         Err(Stop::SinkFault) => unreachable!(),
         Err(Stop::NoMemory) => return Report::bare(Status::NoMemory),

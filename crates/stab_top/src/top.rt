@@ -13,8 +13,8 @@ use crate::judging::judge;
 use crate::loading::load;
 use crate::milling::run_mill;
 use crate::reading::{Given, read_probes_file, read_program_file, read_run, read_trace_file};
-use crate::report::{Gate, Report, Role, Status};
-use crate::running::{run_program, trace_program};
+use crate::report::{Report, Role, Status};
+use crate::running::{Means, run_program, trace_program};
 use crate::typing::types_file;
 use crate::words::is_built;
 use stab_code::Program;
@@ -23,12 +23,14 @@ use stab_words::{DrillArgs, Name, Request, RunArgs, VerifyArgs, WordFault, read_
 use std::alloc::Global;
 use std::sync::Wait;
 use std::thread::Threads;
+use worker_lease::Gate;
 
 /// Does what the words ask for, and reports how it ended. `run FILE` runs the program of the file and writes what it shows;
 /// `trace FILE` runs it and writes the trace; `mill SIZE` runs a program of this size; `verify FILE TRACE` writes the verdict on a
 /// trace; `drill FILE SCRIPT` plays a schedule that is written by hand, and writes what its lines did and what the program then
 /// shows; `check FILE` writes how many functions and texts the program has; `types FILE` writes how many functions it has where it
-/// is typed. One worker runs on the calling thread, and calls no gate.
+/// is typed. A run, a trace and a mill are made by as many workers as the words say: one runs on the calling thread, and calls no
+/// gate; of several each runs in a thread of its own, where one can be made, and calls the gate before each commit. So it may wait.
 pub fn stab<R: Threads + Wait + Sync, F: Files, K: Sink, G: Gate + Sync>(
     rt: &R,
     alloc: Global,
@@ -41,28 +43,21 @@ pub fn stab<R: Threads + Wait + Sync, F: Files, K: Sink, G: Gate + Sync>(
         (outcome_of K.told K.faults sink.old sink.new result)) }
     ensures kept { F.held files.new ≡ F.held files.old }
 {
-    answer(alloc, words, files, sink)
-}
-
-// The answer, for which nothing waits.
-fn answer<F: Files, K: Sink>(alloc: Global, words: &[String], files: &mut F, sink: &mut K) -> Report
-    ensures says { Says (each string_bytes words.now) (call_of F.held F.faults files.old files.new
-        (outcome_of K.told K.faults sink.old sink.new result)) }
-    ensures kept { F.held files.new ≡ F.held files.old }
-{
     match read_words(alloc, words) {
-        Ok(request) => answer_request(alloc, &request, files, sink),
+        Ok(request) => answer_request(rt, alloc, &request, files, sink, gate),
         Err(WordFault::NoMemory) => Report::bare(Status::NoMemory),
         Err(fault) => Report::bad_words(fault),
     }
 }
 
 // Does what is asked for, where it is built.
-fn answer_request<F: Files, K: Sink>(
+fn answer_request<R: Threads + Wait + Sync, F: Files, K: Sink, G: Gate + Sync>(
+    rt: &R,
     alloc: Global,
     request: &Request,
     files: &mut F,
     sink: &mut K,
+    gate: &G,
 ) -> Report
     requires { IsWithin request.now }
     ensures says { RequestSays (is_built request.now) (call_of F.held F.faults files.old files.new
@@ -73,9 +68,9 @@ fn answer_request<F: Files, K: Sink>(
         return Report::bare(Status::NotBuilt);
     }
     match request {
-        Request::Run(args) => run_file(alloc, args, files, sink),
-        Request::Trace(args) => trace_file(alloc, args, files, sink),
-        Request::Mill(args) => run_mill(alloc, args, sink),
+        Request::Run(args) => run_file(rt, alloc, args, files, sink, gate),
+        Request::Trace(args) => trace_file(rt, alloc, args, files, sink, gate),
+        Request::Mill(args) => run_mill(rt, alloc, args, gate, sink),
         Request::Verify(args) => verify_file(alloc, args, files, sink),
         Request::Drill(args) => drill_file(alloc, args, files, sink),
         Request::Check(file) => check_file(alloc, file, files, sink),
@@ -85,24 +80,33 @@ fn answer_request<F: Files, K: Sink>(
 }
 
 // Runs the program of a file with a script, and writes what it shows.
-fn run_file<F: Files, K: Sink>(alloc: Global, args: &RunArgs, files: &mut F, sink: &mut K) -> Report
+fn run_file<R: Threads + Wait + Sync, F: Files, K: Sink, G: Gate + Sync>(
+    rt: &R,
+    alloc: Global,
+    args: &RunArgs,
+    files: &mut F,
+    sink: &mut K,
+    gate: &G,
+) -> Report
     requires { IsRunWithin args.now.workers args.now.fuel args.now.quantum }
     ensures says { RunSays (AsReleased shown_by) (call_of F.held F.faults files.old files.new
         (outcome_of K.told K.faults sink.old sink.new result)) args.now }
     ensures kept { F.held files.new ≡ F.held files.old }
 {
     match read_run(alloc, args, files) {
-        Ok(given) => run_program(alloc, given, args.fuel, args.quantum, None, sink),
+        Ok(given) => run_program(rt, alloc, given, means_of(args), None, gate, sink),
         Err(report) => report,
     }
 }
 
 // Runs the program of a file with a script, and writes the trace.
-fn trace_file<F: Files, K: Sink>(
+fn trace_file<R: Threads + Wait + Sync, F: Files, K: Sink, G: Gate + Sync>(
+    rt: &R,
     alloc: Global,
     args: &RunArgs,
     files: &mut F,
     sink: &mut K,
+    gate: &G,
 ) -> Report
     requires { IsRunWithin args.now.workers args.now.fuel args.now.quantum }
     ensures says { RunSays AtTheEnd (call_of F.held F.faults files.old files.new
@@ -110,8 +114,18 @@ fn trace_file<F: Files, K: Sink>(
     ensures kept { F.held files.new ≡ F.held files.old }
 {
     match read_run(alloc, args, files) {
-        Ok(given) => trace_program(alloc, given, args.fuel, args.quantum, sink),
+        Ok(given) => trace_program(rt, alloc, given, means_of(args), gate, sink),
         Err(report) => report,
+    }
+}
+
+fn means_of(args: &RunArgs) -> Means
+    ensures { (result.workers ≡ args.now.workers) × (result.fuel ≡ args.now.fuel) × (result.quantum ≡ args.now.quantum) }
+{
+    Means {
+        workers: args.workers,
+        fuel: args.fuel,
+        quantum: args.quantum,
     }
 }
 

@@ -1,4 +1,4 @@
-use Rattle.std.proofs.Common.{subst}
+use Rattle.std.proofs.Common.{refl, subst}
 use Rattle.stab_code.specs.JobParts.{JobParts}
 use Rattle.lone_worker.specs.Solo.{IsWholeSolo}
 use Rattle.lone_worker.proofs.OneRun.{one_whole, whole_begins}
@@ -10,4 +10,4 @@ returns-clause-whole c = λ job a b s t here there first second.
 
 pub returns-clause-part : goal.returns-clause-part
 returns-clause-part c = λ job a b s t here there first.
-    whole_begins job there.solo.0 a.history.events b.history.events (subst (λ (j : JobParts). IsWholeSolo j a.history.events) here.of_job first) there.solo.1
+    whole_begins job (there.solo refl).0 a.history.events b.history.events (subst (λ (j : JobParts). IsWholeSolo j a.history.events) here.of_job first) (there.solo refl).1

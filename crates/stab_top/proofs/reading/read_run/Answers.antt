@@ -1,6 +1,6 @@
 use Rattle.std.proofs.Common.{subst}
 use Rattle.std.proofs.lemmas.Result.{err_from_is_err_and}
-use Rattle.stab_top.specs.Device.{device}
+use Rattle.sink_lines.specs.Device.{device}
 use Rattle.stab_top.specs.Reading.{Holds, ReadRefused, probes_form, program_form}
 use Rattle.stab_top.proofs.Given.{no_script, program_refused, script_refused, with_script}
 use Rattle.stab_top.proofs.reading.read_run.Goals as goal

@@ -1,5 +1,5 @@
 use Rattle.std.proofs.Common.{inr, subst}
-use Rattle.stab_top.specs.Device.{device}
+use Rattle.sink_lines.specs.Device.{device}
 use Rattle.stab_top.specs.Reading.{Holds, trace_form}
 use Rattle.stab_top.proofs.top.judge_file.Goals as goal
 

@@ -1,6 +1,6 @@
 use Rattle.std.proofs.Common.{sym, subst}
 use Rattle.stab_top.specs.Call.{ScriptSays, TraceSays, call_of}
-use Rattle.stab_top.specs.Device.{device}
+use Rattle.sink_lines.specs.Device.{device}
 use Rattle.stab_top.specs.Ending.{outcome_of}
 use Rattle.stab_top.specs.Reading.{Holds, probes_form}
 use Rattle.stab_top.proofs.ReadFirst.{script_read}

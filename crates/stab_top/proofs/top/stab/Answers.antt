@@ -2,7 +2,7 @@ use Rattle.std.proofs.Common.{refl, string_bytes, map as each}
 use Rattle.stab_top.specs.Call.{call_of}
 use Rattle.stab_top.specs.Ending.{outcome_of}
 use Rattle.stab_top.proofs.Wording.{no_memory_call}
-use Rattle.stab_top.proofs.top.answer.Goals as goal
+use Rattle.stab_top.proofs.top.stab.Goals as goal
 
 pub returns-in-Err-NoMemory-clause-says : goal.returns-in-Err-NoMemory-clause-says
 returns-in-Err-NoMemory-clause-says g c =
