@@ -28,7 +28,7 @@ use Rattle.stab_top.specs.Reading.{AreGiven}
 -- The journal without its undone steps is, in order, a run of the plain language from the start state that ends in exactly the
 -- book's threads, channels, references and output;
 -- each granted stabilize undoes its section's entry and precisely the steps that depend on it;
--- and no step that stands before a cut, or on which a pin depends, is ever undone.
+-- and no step before a cut, and no step on which a pin depends, is ever undone.
 pub record IsOfTheLanguage (book : BookView) : Type 0 where
   pub run : HasRun book
   pub undos : (first after : List Event) (worker : ℕ) (t : ThreadId) (m : Seq)
@@ -39,7 +39,7 @@ pub record IsOfTheLanguage (book : BookView) : Type 0 where
   pub pins : (first after : List Event) → book.history.events ≡ first ++ after → (n pin : Numbered) → StandsIn (run_of first) n
       → is_pin pin.label ≡ true → Reaches (run_of first) n.seq.0 pin → StandsIn (survivors book.history) n
 
--- a request for which a program is run, by workers or by a schedule that is written by hand
+-- a request that runs a program, by workers or by a schedule written by hand
 abbrev pub AsksForRun : Request → Type 0
 AsksForRun (Run args) = Unit {0}
 AsksForRun (Trace args) = Unit {0}
@@ -60,9 +60,9 @@ pub record IsDrillOfOne (book : BookView) : Type 0 where
   pub drilled : IsDrilledByOne book.job last
   pub events : last.history.events ≡ book.history.events
 
--- The call ran the program of the file, with the script that the words name and their fuel and quantum, and reports the book of
--- that run, of which the above holds; the status says how the run ended; with one worker the run is a drill of one worker; and
--- what it shows was written, and nothing else.
+-- The call ran the program in the file, with the script, the fuel and the quantum that the words name, and reports the book of
+-- that run, of which the above is true; the status says how the run ended; with one worker the run is a drill of one worker; and
+-- exactly what the run shows was written.
 pub record ShowsRunOf (c : Call) (args : RunArgs) : Type 0 where
   pub program : ProgramParts
   pub script : List ℤ

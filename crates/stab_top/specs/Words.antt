@@ -1,4 +1,4 @@
--- Which words are built.
+-- Which requests are built.
 use Rattle.std.specs.Prelude.{Bool, true, false}
 use Rattle.stab_words.specs.declared.request.Request.{Request}
 use Rattle.stab_words.specs.declared.request.Request.TheVariants.{Check, Drill, Mill, Run, Trace, Types, Verify}

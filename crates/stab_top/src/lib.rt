@@ -1,4 +1,4 @@
-//! The one call that the program makes: from its words, its files and its sink to what it reports.
+//! The program's one call: it takes the words, the files and a sink, and returns a report.
 #![tactic(auto)]
 
 mod checking;

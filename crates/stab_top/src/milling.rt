@@ -21,7 +21,7 @@ use std::sync::Wait;
 use std::thread::Threads;
 use worker_lease::Gate;
 
-/// Runs the mill of this size, and writes what it shows and how many undos there were.
+/// Runs the mill of this size, and writes what it shows and then its size and the number of undos.
 pub fn run_mill<R: Threads + Wait + Sync, K: Sink, G: Gate + Sync>(
     rt: &R,
     alloc: Global,
@@ -46,7 +46,7 @@ pub fn run_mill<R: Threads + Wait + Sync, K: Sink, G: Gate + Sync>(
     }
 }
 
-// The program and the script of the mill, or the report of a call that can't have them.
+// The program and the script of the mill, or the report of why they couldn't be made.
 fn mill(alloc: Global, size: u32) -> Result<Given, Report>
     requires { IsUpTo most_size size }
     ensures program { IfOk result (λ given. IsTextOf (mill_text size) given.program) }

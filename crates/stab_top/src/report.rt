@@ -19,36 +19,36 @@ use trace_verify::Verdict;
 /// How a call ended. Its number is the program's exit status.
 #[derive(Clone, Copy, PartialEq, Eq, Debug)]
 pub enum Status {
-    /// The run came to rest, and every thread ended without a fault; or the program was told of, or is typed, the drill was played to
-    /// its end, or the trace is one of a run of the program.
+    /// The run came to rest, and every thread ended without a fault. For `check`, its line was written; for `types`, the program
+    /// is typed; for `drill`, the script was played to its end; for `verify`, the trace is that of a run of the program.
     Done,
-    /// The run came to rest, and a thread failed or waits.
+    /// The run came to rest, and some thread failed or waits.
     Held,
-    /// The words name no command in its form.
+    /// The words aren't a valid command line, or an argument isn't text.
     BadWords,
-    /// The file is no program.
+    /// The program's file isn't a valid program.
     BadText,
-    /// A file that the words name isn't there.
+    /// A file that the words name doesn't exist.
     NoFile,
-    /// A file is larger than its limit.
+    /// A file is larger than `Role::max_bytes`.
     TooBig,
     /// Reading a file failed.
     FileFault,
     /// Writing the output failed.
     SinkFault,
-    /// The run has used up its fuel.
+    /// The run used up its fuel, and a thread is still ready.
     Spent,
-    /// The memory that the call needs isn't there.
+    /// The call ran out of memory.
     NoMemory,
-    /// The probe file isn't in its grammar.
+    /// The probe file is malformed.
     BadProbes,
-    /// The trace isn't in its grammar.
+    /// The trace file is malformed.
     BadTrace,
-    /// The drill script isn't in its grammar, or a line of it can't be played.
+    /// The drill script is malformed, or one of its lines can't be played.
     BadScript,
-    /// The trace is no run of the program.
+    /// The trace isn't that of a run of the program.
     No,
-    /// What the words ask for isn't built yet.
+    /// The words ask for a command that isn't built yet.
     NotBuilt,
     /// A function of the program isn't typed.
     Untyped,
@@ -62,7 +62,7 @@ impl Status {
         self as u8
     }
 
-    /// The name that the line of reasons gives.
+    /// The name of the status in the reason line.
     pub fn name(self) -> &'static str
         ensures { result.now ≡ status_name self }
     {
@@ -97,7 +97,7 @@ pub enum Role {
 }
 
 impl Role {
-    /// The word by which a reason names the role.
+    /// The word for the role in the reason line.
     pub fn name(self) -> &'static str
         ensures { result.now ≡ role_name self }
     {
@@ -109,7 +109,7 @@ impl Role {
         }
     }
 
-    /// How many bytes such a file may have.
+    /// The largest size of such a file, in bytes.
     pub fn max_bytes(self) -> u64
         ensures { result ≡ max_bytes self }
     {
@@ -120,33 +120,33 @@ impl Role {
     }
 }
 
-/// How a call ended, with what it leaves.
+/// How a call ended, and what it left.
 #[derive(Drop)]
 pub struct Report {
     pub status: Status,
-    /// The book of a run or a drill, also where its output couldn't be written. Where a run wanted memory it is there once the run
-    /// had begun.
+    /// The book of a run or a drill, even if its output couldn't be written. A `run` or `mill` that runs out of memory leaves its
+    /// book once the run has begun; `trace` and `drill` then leave none.
     pub book: Option<Book>,
     /// Why the words were refused.
     pub words_fault: Option<WordFault>,
-    /// Why the program's file is no program.
+    /// Why the program's file isn't a valid program.
     pub text_fault: Option<TextFault>,
-    /// The file that is missing, too big or couldn't be read.
+    /// Which file is missing, too big or unreadable.
     pub file: Option<Role>,
-    /// Why the probe file isn't one.
+    /// What is wrong with the probe file.
     pub probes_fault: Option<ProbesFault>,
-    /// Why the trace isn't one.
+    /// What is wrong with the trace file.
     pub trace_fault: Option<TraceFault>,
-    /// Why the script isn't one, or can't be played.
+    /// What is wrong with the drill script, or which line of it can't be played.
     pub script_fault: Option<DrillFault>,
     /// Why the program isn't typed.
     pub type_fault: Option<TypeFault>,
-    /// The verdict on a trace, also where it couldn't be written.
+    /// The verdict on a trace, even if it couldn't be written.
     pub verdict: Option<Verdict>,
 }
 
 impl Report {
-    /// The report of a run, or of a drill.
+    /// The report of a run or a drill, with its book.
     pub(crate) fn ending(status: Status, book: Book) -> Report
         ensures status { result.status ≡ status }
         ensures book { result.book ≡ Some book }
@@ -158,7 +158,7 @@ impl Report {
         }
     }
 
-    /// The report of a call that leaves no book, where nothing is to blame.
+    /// A report with no book and no cause.
     pub(crate) fn bare(status: Status) -> Report
         ensures status { result.status ≡ status }
         ensures blames { Blames result no_blame }
@@ -177,7 +177,7 @@ impl Report {
         }
     }
 
-    /// The report of a file that was refused.
+    /// The report that a file couldn't be loaded.
     pub(crate) fn bad_file(status: Status, file: Option<Role>) -> Report
         ensures status { result.status ≡ status }
         ensures blames { Blames result (blames_file file) }
@@ -188,7 +188,7 @@ impl Report {
         }
     }
 
-    /// The report of words that have a fault.
+    /// The report that the words are wrong.
     pub(crate) fn bad_words(fault: WordFault) -> Report
         ensures status { result.status ≡ BadWordsStatus }
         ensures blames { Blames result (blames_words fault) }
@@ -199,7 +199,7 @@ impl Report {
         }
     }
 
-    /// The report of a file that is no program.
+    /// The report that the file isn't a program.
     pub(crate) fn bad_text(fault: TextFault) -> Report
         ensures status { result.status ≡ BadTextStatus }
         ensures blames { Blames result (blames_text fault) }
@@ -210,7 +210,7 @@ impl Report {
         }
     }
 
-    /// The report of a file that is no probe file.
+    /// The report that the probe file is malformed.
     pub(crate) fn bad_probes(fault: ProbesFault) -> Report
         ensures status { result.status ≡ BadProbesStatus }
         ensures blames { Blames result (blames_probes fault) }
@@ -221,7 +221,7 @@ impl Report {
         }
     }
 
-    /// The report of a file that is no trace.
+    /// The report that the trace file is malformed.
     pub(crate) fn bad_trace(fault: TraceFault) -> Report
         ensures status { result.status ≡ BadTraceStatus }
         ensures blames { Blames result (blames_trace fault) }
@@ -243,7 +243,7 @@ impl Report {
         }
     }
 
-    /// The report of a program of which this is the first function that isn't typed.
+    /// The report that the program isn't typed, with its first function that isn't.
     pub(crate) fn untyped(first: FnId) -> Report
         ensures status { result.status ≡ UntypedStatus }
         ensures blames { Blames result (blames_types (UntypedFault first)) }
@@ -254,7 +254,7 @@ impl Report {
         }
     }
 
-    /// The report of a trace that was judged.
+    /// The report of the verdict on a trace.
     pub(crate) fn judged(status: Status, verdict: Verdict) -> Report
         ensures status { result.status ≡ status }
         ensures reported { Blames result (names_verdict verdict) }

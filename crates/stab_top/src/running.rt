@@ -27,7 +27,7 @@ use trace_text::{TraceWriteFault, write_trace};
 use worker_lease::Gate;
 use worker_rounds::Stop;
 
-/// By how many workers a job is run, and its fuel and its quantum.
+/// How a job is run: by how many workers, with which fuel for the whole run, and with which quantum (pure steps in one event).
 #[derive(Clone, Copy)]
 pub struct Means {
     pub workers: u32,
@@ -36,7 +36,7 @@ pub struct Means {
 }
 
 /// Runs the program, and writes what it shows: the lines of printed values as soon as they are released, and the rest at the end.
-/// The run of a mill of this size, if it is one, has a last line of its own.
+/// With a `size`, the run is that of the mill of this size, and one more line gives the size and the number of undos.
 pub fn run_program<R: Threads + Wait + Sync, K: Sink, G: Gate + Sync>(
     rt: &R,
     alloc: Global,
@@ -68,7 +68,7 @@ pub fn run_program<R: Threads + Wait + Sync, K: Sink, G: Gate + Sync>(
     }
 }
 
-/// Runs the program, and writes the trace of the run at its end.
+/// Runs the program, and writes the trace when the run is over.
 pub fn trace_program<R: Threads + Wait + Sync, K: Sink, G: Gate + Sync>(
     rt: &R,
     alloc: Global,
@@ -99,7 +99,7 @@ pub fn trace_program<R: Threads + Wait + Sync, K: Sink, G: Gate + Sync>(
     }
 }
 
-// The book of a run that begins.
+// A new book for the job, before its first event.
 fn begun(alloc: Global, given: Given, fuel: u64, quantum: u32) -> Result<Book, NoMemory>
     requires fuel { IsUpTo most_fuel fuel }
     requires quantum { IsUpTo most_quantum quantum }
@@ -113,7 +113,7 @@ fn begun(alloc: Global, given: Given, fuel: u64, quantum: u32) -> Result<Book, N
     Book::new(alloc, job)
 }
 
-// What is still to be written of a run that is over.
+// What is left to write when the run is over, with the mill's line if there is a size.
 fn rest_with(alloc: Global, book: &Book, size: Option<u32>) -> Result<Vec<u8>, NoMemory>
     ensures { IfOk result (λ text. IsTextBehind size book.now text.items) }
 {
@@ -126,7 +126,7 @@ fn rest_with(alloc: Global, book: &Book, size: Option<u32>) -> Result<Vec<u8>, N
     Ok(text)
 }
 
-// Writes what is still to be written, where there was memory for it. The status is that of the end.
+// Writes the rest of the text, if there was memory for it. If all is written, the status is the one given.
 fn write_rest<K: Sink>(status: Status, rest: Result<Vec<u8>, NoMemory>, sink: &mut K) -> Status
     ensures written { IfOk rest (λ text. WritesOf status result text.items
         (device K.told K.faults sink.old) (device K.told K.faults sink.new)) }

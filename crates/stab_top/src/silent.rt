@@ -1,9 +1,9 @@
-//! A sink that keeps nothing.
+//! A sink that discards everything.
 ghost use Rattle.std.specs.Prelude.{None};
 
 use stab_files::{Sink, SinkFail};
 
-/// Takes each piece, and shows none. No put fails.
+/// Accepts each piece and discards it. No `put` fails.
 #[derive(Drop)]
 pub struct Silent;
 

@@ -1,4 +1,4 @@
-//! The one call that the program makes.
+//! The program's one call.
 ghost use Rattle.std.specs.Prelude.{◌≡◌, ◌≤◌, map as each, length, string_bytes};
 ghost use Rattle.stab_code.specs.Limits.{max_script};
 ghost use Rattle.stab_words.specs.Command.{most_fuel, most_quantum};
@@ -25,12 +25,13 @@ use std::sync::Wait;
 use std::thread::Threads;
 use worker_lease::Gate;
 
-/// Does what the words ask for, and reports how it ended. `run FILE` runs the program of the file and writes what it shows;
-/// `trace FILE` runs it and writes the trace; `mill SIZE` runs a program of this size; `verify FILE TRACE` writes the verdict on a
-/// trace; `drill FILE SCRIPT` plays a schedule that is written by hand, and writes what its lines did and what the program then
-/// shows; `check FILE` writes how many functions and texts the program has; `types FILE` writes how many functions it has where it
-/// is typed. A run, a trace and a mill are made by as many workers as the words say: one runs on the calling thread, and calls no
-/// gate; of several each runs in a thread of its own, where one can be made, and calls the gate before each commit. So it may wait.
+/// Carries out the command that the words name, and reports how it ended. `run FILE` runs the program in the file and writes what
+/// it shows; `trace FILE` runs it and writes the trace; `mill SIZE` runs the mill of this size; `verify FILE TRACE` writes the
+/// verdict on a trace; `drill FILE SCRIPT` plays a schedule written by hand, and writes what its lines did and then what the
+/// program shows; `check FILE` writes how many functions and texts the program has; `types FILE` writes how many functions it
+/// has, if it is typed. `run`, `trace` and `mill` use as many workers as the words say. One worker runs on the calling thread and
+/// calls no gate. Of several workers, each runs in a thread of its own, if one can be made, and calls the gate before each
+/// commit. So the call may wait.
 pub fn stab<R: Threads + Wait + Sync, F: Files, K: Sink, G: Gate + Sync>(
     rt: &R,
     alloc: Global,
@@ -50,7 +51,7 @@ pub fn stab<R: Threads + Wait + Sync, F: Files, K: Sink, G: Gate + Sync>(
     }
 }
 
-// Does what is asked for, where it is built.
+// Carries out a request, or refuses one that isn't built.
 fn answer_request<R: Threads + Wait + Sync, F: Files, K: Sink, G: Gate + Sync>(
     rt: &R,
     alloc: Global,
@@ -79,7 +80,7 @@ fn answer_request<R: Threads + Wait + Sync, F: Files, K: Sink, G: Gate + Sync>(
     }
 }
 
-// Runs the program of a file with a script, and writes what it shows.
+// Runs the program in the file with its probe script, and writes what the run shows.
 fn run_file<R: Threads + Wait + Sync, F: Files, K: Sink, G: Gate + Sync>(
     rt: &R,
     alloc: Global,
@@ -99,7 +100,7 @@ fn run_file<R: Threads + Wait + Sync, F: Files, K: Sink, G: Gate + Sync>(
     }
 }
 
-// Runs the program of a file with a script, and writes the trace.
+// Runs the program in the file with its probe script, and writes the trace.
 fn trace_file<R: Threads + Wait + Sync, F: Files, K: Sink, G: Gate + Sync>(
     rt: &R,
     alloc: Global,
@@ -129,7 +130,7 @@ fn means_of(args: &RunArgs) -> Means
     }
 }
 
-// Judges the trace of a file as one of the program of another and of a script.
+// Judges the trace in its file against the program in the file and the probe script.
 fn verify_file<F: Files, K: Sink>(
     alloc: Global,
     args: &VerifyArgs,
@@ -146,7 +147,7 @@ fn verify_file<F: Files, K: Sink>(
     }
 }
 
-// Judges the trace of a file as one of the program and of a script.
+// Judges the trace in its file against the program and the probe script.
 fn verify_program<F: Files, K: Sink>(
     alloc: Global,
     args: &VerifyArgs,
@@ -167,7 +168,7 @@ fn verify_program<F: Files, K: Sink>(
     }
 }
 
-// Judges the trace of a file as one of the program and the script.
+// Judges the trace in the file against the program and the script.
 fn judge_file<F: Files, K: Sink>(
     alloc: Global,
     trace: &Name,
@@ -187,7 +188,7 @@ fn judge_file<F: Files, K: Sink>(
     }
 }
 
-// Plays the drill of a file on the program of another and a script.
+// Plays the drill script in its file on the program in the file and the probe script.
 fn drill_file<F: Files, K: Sink>(
     alloc: Global,
     args: &DrillArgs,
@@ -206,7 +207,7 @@ fn drill_file<F: Files, K: Sink>(
     }
 }
 
-// Plays the drill of a file on the program and a script.
+// Plays the drill script in its file on the program and the probe script.
 fn drill_program<F: Files, K: Sink>(
     alloc: Global,
     args: &DrillArgs,
@@ -230,7 +231,7 @@ fn drill_program<F: Files, K: Sink>(
     }
 }
 
-// Plays the drill of a file on what is given.
+// Plays the drill script in its file on what is given.
 fn drill_given<F: Files, K: Sink>(
     alloc: Global,
     args: &DrillArgs,
@@ -251,7 +252,7 @@ fn drill_given<F: Files, K: Sink>(
     }
 }
 
-// Reads the program of a file, and writes how many functions and texts it has.
+// Reads the program in the file, and writes how many functions and texts it has.
 fn check_file<F: Files, K: Sink>(alloc: Global, file: &Name, files: &mut F, sink: &mut K) -> Report
     ensures says { CheckSays (call_of F.held F.faults files.old files.new
         (outcome_of K.told K.faults sink.old sink.new result)) file.now }

@@ -1,11 +1,11 @@
-//! Which words are built.
+//! Which requests are built.
 ghost use Rattle.std.specs.Prelude.{◌≡◌};
 ghost use Rattle.stab_top.specs.Words.{is_built};
 
 use stab_words::Request;
 
-/// Whether what the words ask for is built: a check, one of types, a verdict, the mill, a drill, or a run, of which the trace may be
-/// written. One worker runs, whatever their number.
+/// Whether the request is built: `run`, `trace`, `mill`, `verify`, `drill`, `check` or `types`. Any other gets the status
+/// NotBuilt.
 pub fn is_built(request: &Request) -> bool
     ensures { result ≡ is_built request.now }
 {
