@@ -1,4 +1,4 @@
--- What the statuses say leaves no way round a good program or a trace, nor round a text that is none.
+-- By what the statuses say, a good program or trace is accepted, and a bad text is refused.
 use Rattle.std.proofs.Common.{arith, ◌≡◌, ◌⊎◌, inl, inr, ℕ, ℤ, ◌<◌, true, List, [], ◌∷◌, ◌++◌, length, Option, Some, None, Result, Ok, Err, IfSome, IsSomeAnd, refl, sym, subst, ◌∙◌}
 use Rattle.plain_language.specs.Plain.{PlainState}
 use Rattle.commit_book.specs.Book.{BookView}
@@ -43,18 +43,18 @@ use Rattle.stab_top.specs.Typing.{TypesEnds}
 use Rattle.stab_top.specs.Call.{BuiltSays, Call, CheckSays, CountedFault, DrillSays, LastSays, OrdersSay, ReadSays, RequestSays, RunSaysBy, Says, ScriptSays, TraceSays, VerifySays, WordsSay, status_of}
 use Rattle.stab_top.specs.Complete.{Checked, IsHeld, IsHeldFor, IsRefused, IsScriptFor, Ran, WasDrilled, WasJudged, WasStuck}
 
--- what is found, where the files tell
+-- what is found, if the files say what they hold
 found_there : (files : Device (List Entry)) (name : List ℕ) (P : Option (List ℕ) → Type 0) (held : List Entry) → Finds files name P → files.told ≡ Some held → P (contents_of held name)
 found_there files name P held found told = subst (λ o. IfSome o (λ all. P (contents_of all name))) told found
 
 same_bytes : (a b : List ℕ) → ◌≡◌ {A = Option (List ℕ)} (Some a) (Some b) → a ≡ b
 same_bytes a b h = cc
 
--- the memory was refused, or a file was, for a fault that was counted
+-- memory ran out, or a file was refused for a counted fault
 abbrev pub Failed : Status → Call → Type 0
 Failed status c = (status ≡ NoMemory) ⊎ ((status ≡ FileFault) × CountedFault c)
 
--- a file that is held within the limit is refused by a fault or for want of memory
+-- a file that is held within the limit is refused only for a counted fault, or because memory ran out
 load_refused : (role : Role) (status : Status) (c : Call) (name bytes : List ℕ) → IsHeld role c name bytes → LoadRefused status role c.files name c.files_after → Failed status c
 load_refused role NoFile c name bytes is says =
     let none : contents_of is.files name ≡ None = found_there c.files name (λ found. found ≡ None) is.files says.1 is.told in
@@ -85,14 +85,14 @@ loaded_is role c name bytes loaded faults is loads =
     sym (same_bytes bytes loaded (sym is.held ∙ found_there c.files name (λ found. found ≡ Some loaded) is.files loads.held is.told))
 
 module _ {Content Fault : Type 0} (form : Form Content Fault) (c : Call) (name bytes : List ℕ) (is : IsHeld form.role c name bytes) where
-  -- where what is held has no fault, there is no other reason to refuse it
+  -- if what is held has no fault, there is no other reason to refuse it
   read_refused : ((fault : Fault) → form.HasFault bytes fault → ⊥) → ReadRefused form c.outcome.report c.files name c.files_after → Failed (status_of c) c
   read_refused none (inl (says, blames)) = load_refused form.role (status_of c) c name bytes is says
   read_refused none (inr (loaded, loads, inl have)) =
       absurd (none have.fault (subst (λ b. form.HasFault b have.fault) (loaded_is form.role c name bytes loaded c.files_after is loads) have.has))
   read_refused none (inr (loaded, loads, inr says)) = inl says.0
 
-  -- something was said of what is held; or it was refused
+  -- `Said` is true of what is held; or the call failed
   said_of : ((fault : Fault) → form.HasFault bytes fault → ⊥) → (faults : ℕ) (Said : Content → Type 0) → ReadSays form c name faults Said
       → Failed (status_of c) c ⊎ ((content : Content) × form.IsOf bytes content × Said content)
   said_of none faults Said (inl (refused, rests)) = inl (read_refused none refused)
@@ -103,7 +103,7 @@ module _ {Content Fault : Type 0} (form : Form Content Fault) (c : Call) (name b
   failed_refused fault (inl none) = inl (inr none)
   failed_refused fault (inr counted) = inr counted.1
 
-  -- what is held has a fault, for which it was refused
+  -- what is held has a fault, and was refused for it
   fault_refused : (fault : Fault) → ((content : Content) → form.IsOf bytes content → ⊥) → ((other : Fault) → form.HasFault bytes other → other ≡ fault) → (faults : ℕ) (Said : Content → Type 0)
       → ReadSays form c name faults Said → IsRefused form c fault ⊎ CountedFault c
   fault_refused fault none one faults Said (inl (inl (says, blames), rests)) = failed_refused fault (load_refused form.role (status_of c) c name bytes is says)
@@ -266,7 +266,7 @@ run_with_bad_probes words c args text name bytes program fault says (inl is) hel
 run_with_bad_probes words c args text name bytes program fault says (inr is) held of named there has =
     bad_probes_said AtTheEnd c args text program held of args.probes name bytes fault named there has (request_said words c (Trace args) says is refl)
 
--- the mill, where its text is one of a program
+-- the mill, if its text is that of a program
 pub mill_runs : (words : List (List ℕ)) (c : Call) (args : MillArgs) (program : ProgramParts) → Says words c → asked words ≡ Ok (Mill args) → IsTextOf (mill_text args.size) program → Ran (status_of c) ⊎ CountedFault c
 mill_runs words c args program says is text = by (request_said words c (Mill args) says is refl).1
   where
@@ -319,7 +319,7 @@ behind_program : (c : Call) (named : Option (List ℕ)) (script : List ℤ) (Sai
 behind_program c named script Said is (inl failed) = inl failed
 behind_program c named script Said is (inr says) = of_script c named script Said is says
 
--- a program and a script that are held are read before the trace
+-- if a program and a script are held, they are read before the trace
 trace_said : (words : List (List ℕ)) (c : Call) (args : VerifyArgs) (text : List ℕ) (program : ProgramParts) (script : List ℤ) → Says words c → asked words ≡ Ok (Verify args)
     → IsHeld roles.Program c args.file text → IsTextOf text program → IsScriptFor c args.probes script → Failed (status_of c) c ⊎ TraceSays c args.trace program script
 trace_said words c args text program script says is held of for_script =
@@ -350,7 +350,7 @@ bad_probes_refused words c args text name bytes program fault says is held of na
 
 -- ---- drills
 
--- a program and a script of probes that are held are read before the script of the drill
+-- if a program and a probe script are held, they are read before the drill script
 orders_said : (words : List (List ℕ)) (c : Call) (args : DrillArgs) (text : List ℕ) (program : ProgramParts) (script : List ℤ) → Says words c → asked words ≡ Ok (Drill args)
     → IsHeld roles.Program c args.file text → IsTextOf text program → IsScriptFor c args.probes script → Failed (status_of c) c ⊎ OrdersSay c args program script
 orders_said words c args text program script says is held of for_script =
@@ -402,7 +402,7 @@ module _ (c : Call) (args : DrillArgs) (bytes : List ℕ) (held : IsHeld roles.S
   orders_came (inl failed) = inl failed
   orders_came (inr says) = orders_held says
 
--- what is said of a script that is held, behind a program and a script of probes that are
+-- what is said of a drill script that is held, after a program and a probe script that are held
 pub drill_said : (words : List (List ℕ)) (c : Call) (args : DrillArgs) (text bytes : List ℕ) (program : ProgramParts) (script : List ℤ) → Says words c → asked words ≡ Ok (Drill args)
     → IsHeld roles.Program c args.file text → IsTextOf text program → IsScriptFor c args.probes script → IsHeld roles.Script c args.script bytes
     → Failed (status_of c) c ⊎ DrillEnds (status_of c) (job_of program script args.fuel args.quantum) bytes c.outcome
@@ -415,7 +415,7 @@ pub script_is_drilled : (words : List (List ℕ)) (c : Call) (args : DrillArgs) 
 script_is_drilled words c args text bytes program script says is held of for_script there =
     bytes_drilled c (job_of program script args.fuel args.quantum) bytes (drill_said words c args text bytes program script says is held of for_script there)
 
--- a line that is no order isn't played
+-- a line that isn't an order isn't played
 no_order_played : (before behind : List Line) (line : Line) (old new : Stand) (text : List ℕ) → line.order ≡ None → ArePlayed (before ++ line ∷ behind) old text new → ⊥
 no_order_played [] behind line old new text none are = subst (λ (o : Option Order). IsSomeAnd o (IsAnswered old are.next are.written)) none are.played
 no_order_played (first ∷ before) behind line old new text none are = no_order_played before behind line are.next new are.more none are.follows

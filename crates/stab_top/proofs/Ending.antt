@@ -1,4 +1,4 @@
--- What a status says of a job that was run.
+-- What each status says of a job that was run.
 use Rattle.std.proofs.Common.{◌≡◌, ◌∙◌, inl, inr, ℕ, List, [], ◌++◌, take, drop, Option, Some, None, Result, Ok, Err, IfOk, IfErr, refl, sym, ap, subst, append-nil, append_assoc}
 use Rattle.std.proofs.lemmas.Grind.{flat_map-append}
 use Rattle.std.proofs.lemmas.List.{take-append-drop}
@@ -98,7 +98,7 @@ module _ (workers : ℕ) (book : BookView) (state : PlainState) (o : Outcome) wh
   trace_whole NotBuilt w = w
   trace_whole Untyped w = w
 
--- a run whose end the status tells is over
+-- a run that ended with a status is over
 pub over_of : (workers : ℕ) (status : Status) (job : JobParts) (book : BookView) (has : HasRun workers status job book) → IsOver workers book has.state
 over_of workers Done job book has = record { whole = has.whole; rest = inl has.rest.0 }
 over_of workers Held job book has = record { whole = has.whole; rest = inl has.rest.0 }
@@ -208,14 +208,14 @@ module _ (workers : ℕ) (book : BookView) (state : PlainState) (job : JobParts)
 -- ---- a run, from what is said of its play
 
 module _ (size : Option ℕ) (workers : ℕ) (job : JobParts) (book : BookView) (o : Outcome) where
-  -- it stopped
+  -- it was stopped
   pub stopped_by_sink : HasStopped workers stops.SinkFault job book o.sink o.sink_after → o.report.status ≡ SinkFault → o.report.book ≡ Some book → blame_of o.report ≡ no_blame → RunEnds (AsReleased (text_with size)) workers o.report.status job o
   stopped_by_sink has is reported blame = with_book (AsReleased (text_with size)) workers o.report.status SinkFault job o book has.state is reported blame has.run (fault_written workers book has.state job has.run size o has.says)
 
   pub stopped_by_memory : HasStopped workers stops.NoMemory job book o.sink o.sink_after → o.report.status ≡ NoMemory → o.report.book ≡ Some book → blame_of o.report ≡ no_blame → RunEnds (AsReleased (text_with size)) workers o.report.status job o
   stopped_by_memory has is reported blame = with_book (AsReleased (text_with size)) workers o.report.status NoMemory job o book has.state is reported blame has.run (lines_only workers book has.state job has.run size o has.says)
 
-  -- it is over, and what was still to be written is this text, or there was no memory for it
+  -- it is over, and this text was left to write, or there was no memory for it
   module _ (end said : Status) (has : HasRun workers end job book) (between : Device (List ℕ)) (so_far : Gains o.sink between (released_lines book)) (is : o.report.status ≡ said) (reported : o.report.book ≡ Some book) (blame : blame_of o.report ≡ no_blame) where
     by_state : AsReleased (text_with size) workers said book has.state o → RunEnds (AsReleased (text_with size)) workers o.report.status job o
     by_state wrote = with_book (AsReleased (text_with size)) workers o.report.status said job o book has.state is reported blame has.run wrote

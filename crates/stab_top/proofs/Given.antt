@@ -39,7 +39,7 @@ module _ (writes : Writing) (outcome : Outcome) (after : ℕ) (files : Device (L
   given_says None program script given ends = inr (program, given.0, subst (λ numbers. RunEnds writes args.workers outcome.report.status (job_of program numbers args.fuel args.quantum) outcome) given.1 ends)
   given_says (Some probes) program script given ends = inr (program, given.0, inr (script, given.1, ends))
 
-  -- of a run by other names of the same numbers
+  -- the same, for a run whose workers, fuel and quantum equal the arguments
   pub given_means : (named : Option (List ℕ)) (program : ProgramParts) (script : List ℤ) (workers fuel quantum : ℕ) → (workers ≡ args.workers) × (fuel ≡ args.fuel) × (quantum ≡ args.quantum)
       → AreGivenBy files after args.file named program script → RunEnds writes workers outcome.report.status (job_of program script fuel quantum) outcome → RunSaysBy writes (finding outcome after files) args named
   given_means named program script workers fuel quantum same given ends =

@@ -48,7 +48,7 @@ of_shown book run state shows =
 abbrev of_language : (workers : ℕ) (job : JobParts) (book : BookView) (state : PlainState) → IsRunOf workers job book state → IsOfTheLanguage book
 of_language workers job book state r = of_shown book r.run state r.shown
 
--- a list of steps ends in one state
+-- a list of steps ends in only one state
 one_end : (p : ProgramParts) (run steps : List Numbered) (s u : PlainState) → steps ≡ run → IsRun p steps u → IsRun p run s → u ≡ s
 one_end p run steps s u same left right =
     let ends : end_of p run ≡ Some u = subst (λ (ns : List Numbered). end_of p ns ≡ Some u) same left.ends in
@@ -144,7 +144,7 @@ module _ (c : Call) (b : BookView) (there : c.outcome.report.book ≡ Some b) wh
   mill_book args (same, inl refused) = not_there c.outcome.report.book b (no_bytes_book program_form c.outcome.report _ refused.0) there
   mill_book args (same, inr (p, is, ends)) = run_book c.outcome b there (AsReleased (milled_by args.size)) args.workers _ (status_of c) ends
 
-  -- the program was read, then the script of probes, then that of the drill
+  -- the program was read, then the probe script, then the drill script
   behind_probes : (named : Option (List ℕ)) (Said : List ℤ → Type 0) → ((script : List ℤ) → Said script → IsOfTheLanguage b) → ScriptSays c named Said → IsOfTheLanguage b
   behind_probes None Said all says = all [] says
   behind_probes (Some name) Said all says = read_book probes_form name c.files.faults Said all says
@@ -182,7 +182,7 @@ is_asked (Save args) asks = elim asks [ ]
 is_asked (Resume args) asks = elim asks [ ]
 is_asked (Watch args) asks = elim asks [ ]
 
--- each book that is reported of a run is of the language
+-- each reported book of a run is of the language
 pub book_of_language : (words : List (List ℕ)) (c : Call) (request : Request) (b : BookView) → Says words c → asked words ≡ Ok request → AsksForRun request → c.outcome.report.book ≡ Some b → IsOfTheLanguage b
 book_of_language words c request b says is asks there = built_book c b there request asks (request_said words c request says is (is_asked request asks))
 

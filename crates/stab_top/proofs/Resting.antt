@@ -1,4 +1,4 @@
--- How the threads stand at the end of a run, by the counts of its book.
+-- The states of the threads at the end of a run, by the counts of its book.
 use Rattle.std.proofs.Common.{◌≡◌, ◌⊎◌, inl, inr, ℕ, zero, suc, ◌+◌, ◌<◌, Bool, true, false, not, ◌&&◌, nat_eq, [], ◌∷◌, ◌++◌, length, Option, Some, None, refl, sym, ap, subst, ◌∙◌, arith, append-nil}
 use Rattle.std.specs.Prelude.{IfSome, IsSomeAnd, option_map, if◌then◌else◌}
 use Rattle.std.specs.Option.{option_map_or}

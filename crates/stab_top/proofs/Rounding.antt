@@ -1,4 +1,4 @@
--- What a round leaves: a run that ends where values are due, and their release.
+-- What a round leaves: a run up to where values are due, and their release.
 use Rattle.std.proofs.Common.{◌≡◌, ◌⊎◌, inl, inr, ℕ, zero, suc, ◌+◌, ◌-◌, ◌<◌, ◌≤◌, true, List, [], ◌∷◌, ◌++◌, take, drop, refl, sym, ap, subst, ◌∙◌, append-nil, append_assoc, arith}
 use Rattle.std.specs.List.{AllByRecursion}
 use Rattle.std.proofs.lemmas.Bool.{false≢true}
@@ -102,7 +102,7 @@ first_light a b (one_more {between = mid} turns turn unlent) = by (first_light a
     by (inr light) = inr light
     by (inl same) = inr (subst (λ (x : BookView). weight_of x.history.events < x.job.fuel) (sym same) (chosen_light mid (record { 0 = turn.lease.thread }) turn.leases.0))
 
--- a run that comes to values that are due, from where none were, has begun with a turn
+-- a run that ends with values due, where none were due before, had fuel left at its start
 pub due_light : (a b : BookView) → IsRun ends.Due a b → due a.history.events ≡ 0 → 0 < due b.history.events → weight_of a.history.events < a.job.fuel
 due_light a b r undue some = by (first_light a r.last r.turns)
   where
@@ -203,7 +203,7 @@ module _ (a b : BookView) (shown : IsShown a) (behind : IsShown b) (later : IsLa
 
 -- ---- of a round
 
--- a release leaves nothing due, so a round fewer is left: where nothing was due before, the turns of the round used fuel
+-- a release leaves nothing due, so one round fewer is left: if nothing was due before, the turns of the round used fuel
 pub nearer : (old last new : BookView) → IsLater old last → IsRun ends.Due old last → 0 < due last.history.events → IsReleased last new worker → rounds_left new < rounds_left old
 nearer old last new later run some is = by (due old.history.events) refl
   where

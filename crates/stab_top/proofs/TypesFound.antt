@@ -61,14 +61,14 @@ done_typed : (c : Call) (program : ProgramParts) → status_of c ≡ Done → Fa
 done_typed c program done (inl failed) = absurd (failed_done c done failed)
 done_typed c program done (inr ends) = (subst (λ s. TypesEnds s program c.outcome) done ends).0
 
--- a program of which it was told is typed
+-- a program is typed if the call's status is Done
 pub told_typed : (words : List (List ℕ)) (c : Call) (file bytes : List ℕ) (program : ProgramParts) → Says words c → asked words ≡ Ok (Types file) → status_of c ≡ Done → IsHeld roles.Program c file bytes → IsTextOf bytes program →
     IsTyped program
 told_typed words c file bytes program says is done held text =
     let types : TypesSays c file = request_said words c (Types file) says is refl in
     done_typed c program done (program_said c file bytes program held text c.files_after (λ p. TypesEnds (status_of c) p c.outcome) types)
 
--- each program of a text can be run
+-- each program that a text has can be run
 abbrev pub TextsAreValid : Type 0
 TextsAreValid = (bytes : List ℕ) (tokens : List Token) (syntax : Syntax) → length bytes ≤ max_text → Reads bytes tokens → IsParsed tokens syntax → IfOk (program_scoped bytes syntax) IsValid
 

@@ -1,4 +1,4 @@
--- What is said of words where memory was refused.
+-- What is said of words if memory ran out.
 use Rattle.std.proofs.Common.{◌≡◌, inl, inr, ℕ, List, [], Bool, true, false, Option, Some, None, Result, Ok, Err, sym, subst}
 use Rattle.stab_code.specs.JobParts.{job_of}
 use Rattle.stab_words.specs.Asked.{asked}
@@ -16,7 +16,7 @@ use Rattle.stab_top.specs.Ending.{AsReleased, AtTheEnd, CheckEnds, RunEnds, Writ
 use Rattle.stab_top.specs.Typing.{TypesEnds}
 use Rattle.stab_top.specs.Call.{BuiltSays, Call, FaultSays, LastSays, NotBuiltSays, ReadSays, RequestSays, RunSaysBy, Says, OrdersSay, ScriptSays, TraceSays, Untouched, WordsSay, status_of}
 
--- no file was loaded, for want of memory
+-- no file was loaded, because memory ran out
 unread : {Content Fault : Type 0} (form : Form Content Fault) (c : Call) (file : List ℕ) (faults : ℕ) (Said : Content → Type 0) → status_of c ≡ NoMemory → Untouched c no_blame → ReadSays form c file faults Said
 unread form c file faults Said none is =
     inl (inl (subst (λ s. LoadRefused s form.role c.files file c.files_after) (sym none) is.no_fault, subst (λ s. Blames c.outcome.report (blames_file (blamed s form.role))) (sym none) is.refuses.0), is.refuses.1)
@@ -44,7 +44,7 @@ words_say : (meant : Result Request WordFault) (c : Call) → status_of c ≡ No
 words_say (Ok request) c none is = request_says request c none is
 words_say (Err fault) c none is = subst (λ s. FaultSays s c fault) (sym none) is
 
--- the memory for the words was refused, whatever they mean
+-- there was no memory for the words, whatever they mean
 pub no_memory_call : (words : List (List ℕ)) (c : Call) → status_of c ≡ NoMemory → Untouched c no_blame → Says words c
 no_memory_call words c none is = words_say (asked words) c none is
 
@@ -52,6 +52,6 @@ built_says : (b : Bool) (c : Call) (request : Request) → b ≡ true → BuiltS
 built_says true c request built says = says
 built_says false c request built says = absurd (false≢true built)
 
--- what is built was done
+-- what is said of a request that is built
 pub said_built : (request known : Request) (c : Call) → request ≡ known → is_built request ≡ true → BuiltSays c known → RequestSays (is_built request) c request
 said_built request known c is built says = built_says (is_built request) c request built (subst (BuiltSays c) (sym is) says)
