@@ -11,7 +11,7 @@ use Rattle.lone_worker.specs.Turn.{worker}
 use Rattle.stab_top.specs.declared.rounds.RoundEnd.{RoundEnd}
 use Rattle.stab_top.specs.declared.rounds.RoundEnd.TheVariants.{Released, Quiet, Spent, NoMemory}
 
--- 1 if there are any
+-- 1 if there are any, and else 0
 abbrev pub one_if_any : ℕ → ℕ
 one_if_any zero = 0
 one_if_any (suc n) = 1

@@ -27,7 +27,7 @@ use trace_text::{TraceWriteFault, write_trace};
 use worker_lease::Gate;
 use worker_rounds::Stop;
 
-/// How a job is run: by how many workers, with which fuel for the whole run, and with which quantum (pure steps in one event).
+/// How a job is run: the number of workers, the fuel of the whole run, and the quantum, the most pure steps in one event.
 #[derive(Clone, Copy)]
 pub struct Means {
     pub workers: u32,
