@@ -41,7 +41,7 @@ blamed TooBig role = Some role
 blamed FileFault role = Some role
 blamed _ role = None
 
--- The file couldn't be loaded, and `Refused` is said; or it was loaded, and `Said` is true of its bytes.
+-- The file couldn't be loaded, and `Refused` is true; or it was loaded, and `Said` is true of its bytes.
 abbrev pub FileSays : Role → Status → Device (List Entry) → List ℕ → ℕ → Type 0 → (List ℕ → Type 0) → Type 0
 FileSays role status files name faults Refused Said =
     (LoadRefused status role files name faults × Refused) ⊎ ((bytes : List ℕ) × Loads role files name faults bytes × Said bytes)
