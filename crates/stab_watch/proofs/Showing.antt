@@ -1,4 +1,4 @@
--- What is shown of events stays true of longer ones, and rises.
+-- What is shown of events stays true of longer lists of events, and rises.
 use Rattle.std.proofs.Common.{◌≡◌, ℕ, ◌≤◌, Bool, true, false, List, [], ◌∷◌, ◌++◌, length, refl, sym, ap, subst, ◌∙◌, arith, append_assoc, append-nil, cond, ◌||◌, ◌&&◌}
 use lib.Pointwise.{bytes_decides}
 use Rattle.std.proofs.lemmas.Bool.{and_parts}
@@ -44,7 +44,7 @@ one_more : (events : List Event) (xs : List (List ℕ)) → AllByRecursion (WasS
 one_more events [] all = (record { front = events; starts = itself events; is = refl }, tt)
 one_more events (x ∷ xs) all = (all.0, one_more events xs all.1)
 
--- one showing more
+-- one more showing
 pub shows_more : (front whole : List Event) (seen : List (List ℕ)) → StartsWith whole front → Shows front seen → Shows whole (seen ++ counts whole ∷ [])
 shows_more front whole seen s shows = record { each = one_more whole seen (later front whole seen s shows.each); last = (seen, refl) }
 
@@ -128,7 +128,7 @@ has_shown whole w h =
 pub read_last : (seen : List (List ℕ)) (x : List ℕ) → EndsWith seen x → x ≡ last_words seen
 read_last seen x e = sym (ap last_words e.1 ∙ last_at e.0 x)
 
--- the last reading of a reader whose pass was taken in, at a load by the writer
+-- the last reading of a reader, once the writer has taken its pass in and loads
 pub gathered : (events : List Event) (w : WriterParts) (v u : Known) (seen : List (List ℕ)) (n : ℕ) (ns : List ℕ) (y : List ℕ) → v.writes ≡ true → v.seen ≡ w.shown → HasShown events w → Loaded (both v (known false seen [])) y u → n ∷ ns ≡ last_words seen → WasShown events (n ∷ ns)
 gathered events w v u seen n ns y writes is h l e =
     seen_shown events w.shown seen (n ∷ ns) (shows_of events w h) (subst (λ (k : List (List ℕ)). StartsWith k seen) (l.writer writes ∙ is) l.told.0) (ends n ns seen (sym e))

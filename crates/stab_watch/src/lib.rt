@@ -1,4 +1,4 @@
-//! A board that shows how far a run is, and is read without its workers' turn.
+//! A board that shows how far a run is, and is read without a turn among its workers.
 #![tactic(auto)]
 
 mod board;
