@@ -14,13 +14,13 @@ pub enum Request {
     Run(RunArgs),
     /// Run a program and write the trace.
     Trace(RunArgs),
-    /// Say whether a trace is one of a run of a program.
+    /// Say whether a trace is that of a run of a program.
     Verify(VerifyArgs),
     /// Play a script of turns.
     Drill(DrillArgs),
-    /// Read a program.
+    /// Read a program, and write its size.
     Check(Name),
-    /// Run a program that is made from a number.
+    /// Run the mill, a program that is made from a number.
     Mill(MillArgs),
     /// Check the written types of a program.
     Types(Name),
@@ -86,7 +86,7 @@ pub struct ResumeArgs {
     pub quantum: u32,
 }
 
-/// Why words are refused. A number is that of the word, the command being word 0.
+/// Why words are refused. The number is that of the word; the command is word 0.
 #[derive(Clone, Copy, PartialEq, Eq, Debug)]
 pub enum WordFault {
     /// There are no words.
@@ -101,7 +101,7 @@ pub enum WordFault {
     NoValue(usize),
     /// The value of the option, or the word itself, isn't allowed.
     BadValue(usize),
-    /// The command takes one word more.
+    /// The command needs one more word.
     MissingWord,
     /// The command takes no further word.
     ExtraWord(usize),
@@ -110,7 +110,7 @@ pub enum WordFault {
 }
 
 impl WordFault {
-    /// The name by which a reason names the fault.
+    /// The name of the fault in the reason line.
     pub fn name(self) -> &'static str
         ensures { result.now ≡ fault_name self }
     {
