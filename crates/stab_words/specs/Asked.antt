@@ -60,7 +60,7 @@ abbrev pub next_value : List (List ℕ) → Option (List ℕ)
 next_value [] = None
 next_value (word ∷ words) = if has_dash word then None else Some word
 
--- the value of an option: what follows its `=`, or else the next word
+-- the value of an option: what follows its `=`, or the next word if there is no `=`
 abbrev pub option_value : List ℕ → List (List ℕ) → Option (List ℕ)
 option_value word words = if is_none (written_value word) then next_value words else written_value word
 
@@ -78,7 +78,7 @@ abbrev pub read_plain : Command → ℕ → List (List ℕ) → Given → Result
 read_plain c i [] given = Ok given
 read_plain c i (word ∷ words) given = and_then (plain c i word given) (read_plain c (suc i) words)
 
--- the words from the number i on, from the left, where the first of them may be the value of the option before it
+-- the words from the number i on, from the left; the first of them may be the value of the option before it
 abbrev pub read : Command → ℕ → Bool → List (List ℕ) → Given → Result Given WordFault
 read c i is_value [] given = Ok given
 read c i true (word ∷ words) given = read c (suc i) false words given

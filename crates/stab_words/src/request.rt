@@ -32,7 +32,7 @@ pub enum Request {
     Watch(RunArgs),
 }
 
-/// What `run`, `trace` and `watch` are given. The quantum is the most pure steps that one event stands for.
+/// The arguments of `run`, `trace` and `watch`. The quantum is the most pure steps that one event stands for.
 #[derive(Drop)]
 pub struct RunArgs {
     pub file: Name,
@@ -42,7 +42,7 @@ pub struct RunArgs {
     pub quantum: u32,
 }
 
-/// What `verify` is given.
+/// The arguments of `verify`.
 #[derive(Drop)]
 pub struct VerifyArgs {
     pub file: Name,
@@ -50,7 +50,7 @@ pub struct VerifyArgs {
     pub probes: Option<Name>,
 }
 
-/// What `drill` is given.
+/// The arguments of `drill`.
 #[derive(Drop)]
 pub struct DrillArgs {
     pub file: Name,
@@ -60,7 +60,7 @@ pub struct DrillArgs {
     pub quantum: u32,
 }
 
-/// What `mill` is given: how many sections its program has, and how it is run.
+/// The arguments of `mill`: how many sections its program has, and how it is run.
 #[derive(Drop)]
 pub struct MillArgs {
     pub size: u32,
@@ -69,7 +69,7 @@ pub struct MillArgs {
     pub quantum: u32,
 }
 
-/// What `save` is given. The state is the one at the cut with the number `at`, the first being 1.
+/// The arguments of `save`. The state is the one at the cut with the number `at`, counted from 1.
 #[derive(Drop)]
 pub struct SaveArgs {
     pub file: Name,
@@ -78,7 +78,7 @@ pub struct SaveArgs {
     pub probes: Option<Name>,
 }
 
-/// What `resume` is given.
+/// The arguments of `resume`.
 #[derive(Drop)]
 pub struct ResumeArgs {
     pub image: Name,
