@@ -5,5 +5,6 @@ mod closing;
 mod rounds;
 mod shared;
 
+pub use closing::recalled;
 pub use rounds::{Stop, play_rounds};
-pub use shared::{Shared, run_shared};
+pub use shared::{Left, Shared, run_shared, run_state};
