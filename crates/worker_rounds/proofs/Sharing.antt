@@ -28,7 +28,7 @@ use Rattle.worker_rounds.specs.declared.rounds.Stop.{Stop}
 use Rattle.worker_rounds.specs.declared.rounds.Stop.TheVariants.{SinkFault, NoMemory}
 use Rattle.worker_rounds.specs.Left.{IsLeft}
 use Rattle.worker_rounds.specs.Releases.{EndSays, HasReleases, first_lines}
-use Rattle.worker_rounds.specs.Rounds.{IsCutAfter, RoundsSay, first_seen}
+use Rattle.worker_rounds.specs.Rounds.{IsCutAfter, IsUsedUp, RoundsSay, first_seen}
 use Rattle.worker_rounds.specs.Shared.{IsSharedOf}
 use Rattle.worker_rounds.proofs.Closed.{closed, has_releases}
 
@@ -102,7 +102,7 @@ module _ (workers : ℕ) (job : JobParts) (desk b : BookView) (stop : Option Sto
       (has_releases job b shown same by_one cut.old left.seen cut.begun old mine release.first first (final_prints (run_of release.first)) release.is cut.cut.same e behind split is_one front)
 
   ends : (stop : Option Stop) → RoundsSay stop job left.seen sink after → EndSays stop b shown.state sink after
-  ends None says = subst (Gains sink after) (sym lines) says
+  ends None says = (subst (Gains sink after) (sym lines) says.0, (left.seen, grows, subst (λ (j : JobParts). IsUsedUp j left.seen) (sym same) says.1))
   ends (Some NoMemory) says = subst (Gains sink after) (sym lines) says
   ends (Some SinkFault) says =
       let part = says.cut.cut.0 in

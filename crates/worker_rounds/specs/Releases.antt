@@ -1,5 +1,6 @@
 -- What of a run was written when it stopped.
 use Rattle.std.specs.Prelude.{◌≡◌, ℕ, List, ◌∷◌, ◌++◌, take, Option, Some, None}
+use mathlib.Core.List.{IsPrefix}
 use Rattle.stab_base.specs.Gain.{SomePrefix}
 use Rattle.stab_code.specs.Program.{ProgramParts}
 use Rattle.stab_files.specs.Count.{Rose}
@@ -13,6 +14,7 @@ use Rattle.book_text.specs.Written.{released_lines}
 use Rattle.sink_lines.specs.Device.{Device, Gains}
 use Rattle.worker_rounds.specs.declared.rounds.Stop.{Stop}
 use Rattle.worker_rounds.specs.declared.rounds.Stop.TheVariants.{SinkFault, NoMemory}
+use Rattle.worker_rounds.specs.Rounds.{IsUsedUp}
 
 -- the lines of the values that the first events released, of what the run printed that ends in the state
 abbrev pub first_lines : ProgramParts → PlainState → List Event → List ℕ
@@ -31,7 +33,11 @@ StopSays SinkFault book state sink after =
     × Rose sink.faults after.faults
 StopSays NoMemory book state sink after = Gains sink after (released_lines book)
 
--- where the run wasn't stopped, all that was released was written
+-- at some moment nothing was left to do
+abbrev pub WasUsedUp : BookView → Type 0
+WasUsedUp book = (front : List Event) × IsPrefix front book.history.events × IsUsedUp book.job front
+
+-- where the run wasn't stopped, it came to such a moment, and all that was released was written
 abbrev pub EndSays : Option Stop → BookView → PlainState → Device (List ℕ) → Device (List ℕ) → Type 0
-EndSays None book state sink after = Gains sink after (released_lines book)
+EndSays None book state sink after = Gains sink after (released_lines book) × WasUsedUp book
 EndSays (Some stop) book state sink after = StopSays stop book state sink after

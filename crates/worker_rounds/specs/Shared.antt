@@ -18,6 +18,6 @@ pub record IsSharedOf (workers : ℕ) (job : JobParts) (new : BookView) (stop : 
   pub named : AreOf workers new.history.events
   pub says : EndSays stop new shown.state sink after
 
--- a run that began with this book
+-- a run that began with a book of this job
 abbrev pub IsShared : ℕ → BookView → BookView → Option Stop → Device (List ℕ) → Device (List ℕ) → Type 0
 IsShared workers old new stop sink after = IsSharedOf workers old.job new stop sink after

@@ -22,7 +22,7 @@ use worker_lease::{Cell, Gate, HasJob, OnDesk, WorkEnd, release, run_round};
 pub enum Stop {
     /// The lines of what was released couldn't be written.
     SinkFault,
-    /// The memory for the next turn, or for what is released, isn't there.
+    /// The memory for the next turn, for what is released, or for the floor and its passes isn't there.
     NoMemory,
 }
 
