@@ -6,7 +6,7 @@ use Rattle.std.specs.List.{AllByRecursion, sum_by}
 use Rattle.std.proofs.lemmas.List.Sums.{sum_by-append}
 use Rattle.stab_journal.specs.declared.event.Event.{Event}
 use Rattle.stab_journal.specs.Event.{weigh}
-use Rattle.stab_watch.specs.Counts.{is_undo, is_cut, counts, AtMost, StartsWith, EndsWith, WasShown, Shows, same_words, is_shown, all_shown, last_words}
+use Rattle.stab_watch.specs.Counts.{is_undo, is_cut, counts, AtMost, StartsWith, EndsWith, WasShown, same_words, is_shown, all_shown, last_words}
 use Rattle.stab_watch.specs.Board.{Loaded, stored}
 use Rattle.stab_watch.specs.Known.{known, both}
 use Rattle.stab_watch.specs.Passes.{HasShown, WriterParts, new_writer, showing, writer_of}
@@ -43,6 +43,11 @@ later front whole (x ∷ xs) s all = (record { front = all.0.front; starts = fur
 one_more : (events : List Event) (xs : List (List ℕ)) → AllByRecursion (WasShown events) xs → AllByRecursion (WasShown events) (xs ++ counts events ∷ [])
 one_more events [] all = (record { front = events; starts = itself events; is = refl }, tt)
 one_more events (x ∷ xs) all = (all.0, one_more events xs all.1)
+
+-- all that was shown was shown of these events, and last of all of them
+pub record Shows (events : List Event) (shown : List (List ℕ)) : Type 0 where
+  pub each : AllByRecursion (WasShown events) shown
+  pub last : EndsWith shown (counts events)
 
 -- one more showing
 pub shows_more : (front whole : List Event) (seen : List (List ℕ)) → StartsWith whole front → Shows front seen → Shows whole (seen ++ counts whole ∷ [])
@@ -132,6 +137,10 @@ read_last seen x e = sym (ap last_words e.1 ∙ last_at e.0 x)
 pub gathered : (events : List Event) (w : WriterParts) (v u : Known) (seen : List (List ℕ)) (n : ℕ) (ns : List ℕ) (y : List ℕ) → v.writes ≡ true → v.seen ≡ w.shown → HasShown events w → Loaded (both v (known false seen [])) y u → n ∷ ns ≡ last_words seen → WasShown events (n ∷ ns)
 gathered events w v u seen n ns y writes is h l e =
     seen_shown events w.shown seen (n ∷ ns) (shows_of events w h) (subst (λ (k : List (List ℕ)). StartsWith k seen) (l.writer writes ∙ is) l.told.0) (ends n ns seen (sym e))
+
+-- all that the reader had seen was shown first
+pub gathered_front : (w : WriterParts) (v u : Known) (seen : List (List ℕ)) (y : List ℕ) → v.writes ≡ true → v.seen ≡ w.shown → Loaded (both v (known false seen [])) y u → StartsWith w.shown seen
+gathered_front w v u seen y writes is l = subst (λ (k : List (List ℕ)). StartsWith k seen) (l.writer writes ∙ is) l.told.0
 
 -- the words of a store are the last that were shown
 pub stored_last : (v u : Known) (x y : List ℕ) → stored v x y u → y ≡ last_words u.seen

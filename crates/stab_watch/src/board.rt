@@ -85,11 +85,12 @@ impl Board {
         reader.last
     }
 
-    /// Ends a reader and returns its last reading, which was shown of the writer's history at one moment.
+    /// What the reader has read last. It was shown of the writer's history at one moment, as all that the reader has seen. The reader ends.
     pub fn gather<R: Wait>(&self, rt: &R, writer: &mut WritePass, reader: ReadPass) -> Reading
         requires own { (writer.old.board ≡ self.now) × (reader.board ≡ self.now) }
         ensures writer { writer.new ≡ writer.old }
         ensures last { words_of result ≡ last_words reader.seen }
+        ensures front { StartsWith writer.old.shown reader.seen }
         ensures shown { (events : List Events) → HasShown events writer.old → WasShown events (words_of result) }
     {
         let ReadPass { mut pass, last } = reader;

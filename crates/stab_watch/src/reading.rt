@@ -15,6 +15,20 @@ pub struct Reading {
     pub cuts: u64,
 }
 
+impl Reading {
+    /// The reading of a history.
+    pub fn of(history: &History) -> Reading
+        ensures { words_of result ≡ counts history.now.events }
+    {
+        let none = Reading {
+            weight: 0,
+            undos: 0,
+            cuts: 0,
+        };
+        counted(history, 0, none)
+    }
+}
+
 // The reading of a history, given the reading `before` of its first `len` events.
 pub(crate) fn counted(history: &History, len: u64, before: Reading) -> Reading
     requires { (front : List Events) × StartsWith history.now.events front × (len ≡ length front) × (words_of before ≡ counts front) }

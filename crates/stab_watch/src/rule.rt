@@ -44,7 +44,7 @@ impl Split<Known> for Part {
     ghost right = { cut_off };
 }
 
-/// All that a pass has seen goes to a new pass.
+/// The whole view goes to a new pass, since one that has made calls can't be taken in by another.
 pub struct Move;
 
 impl Split<Known> for Move {

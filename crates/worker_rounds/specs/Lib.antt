@@ -1,4 +1,4 @@
-pub mod Releases
 pub mod Rounds
-pub mod Closed
+pub mod Releases
+pub mod Left
 pub mod Shared

@@ -1,4 +1,4 @@
-use Rattle.worker_rounds.proofs.shared.run_shared.Given as goal
+use Rattle.worker_rounds.proofs.shared.run_state.Given as goal
 
 abbrev pub ghosts-run_named-C-Ledger : goal.ghosts-run_named-C-Ledger
 ghosts-run_named-C-Ledger g a = record { name = a.commits.name; parts = a.commits.parts }
