@@ -5,3 +5,6 @@ pub mod Imaging
 pub mod Listing
 pub mod Numbering
 pub mod Putting
+pub mod Behind
+pub mod BelowNext
+pub mod Bare

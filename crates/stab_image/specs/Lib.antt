@@ -5,3 +5,4 @@ pub mod Named
 pub mod Found
 pub mod Numbered
 pub mod ImageText
+pub mod Resumed

@@ -1,12 +1,14 @@
 -- What contracts see of an image in memory, and what is true of each.
 use Rattle.std.specs.Prelude.{◌≡◌, ℕ, ◌≤◌, false, length}
+use Rattle.std.specs.Arc.{arc_value}
 use Rattle.std.specs.Ordering.{nat_cmp}
 use Rattle.std.specs.FinMap as map
 use Rattle.std.specs.FinMap.{from_entries}
 use Rattle.stab_code.specs.Limits.{max_script}
 use Rattle.stab_text.specs.Text.{IsTextOf}
 use Rattle.journal_laws.specs.Known.{IsExprIn, IsKnown}
-use Rattle.image_laws.specs.Image.{Image}
+use Rattle.image_laws.specs.Image.{Image, generation_at}
+use Rattle.image_run.specs.Next.{AreBelowNext}
 use Rattle.stab_image.specs.declared.image.Image.TheInside.{Inside}
 use Rattle.image_text.specs.Rising.{IsRising}
 use Rattle.stab_image.specs.Limits.{IsNext, max_number}
@@ -15,7 +17,7 @@ use Rattle.stab_image.specs.Numbered.{AreBelow}
 abbrev pub image_of : Inside → Image
 image_of a = record {
   text = a.text.items;
-  program = a.state.program;
+  program = arc_value a.program;
   script = a.script.items;
   used = a.used;
   seq = a.cut;
@@ -26,10 +28,11 @@ image_of a = record {
   generations = from_entries a.generations.items;
 }
 
--- the text is that of the program, each number is in its range, each channel and reference that occurs in the state is there, and each
--- thread has its generation, in the order of their numbers
+-- the text is that of the program, which is the state's, each number is in its range, each channel and reference that occurs in the
+-- state is there, those and the threads are below the next ones, and each thread has its generation, in the order of their numbers
 pub record IsSound (a : Inside) : Type 0 where
-  pub text : IsTextOf a.text.items a.state.program
+  pub text : IsTextOf a.text.items (arc_value a.program)
+  pub program : a.state.program ≡ arc_value a.program
   pub script : length a.script.items ≤ max_script
   pub used : a.used ≤ max_number
   pub cut : a.cut ≤ max_number
@@ -41,3 +44,5 @@ pub record IsSound (a : Inside) : Type 0 where
   pub thread_0 : map.contains_key a.state.state.threads 0 ≡ false
   pub rising : IsRising 0 a.generations.items
   pub same : (t : ℕ) → map.contains_key (from_entries {R = nat_cmp} a.generations.items) t ≡ map.contains_key a.state.state.threads t
+  pub named : AreBelowNext (record { thread = a.next_thread; chan = a.next_chan; reference = a.next_ref }) a.state.state
+  pub put_back : (t : ℕ) → generation_at (image_of a) t ≤ max_number

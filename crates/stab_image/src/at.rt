@@ -21,6 +21,7 @@ use stab_base::{NoMemory, Seq, ThreadId};
 use stab_code::Job;
 use stab_journal::History;
 use std::alloc::Global;
+use std::sync::Arc;
 use trace_verify::{Generations, replayed};
 
 /// The image at the cut numbered q of a history to which `verify` says Yes. It takes as long as the verdict.
@@ -43,6 +44,7 @@ pub fn image_at(
     let named = Named::by_first(history, q.0);
     Ok(Image {
         text: Vec::from_slice(alloc, text)?,
+        program: Arc::try_clone(job.program())?,
         script: Vec::from_slice(alloc, job.script())?,
         used: led.probes,
         cut: q.0,

@@ -1,12 +1,19 @@
 //! What an image holds.
+ghost use Rattle.std.specs.Prelude.{◌≡◌};
+ghost use Rattle.std.specs.Arc.{arc_value};
+
 use plain_language::PlainState;
+use stab_base::Value;
+use stab_code::Program;
 use std::marker::Model;
+use std::sync::Arc;
 
 /// A run at one of its cuts, as far as it matters for going on from there: the text of the program and the program itself, the
 /// script and how much of it is used, the number of the cut, the next numbers, the state, and how often each thread was put back.
 #[derive(Drop)]
 pub struct Image {
     pub(crate) text: Vec<u8>,
+    pub(crate) program: Arc<Program>,
     pub(crate) script: Vec<i64>,
     /// How many probes were made, those of undone steps too.
     pub(crate) used: u64,
@@ -35,4 +42,20 @@ impl Model for Image {
     ghost view = { image_of };
 
     ghost invariant = { IsSound };
+}
+
+impl Image {
+    /// The program.
+    pub fn program(&self) -> &Arc<Program>
+        ensures { arc_value result.now ≡ self.now.program }
+    {
+        &self.program
+    }
+
+    /// What was printed up to the cut, in order.
+    pub fn printed(&self) -> &[Value]
+        ensures { result.now ≡ self.now.state.output }
+    {
+        self.state.printed()
+    }
 }

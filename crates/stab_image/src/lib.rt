@@ -5,7 +5,10 @@ mod at;
 mod image;
 mod named;
 mod put;
+mod resuming;
 
 pub use at::image_at;
 pub use image::Image;
+pub use image_run::Resumed;
 pub use put::put_image;
+pub use resuming::resume;
