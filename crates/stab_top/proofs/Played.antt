@@ -221,7 +221,7 @@ module _ (workers : ℕ) (job : JobParts) (several : workers ≢ 1) (mid : BookV
     several_over status out = record { state = unlent.shown.state; run = several_run; whole = no_solo; rest = out.rest unlent.shown }
 
     pub several_gains : (after : Device (List ℕ)) → GainsSince mid b between after → Gains sink after (released_lines b)
-    several_gains after since = gains_all mid b sink between after shared.says since
+    several_gains after since = gains_all mid b sink between after shared.says.0 since
 
     pub several_broken : (stop : Stop) (after : Device (List ℕ)) → IsBroken stop mid b between after → HasStopped workers stop job b sink after
-    several_broken stop after broken = record { state = unlent.shown.state; run = several_run; says = broken_says mid b unlent.shown sink between after shared.says stop broken.says }
+    several_broken stop after broken = record { state = unlent.shown.state; run = several_run; says = broken_says mid b unlent.shown sink between after shared.says.0 stop broken.says }
