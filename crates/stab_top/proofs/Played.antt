@@ -152,7 +152,7 @@ module _ (workers : ℕ) (some : 1 ≤ workers) where
   of_both [] ys a b = b
   of_both (x ∷ xs) ys a b = (a.0, of_both xs ys a.1 b)
 
-  later_named : (old b : BookView) → IsLater old b → AreOf workers old.history.events → AreOf workers b.history.events
+  pub later_named : (old b : BookView) → IsLater old b → AreOf workers old.history.events → AreOf workers b.history.events
   later_named old b later named = subst (AreOf workers) (sym later.events) (of_both old.history.events later.added named (of_one later.added later.by_one))
 
 -- the run of a book of the job, from what its events are
@@ -221,7 +221,7 @@ module _ (workers : ℕ) (job : JobParts) (several : workers ≢ 1) (mid : BookV
     several_over status out = record { state = unlent.shown.state; run = several_run; whole = no_solo; rest = out.rest unlent.shown }
 
     pub several_gains : (after : Device (List ℕ)) → GainsSince mid b between after → Gains sink after (released_lines b)
-    several_gains after since = gains_all mid b sink between after shared.says since
+    several_gains after since = gains_all mid b sink between after shared.says.0 since
 
     pub several_broken : (stop : Stop) (after : Device (List ℕ)) → IsBroken stop mid b between after → HasStopped workers stop job b sink after
-    several_broken stop after broken = record { state = unlent.shown.state; run = several_run; says = broken_says mid b unlent.shown sink between after shared.says stop broken.says }
+    several_broken stop after broken = record { state = unlent.shown.state; run = several_run; says = broken_says mid b unlent.shown sink between after shared.says.0 stop broken.says }
