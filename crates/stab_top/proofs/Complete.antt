@@ -18,6 +18,8 @@ use Rattle.stab_text.specs.declared.fault.TextFault.{TextFault}
 use Rattle.stab_text.specs.Text.{HasFault, IsTextOf}
 use Rattle.stab_text.proofs.Reading.{not_both, one_fault, one_program}
 use Rattle.stab_words.specs.Asked.{asked}
+use Rattle.stab_words.specs.Command.{most_workers}
+use Rattle.stab_top.specs.Watching.{watched_by}
 use Rattle.stab_words.specs.declared.request.DrillArgs.{DrillArgs}
 use Rattle.stab_words.specs.declared.request.MillArgs.{MillArgs}
 use Rattle.stab_words.specs.declared.request.Request.{Request}
@@ -259,12 +261,20 @@ pub good_program_is_traced : (words : List (List ℕ)) (c : Call) (args : RunArg
 good_program_is_traced words c args bytes program script says is held text for_script =
     run_came AtTheEnd args.workers (traced args.workers) c (job_of program script args.fuel args.quantum) (run_said AtTheEnd c args bytes program held text args.probes script for_script (request_said words c (Trace args) says is refl))
 
-pub run_with_bad_probes : (words : List (List ℕ)) (c : Call) (args : RunArgs) (text name bytes : List ℕ) (program : ProgramParts) (fault : ProbesFault) → Says words c → (asked words ≡ Ok (Run args)) ⊎ (asked words ≡ Ok (Trace args)) →
+pub good_program_is_watched : (words : List (List ℕ)) (c : Call) (args : RunArgs) (bytes : List ℕ) (program : ProgramParts) (script : List ℤ) → Says words c → asked words ≡ Ok (Watch args) →
+    IsHeld roles.Program c args.file bytes → IsTextOf bytes program → IsScriptFor c args.probes script → Ran (status_of c) ⊎ CountedFault c
+good_program_is_watched words c args bytes program script says is held text for_script =
+    let by_most = record args { workers = most_workers } in
+    run_came (AsReleased watched_by) most_workers (ran watched_by most_workers) c (job_of program script args.fuel args.quantum) (run_said (AsReleased watched_by) c by_most bytes program held text args.probes script for_script (request_said words c (Watch args) says is refl).0)
+
+pub run_with_bad_probes : (words : List (List ℕ)) (c : Call) (args : RunArgs) (text name bytes : List ℕ) (program : ProgramParts) (fault : ProbesFault) → Says words c → (asked words ≡ Ok (Run args)) ⊎ (asked words ≡ Ok (Trace args)) ⊎ (asked words ≡ Ok (Watch args)) →
     IsHeld roles.Program c args.file text → IsTextOf text program → args.probes ≡ Some name → IsHeld roles.Probes c name bytes → probes_form.HasFault bytes fault → IsRefused probes_form c fault ⊎ CountedFault c
 run_with_bad_probes words c args text name bytes program fault says (inl is) held of named there has =
     bad_probes_said (AsReleased shown_by) c args text program held of args.probes name bytes fault named there has (request_said words c (Run args) says is refl)
-run_with_bad_probes words c args text name bytes program fault says (inr is) held of named there has =
+run_with_bad_probes words c args text name bytes program fault says (inr (inl is)) held of named there has =
     bad_probes_said AtTheEnd c args text program held of args.probes name bytes fault named there has (request_said words c (Trace args) says is refl)
+run_with_bad_probes words c args text name bytes program fault says (inr (inr is)) held of named there has =
+    bad_probes_said (AsReleased watched_by) c (record args { workers = most_workers }) text program held of args.probes name bytes fault named there has (request_said words c (Watch args) says is refl).0
 
 -- the mill, if its text is that of a program
 pub mill_runs : (words : List (List ℕ)) (c : Call) (args : MillArgs) (program : ProgramParts) → Says words c → asked words ≡ Ok (Mill args) → IsTextOf (mill_text args.size) program → Ran (status_of c) ⊎ CountedFault c
@@ -455,7 +465,7 @@ request_with_fault c (Mill args) bytes fault says is has = elim is [ ]
 request_with_fault c (Types file) bytes fault says is has = text_with_fault c file bytes fault c.files_after (λ p. TypesEnds (status_of c) p c.outcome) is has says
 request_with_fault c (Save args) bytes fault says is has = elim is [ ]
 request_with_fault c (Resume args) bytes fault says is has = elim is [ ]
-request_with_fault c (Watch args) bytes fault says is has = elim is [ ]
+request_with_fault c (Watch args) bytes fault says is has = run_with_fault (AsReleased watched_by) c (record args { workers = most_workers }) args.probes bytes fault says.0 is has
 
 pub bad_text_refused : (words : List (List ℕ)) (c : Call) (request : Request) (bytes : List ℕ) (fault : TextFault) → Says words c → asked words ≡ Ok request → is_built request ≡ true →
     IsHeldFor c request bytes → HasFault bytes fault → IsRefused program_form c fault ⊎ CountedFault c

@@ -9,6 +9,7 @@ pub mod Ending
 pub mod Complete
 pub mod Determined
 pub mod Wording
+pub mod Watched
 pub mod Executing
 pub mod OwnTraces
 pub mod Given

@@ -152,7 +152,7 @@ module _ (workers : ℕ) (some : 1 ≤ workers) where
   of_both [] ys a b = b
   of_both (x ∷ xs) ys a b = (a.0, of_both xs ys a.1 b)
 
-  later_named : (old b : BookView) → IsLater old b → AreOf workers old.history.events → AreOf workers b.history.events
+  pub later_named : (old b : BookView) → IsLater old b → AreOf workers old.history.events → AreOf workers b.history.events
   later_named old b later named = subst (AreOf workers) (sym later.events) (of_both old.history.events later.added named (of_one later.added later.by_one))
 
 -- the run of a book of the job, from what its events are

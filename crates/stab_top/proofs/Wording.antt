@@ -1,7 +1,12 @@
 -- What is said of words if memory ran out.
-use Rattle.std.proofs.Common.{◌≡◌, inl, inr, ℕ, List, [], Bool, true, false, Option, Some, None, Result, Ok, Err, sym, subst}
+use Rattle.std.proofs.Common.{◌≡◌, inl, inr, ℕ, List, [], Bool, true, false, Option, Some, None, Result, Ok, Err, IfSome, sym, subst}
 use Rattle.stab_code.specs.JobParts.{job_of}
 use Rattle.stab_words.specs.Asked.{asked}
+use Rattle.stab_words.specs.Command.{most_workers}
+use Rattle.stab_journal.specs.declared.event.Event.{Event}
+use Rattle.commit_book.specs.Book.{BookView}
+use Rattle.turn_floor.specs.Served.{AreOf}
+use Rattle.stab_top.specs.Watching.{watched_by}
 use Rattle.stab_words.specs.declared.request.Request.{Request}
 use Rattle.stab_words.specs.declared.request.Request.TheVariants.{Run, Trace, Verify, Drill, Check, Mill, Types, Save, Resume, Watch}
 use Rattle.stab_words.specs.declared.request.RunArgs.{RunArgs}
@@ -28,6 +33,10 @@ run_says : (writes : Writing) (args : RunArgs) (named : Option (List ℕ)) (c : 
 run_says writes args None c none is = unread program_form c args.file c.files_after (λ p. RunEnds writes args.workers (status_of c) (job_of p [] args.fuel args.quantum) c.outcome) none is
 run_says writes args (Some name) c none is = unread program_form c args.file c.files.faults (λ p. LastSays probes_form c name (λ s. RunEnds writes args.workers (status_of c) (job_of p s args.fuel args.quantum) c.outcome)) none is
 
+-- no book, no events
+pub no_events : (P : List Event → Type 0) (book : Option BookView) → book ≡ None → IfSome book (λ b. P b.history.events)
+no_events P book is = subst (λ o. IfSome o (λ (b : BookView). P b.history.events)) (sym is) tt
+
 request_says : (request : Request) (c : Call) → status_of c ≡ NoMemory → Untouched c no_blame → RequestSays (is_built request) c request
 request_says (Run args) c none is = run_says (AsReleased shown_by) args args.probes c none is
 request_says (Trace args) c none is = run_says AtTheEnd args args.probes c none is
@@ -38,7 +47,7 @@ request_says (Mill args) c none is = (is.no_fault, inl (inr (none, is.refuses.0)
 request_says (Types file) c none is = unread program_form c file c.files_after (λ p. TypesEnds (status_of c) p c.outcome) none is
 request_says (Save args) c none is = not_built c none is
 request_says (Resume args) c none is = not_built c none is
-request_says (Watch args) c none is = not_built c none is
+request_says (Watch args) c none is = (run_says (AsReleased watched_by) (record args { workers = most_workers }) args.probes c none is, no_events (AreOf args.workers) c.outcome.report.book is.refuses.0.no_book)
 
 words_say : (meant : Result Request WordFault) (c : Call) → status_of c ≡ NoMemory → Untouched c no_blame → WordsSay meant c
 words_say (Ok request) c none is = request_says request c none is

@@ -1,17 +1,19 @@
 -- What each status says of a call: of its files, its sink and its report.
-use Rattle.std.specs.Prelude.{◌≡◌, ℕ, ℤ, Bool, true, false, List, [], Option, Some, None, Result, Ok, Err, ◌⊎◌}
+use Rattle.std.specs.Prelude.{◌≡◌, ℕ, ℤ, Bool, true, false, List, [], Option, Some, None, Result, Ok, Err, IfSome, ◌⊎◌}
 use Rattle.stab_code.specs.JobParts.{job_of}
 use Rattle.stab_code.specs.Program.{ProgramParts}
 use Rattle.stab_files.specs.Count.{Rose}
 use Rattle.stab_files.specs.Entry.{Entry}
 use Rattle.stab_words.specs.declared.request.Request.{Request}
-use Rattle.stab_words.specs.declared.request.Request.TheVariants.{Check, Drill, Mill, Run, Trace, Types, Verify}
+use Rattle.stab_words.specs.declared.request.Request.TheVariants.{Check, Drill, Mill, Run, Trace, Types, Verify, Watch}
 use Rattle.stab_words.specs.declared.request.DrillArgs.{DrillArgs}
 use Rattle.stab_words.specs.declared.request.MillArgs.{MillArgs}
 use Rattle.stab_words.specs.declared.request.RunArgs.{RunArgs}
 use Rattle.stab_words.specs.declared.request.VerifyArgs.{VerifyArgs}
 use Rattle.stab_words.specs.declared.request.WordFault.{WordFault}
 use Rattle.stab_words.specs.Asked.{asked}
+use Rattle.stab_words.specs.Command.{most_workers}
+use Rattle.turn_floor.specs.Served.{AreOf}
 use Rattle.stab_top.specs.declared.report.Status.{Status}
 use Rattle.stab_top.specs.declared.report.Status.TheVariants.{BadWords, NoMemory, NotBuilt}
 use Rattle.stab_top.specs.Ending.{AsReleased, AtTheEnd, CheckEnds, Outcome, Refuses, RunEnds, VerdictEnds, Writing, shown_by}
@@ -23,6 +25,7 @@ use Rattle.stab_top.specs.declared.report.Role.TheVariants.{Script}
 use Rattle.sink_lines.specs.Device.{Device, Rests, device}
 use Rattle.stab_top.specs.Reading.{Form, Holds, ReadRefused, probes_form, program_form, trace_form}
 use Rattle.stab_top.specs.Reason.{Blame, blames_file, blames_words, no_blame}
+use Rattle.stab_top.specs.Watching.{watched_by}
 use Rattle.stab_top.specs.Words.{is_built}
 
 -- a call: the files before it, their fault count after it, and its outcome
@@ -84,6 +87,12 @@ RunSaysBy writes c args (Some probes) =
 abbrev pub RunSays : Writing → Call → RunArgs → Type 0
 RunSays writes c args = RunSaysBy writes c args args.probes
 
+-- a watched run: it says what a run by the most workers says, and each event of its book carries the number of one of its own
+abbrev pub WatchSays : Call → RunArgs → Type 0
+WatchSays c args =
+    RunSays (AsReleased watched_by) c (record args { workers = most_workers })
+    × IfSome c.outcome.report.book (λ book. AreOf args.workers book.history.events)
+
 -- the mill, which reads no file: no fault of the files was counted
 abbrev pub MillSays : Call → MillArgs → Type 0
 MillSays c args = (c.files_after ≡ c.files.faults) × MillEnds (status_of c) args c.outcome
@@ -132,6 +141,7 @@ BuiltSays c (Verify args) = VerifySays c args
 BuiltSays c (Drill args) = DrillSays c args
 BuiltSays c (Check file) = CheckSays c file
 BuiltSays c (Types file) = TypesSays c file
+BuiltSays c (Watch args) = WatchSays c args
 BuiltSays c _ = ⊥
 
 -- what is said of a request, by whether it is built

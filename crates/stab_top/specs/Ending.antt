@@ -107,11 +107,6 @@ mill_line size events = line (codes "mill " ++ decimal size ++ codes " undos " +
 abbrev pub milled_by : ℕ → BookView → PlainState → List ℕ
 milled_by size book state = shown_by book state ++ mill_line size book.history.events
 
--- the text of a run, or of the run of a mill of this size
-abbrev pub text_with : Option ℕ → BookView → PlainState → List ℕ
-text_with None = shown_by
-text_with (Some size) = milled_by size
-
 -- a prefix of the text was written, which begins with the lines of every release after which worker 1 has an event
 abbrev pub WritesReleases : BookView → PlainState → List ℕ → Outcome → Type 0
 WritesReleases book state text o =

@@ -1,5 +1,6 @@
 pub mod Reason
 pub mod Words
+pub mod Watching
 pub mod Loading
 pub mod Reading
 pub mod Ending

@@ -15,8 +15,10 @@ use Rattle.worker_rounds.specs.declared.rounds.Stop.TheVariants as stops
 use Rattle.worker_rounds.specs.Releases.{StopSays}
 use Rattle.stab_top.specs.declared.report.Status.{Status}
 use Rattle.stab_top.specs.declared.report.Status.TheVariants.{SinkFault}
-use Rattle.stab_top.specs.Ending.{IsRunOf, RestSays, mill_line}
+use Rattle.stab_top.specs.declared.running.LastLine.{LastLine}
+use Rattle.stab_top.specs.Ending.{IsRunOf, RestSays}
 use Rattle.stab_top.specs.Rounds.{IsRound}
+use Rattle.stab_top.specs.Watching.{line_behind}
 
 -- ---- a book that one worker plays on
 
@@ -70,14 +72,9 @@ pub record HasStopped (workers : ℕ) (stop : Stop) (job : JobParts) (book : Boo
   pub run : IsRunOf workers job book state
   pub says : StopSays stop book state sink after
 
--- the line after what a run shows: the mill's, or none
-abbrev pub line_behind : Option ℕ → List Event → List ℕ
-line_behind None events = []
-line_behind (Some size) events = mill_line size events
-
 -- what is left to write of a run that is over
-abbrev pub IsTextBehind : Option ℕ → BookView → List ℕ → Type 0
-IsTextBehind size book text = (rest : List ℕ) × IsRestText book rest × (text ≡ rest ++ line_behind size book.history.events)
+abbrev pub IsTextBehind : LastLine → BookView → List ℕ → Type 0
+IsTextBehind last book text = (rest : List ℕ) × IsRestText book rest × (text ≡ rest ++ line_behind last book.history.events)
 
 -- the text was written whole, and the status is `rest`; or a prefix was written up to a fault, and it is SinkFault
 abbrev pub WritesOf : Status → Status → List ℕ → Device (List ℕ) → Device (List ℕ) → Type 0

@@ -1,9 +1,9 @@
 -- Which requests are built.
 use Rattle.std.specs.Prelude.{Bool, true, false}
 use Rattle.stab_words.specs.declared.request.Request.{Request}
-use Rattle.stab_words.specs.declared.request.Request.TheVariants.{Check, Drill, Mill, Run, Trace, Types, Verify}
+use Rattle.stab_words.specs.declared.request.Request.TheVariants.{Check, Drill, Mill, Run, Trace, Types, Verify, Watch}
 
--- what is built: the commands `run`, `trace`, `mill`, `verify`, `drill`, `check` and `types`
+-- what is built: the commands `run`, `trace`, `mill`, `verify`, `drill`, `check`, `types` and `watch`
 abbrev pub is_built : Request → Bool
 is_built (Run args) = true
 is_built (Trace args) = true
@@ -12,4 +12,5 @@ is_built (Verify args) = true
 is_built (Drill args) = true
 is_built (Check file) = true
 is_built (Types file) = true
+is_built (Watch args) = true
 is_built _ = false

@@ -32,7 +32,7 @@ ghost use Rattle.stab_words.specs.Asked.{asked};
 ghost use Rattle.stab_words.specs.declared.request.Request.{Request};
 ghost use Rattle.stab_words.specs.declared.request.DrillArgs.{DrillArgs};
 ghost use Rattle.stab_words.specs.declared.request.MillArgs.{MillArgs};
-ghost use Rattle.stab_words.specs.declared.request.Request.TheVariants.{Check, Drill, Mill, Run, Trace, Types, Verify};
+ghost use Rattle.stab_words.specs.declared.request.Request.TheVariants.{Check, Drill, Mill, Run, Trace, Types, Verify, Watch};
 ghost use Rattle.stab_words.specs.declared.request.RunArgs.{RunArgs as Args};
 ghost use Rattle.stab_words.specs.declared.request.VerifyArgs.{VerifyArgs};
 ghost use Rattle.trace_text.specs.declared.fault.TraceFault.{TraceFault};
@@ -40,7 +40,9 @@ ghost use Rattle.trace_text.specs.Text.{trace};
 ghost use Rattle.stab_top.specs.Call.{Call, CountedFault, Says, status_of};
 ghost use Rattle.stab_top.specs.Words.{is_built};
 ghost use Rattle.stab_top.specs.Complete.{Checked, ComesTo, IsHeld, IsHeldFor, IsRefused, IsScriptFor, Ran, StopsWith, TypesFound, WasDrilled, WasJudged, WasStuck};
-ghost use Rattle.stab_top.specs.Ending.{IsRunOf};
+ghost use Rattle.stab_top.specs.Ending.{IsRunOf, shown_by};
+ghost use Rattle.stab_top.specs.Watching.{watched_by};
+ghost use Rattle.stab_words.specs.Command.{most_workers};
 ghost use Rattle.stab_top.specs.Headline.{AsksForRun, IsEnd, IsOfTheLanguage, ShowsRunOf};
 ghost use Rattle.stab_top.specs.Reading.{probes_form, program_form, trace_form};
 ghost use Rattle.stab_top.specs.declared.report.Role.TheVariants.{Probes as ProbesFile, Program as ProgramFile, Script as ScriptFile, Trace as TraceFile};
@@ -57,11 +59,18 @@ use stab_types::typed_programs_never_go_wrong;
 /// number of workers. With one worker the run's events are also those of a drill of `lease 1` and `commit 1`.
 pub fn runs_are_of_the_language()
     ensures { (words : List (List ℕ)) (c : Call) (args : Args) → Says words c → asked words ≡ Ok (Run args) →
-        IsEnd (status_of c) → ShowsRunOf c args }
+        IsEnd (status_of c) → ShowsRunOf shown_by c args }
 {}
 
-/// If the report of a run, a trace, the mill or a drill has a book, what is said above of the book's journal is true, whatever
-/// the status.
+/// The same for a watched run. It has a floor also with one worker, so it is said as of a run by the most workers. After what the run
+/// shows, the line that a board shows was written.
+pub fn watched_runs_are_of_the_language()
+    ensures { (words : List (List ℕ)) (c : Call) (args : Args) → Says words c → asked words ≡ Ok (Watch args) →
+        IsEnd (status_of c) → ShowsRunOf watched_by c (record args { workers = most_workers }) }
+{}
+
+/// If the report of a run, a trace, a watched run, the mill or a drill has a book, what is said above of the book's journal is true,
+/// whatever the status.
 pub fn books_are_of_the_language()
     ensures { (words : List (List ℕ)) (c : Call) (request : Request) (book : BookView) → Says words c →
         asked words ≡ Ok request → AsksForRun request → c.outcome.report.book ≡ Some book → IsOfTheLanguage book }
@@ -92,6 +101,13 @@ pub fn good_programs_are_traced()
         IsTextOf bytes program → IsScriptFor c args.probes script → Ran (status_of c) ⊎ CountedFault c }
 {}
 
+/// The same for a watched run.
+pub fn good_programs_are_watched()
+    ensures { (words : List (List ℕ)) (c : Call) (args : Args) (bytes : List ℕ) (program : ProgramParts)
+        (script : List ℤ) → Says words c → asked words ≡ Ok (Watch args) → IsHeld ProgramFile c args.file bytes →
+        IsTextOf bytes program → IsScriptFor c args.probes script → Ran (status_of c) ⊎ CountedFault c }
+{}
+
 /// If the words ask for the mill, and its text is that of a program, then the run came to its end, or memory ran out, or a fault
 /// was counted.
 pub fn mills_run()
@@ -116,8 +132,8 @@ pub fn types_are_told()
 {}
 
 /// If the words ask for the types of a program, and the status is Done, then no thread in any book of that program has failed
-/// because a value was of the wrong kind. The book may come from `run`, `trace`, `mill` or `drill`, with any numbers for its
-/// probes.
+/// because a value was of the wrong kind. The book may come from `run`, `trace`, `watch`, `mill` or `drill`, with any
+/// numbers for its probes.
 pub fn typed_files_never_go_wrong()
     ensures { (words : List (List ℕ)) (c : Call) (file bytes : List ℕ) (program : ProgramParts) (book : BookView) → Says words c →
         asked words ≡ Ok (Types file) → status_of c ≡ DoneStatus → IsHeld ProgramFile c file bytes → IsTextOf bytes program →
@@ -201,10 +217,11 @@ pub fn bad_texts_are_refused()
         IsRefused program_form c fault ⊎ CountedFault c }
 {}
 
-/// The same for the probe file of a run or a trace, if there is a program.
+/// The same for the probe file of a run, a trace or a watched run, if there is a program.
 pub fn bad_probes_stop_runs()
     ensures { (words : List (List ℕ)) (c : Call) (args : Args) (text name bytes : List ℕ) (program : ProgramParts)
-        (fault : ProbesFault) → Says words c → (asked words ≡ Ok (Run args)) ⊎ (asked words ≡ Ok (Trace args)) →
+        (fault : ProbesFault) → Says words c → (asked words ≡ Ok (Run args)) ⊎ (asked words ≡ Ok (Trace args)) ⊎
+        (asked words ≡ Ok (Watch args)) →
         IsHeld ProgramFile c args.file text → IsTextOf text program → args.probes ≡ Some name →
         IsHeld ProbesFile c name bytes → probes_form.HasFault bytes fault → IsRefused probes_form c fault ⊎ CountedFault c }
 {}

@@ -11,7 +11,7 @@ ghost use Rattle.stab_top.specs.Reading.{BytesRefused, program_form};
 
 use crate::reading::{Given, program_of};
 use crate::report::{Report, Status};
-use crate::running::{Means, run_program};
+use crate::running::{LastLine, Means, run_program};
 use mill_text::{mill_script, mill_text};
 use stab_base::NoMemory;
 use stab_files::Sink;
@@ -40,7 +40,15 @@ pub fn run_mill<R: Threads + Wait + Sync, K: Sink, G: Gate + Sync>(
                 fuel: args.fuel,
                 quantum: args.quantum,
             };
-            run_program(rt, alloc, given, means, Some(args.size), gate, sink)
+            run_program(
+                rt,
+                alloc,
+                given,
+                means,
+                LastLine::Mill(args.size),
+                gate,
+                sink,
+            )
         }
         Err(report) => report,
     }

@@ -57,8 +57,8 @@ pub fn run_book<R: Threads + Wait + Sync, K: Sink, G: Gate + Sync>(
     }
 }
 
-// Worker 1 plays the book on to its end.
-fn play_on<K: Sink>(alloc: Global, book: Book, sink: &mut K) -> Played
+/// Worker 1 plays the book on to its end.
+pub(crate) fn play_on<K: Sink>(alloc: Global, book: Book, sink: &mut K) -> Played
     requires { IsUnlent book }
     ensures later { IsLater book result.book }
     ensures unlent { IsUnlent result.book }

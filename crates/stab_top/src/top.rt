@@ -14,8 +14,9 @@ use crate::loading::load;
 use crate::milling::run_mill;
 use crate::reading::{Given, read_probes_file, read_program_file, read_run, read_trace_file};
 use crate::report::{Report, Role, Status};
-use crate::running::{Means, run_program, trace_program};
+use crate::running::{LastLine, Means, run_program, trace_program};
 use crate::typing::types_file;
+use crate::watching::watch_file;
 use crate::words::is_built;
 use stab_code::Program;
 use stab_files::{Files, Sink};
@@ -29,8 +30,9 @@ use worker_lease::Gate;
 /// it shows; `trace FILE` runs it and writes the trace; `mill SIZE` runs the mill of this size; `verify FILE TRACE` writes the
 /// verdict on a trace; `drill FILE SCRIPT` plays a schedule written by hand, and writes what its lines did and then what the
 /// program shows; `check FILE` writes how many functions and texts the program has; `types FILE` writes how many functions it
-/// has, if it is typed. `run`, `trace` and `mill` use as many workers as the words say. One worker runs on the calling thread and
-/// calls no gate. Of several workers, each runs in a thread of its own, if one can be made, and calls the gate before each
+/// has, if it is typed; `watch FILE` is `run FILE` while a board shows the run's journal, with a last line of what it shows. `run`,
+/// `trace`, `watch` and `mill` use as many workers as the words say. One worker runs on the calling thread and calls no gate, but
+/// not in `watch`. Of several workers, each runs in a thread of its own, if one can be made, and calls the gate before each
 /// commit. So the call may wait.
 pub fn stab<R: Threads + Wait + Sync, F: Files, K: Sink, G: Gate + Sync>(
     rt: &R,
@@ -76,6 +78,7 @@ fn answer_request<R: Threads + Wait + Sync, F: Files, K: Sink, G: Gate + Sync>(
         Request::Drill(args) => drill_file(alloc, args, files, sink),
         Request::Check(file) => check_file(alloc, file, files, sink),
         Request::Types(file) => types_file(alloc, file, files, sink),
+        Request::Watch(args) => watch_file(rt, alloc, args, files, sink, gate),
         _ => unreachable!(),
     }
 }
@@ -95,7 +98,15 @@ fn run_file<R: Threads + Wait + Sync, F: Files, K: Sink, G: Gate + Sync>(
     ensures kept { F.held files.new ≡ F.held files.old }
 {
     match read_run(alloc, args, files) {
-        Ok(given) => run_program(rt, alloc, given, means_of(args), None, gate, sink),
+        Ok(given) => run_program(
+            rt,
+            alloc,
+            given,
+            means_of(args),
+            LastLine::Nothing,
+            gate,
+            sink,
+        ),
         Err(report) => report,
     }
 }
@@ -120,7 +131,8 @@ fn trace_file<R: Threads + Wait + Sync, F: Files, K: Sink, G: Gate + Sync>(
     }
 }
 
-fn means_of(args: &RunArgs) -> Means
+/// By how many workers the words ask to run, and with which fuel and quantum.
+pub(crate) fn means_of(args: &RunArgs) -> Means
     ensures { (result.workers ≡ args.now.workers) × (result.fuel ≡ args.now.fuel) × (result.quantum ≡ args.now.quantum) }
 {
     Means {
