@@ -9,3 +9,5 @@ pub mod BodySteps
 pub mod BodyLaws
 pub mod OpeningLaws
 pub mod OpeningSteps
+pub mod CountsLaws
+pub mod CountsSteps

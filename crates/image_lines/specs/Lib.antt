@@ -7,3 +7,5 @@ pub mod Body
 pub mod BodyText
 pub mod Opening
 pub mod OpeningText
+pub mod Counts
+pub mod CountsText

@@ -1,0 +1,13 @@
+pub mod LineKinds
+pub mod Grouped
+pub mod Rises
+pub mod Listed
+pub mod Entries
+pub mod Knowing
+pub mod Fitting
+pub mod Sounding
+pub mod StateLaws
+pub mod Same
+pub mod Redexes
+pub mod Adding
+pub mod StateSteps

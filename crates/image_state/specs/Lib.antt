@@ -1,0 +1,10 @@
+pub mod Order
+pub mod Named
+pub mod Values
+pub mod Counted
+pub mod Stands
+pub mod Fits
+pub mod Parts
+pub mod Held
+pub mod State
+pub mod Sound
