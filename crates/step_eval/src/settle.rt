@@ -121,7 +121,13 @@ impl Machine {
     {
         let mut n = n;
         let mut from = from;
-        'inward: while let Some(part) = take_leaves(p, n, from, self.env.values(), &mut self.done)? {
+        'inward: while let Some(part) = take_leaves(
+            p,
+            n,
+            from,
+            self.env.values(),
+            &mut self.done,
+        )? {
             self.go_in(part)?;
             n = part;
             from = 0;
