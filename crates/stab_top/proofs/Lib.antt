@@ -16,3 +16,4 @@ pub mod Given
 pub mod Mill
 pub mod Headline
 pub mod TypesFound
+pub mod SourceRead

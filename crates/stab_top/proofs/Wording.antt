@@ -19,7 +19,8 @@ use Rattle.stab_top.specs.Loading.{LoadRefused, blamed}
 use Rattle.stab_top.specs.Reading.{Blames, Form, probes_form, program_form}
 use Rattle.stab_top.specs.Ending.{AsReleased, AtTheEnd, CheckEnds, RunEnds, Writing, shown_by}
 use Rattle.stab_top.specs.Typing.{TypesEnds}
-use Rattle.stab_top.specs.Call.{BuiltSays, Call, FaultSays, LastSays, NotBuiltSays, ReadSays, RequestSays, RunSaysBy, Says, OrdersSay, ScriptSays, TraceSays, Untouched, WordsSay, status_of}
+use Rattle.stab_top.specs.Saving.{source_form}
+use Rattle.stab_top.specs.Call.{BuiltSays, Call, CutSays, FaultSays, LastSays, NotBuiltSays, ReadSays, RequestSays, RunSaysBy, Says, OrdersSay, ScriptSays, TraceSays, Untouched, WordsSay, status_of}
 
 -- no file was loaded, because memory ran out
 unread : {Content Fault : Type 0} (form : Form Content Fault) (c : Call) (file : List ℕ) (faults : ℕ) (Said : Content → Type 0) → status_of c ≡ NoMemory → Untouched c no_blame → ReadSays form c file faults Said
@@ -45,7 +46,7 @@ request_says (Check file) c none is = unread program_form c file c.files_after (
 request_says (Drill args) c none is = unread program_form c args.file c.files.faults (λ p. ScriptSays c args.probes (λ s. OrdersSay c args p s)) none is
 request_says (Mill args) c none is = (is.no_fault, inl (inr (none, is.refuses.0), is.refuses.1))
 request_says (Types file) c none is = unread program_form c file c.files_after (λ p. TypesEnds (status_of c) p c.outcome) none is
-request_says (Save args) c none is = not_built c none is
+request_says (Save args) c none is = unread source_form c args.file c.files.faults (λ s. ScriptSays c args.probes (λ script. CutSays c args s script)) none is
 request_says (Resume args) c none is = not_built c none is
 request_says (Watch args) c none is = (run_says (AsReleased watched_by) (record args { workers = most_workers }) args.probes c none is, no_events (AreOf args.workers) c.outcome.report.book is.refuses.0.no_book)
 

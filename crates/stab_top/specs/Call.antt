@@ -5,10 +5,11 @@ use Rattle.stab_code.specs.Program.{ProgramParts}
 use Rattle.stab_files.specs.Count.{Rose}
 use Rattle.stab_files.specs.Entry.{Entry}
 use Rattle.stab_words.specs.declared.request.Request.{Request}
-use Rattle.stab_words.specs.declared.request.Request.TheVariants.{Check, Drill, Mill, Run, Trace, Types, Verify, Watch}
+use Rattle.stab_words.specs.declared.request.Request.TheVariants.{Check, Drill, Mill, Run, Save, Trace, Types, Verify, Watch}
 use Rattle.stab_words.specs.declared.request.DrillArgs.{DrillArgs}
 use Rattle.stab_words.specs.declared.request.MillArgs.{MillArgs}
 use Rattle.stab_words.specs.declared.request.RunArgs.{RunArgs}
+use Rattle.stab_words.specs.declared.request.SaveArgs.{SaveArgs}
 use Rattle.stab_words.specs.declared.request.VerifyArgs.{VerifyArgs}
 use Rattle.stab_words.specs.declared.request.WordFault.{WordFault}
 use Rattle.stab_words.specs.Asked.{asked}
@@ -20,6 +21,8 @@ use Rattle.stab_top.specs.Ending.{AsReleased, AtTheEnd, CheckEnds, Outcome, Refu
 use Rattle.stab_top.specs.Milling.{MillEnds}
 use Rattle.stab_top.specs.Drilling.{DrillEnds}
 use Rattle.stab_top.specs.Typing.{TypesEnds}
+use Rattle.stab_top.specs.declared.saving.Source.{Source}
+use Rattle.stab_top.specs.Saving.{SaveEnds, source_form}
 use Rattle.stab_top.specs.Loading.{FileSays, blamed}
 use Rattle.stab_top.specs.declared.report.Role.TheVariants.{Script}
 use Rattle.sink_lines.specs.Device.{Device, Rests, device}
@@ -120,6 +123,17 @@ abbrev pub VerifySays : Call → VerifyArgs → Type 0
 VerifySays c args =
     NextSays program_form c args.file (λ program. ScriptSays c args.probes (λ script. TraceSays c args.trace program script))
 
+-- the trace of a file, of which the image at a cut was to be saved
+abbrev pub CutSays : Call → SaveArgs → Source → List ℤ → Type 0
+CutSays c args source script =
+    LastSays trace_form c args.trace (λ history.
+    SaveEnds (status_of c) source.text.items source.program script history args.at c.outcome)
+
+-- the program is read first, then the script, then the trace
+abbrev pub SaveSays : Call → SaveArgs → Type 0
+SaveSays c args =
+    NextSays source_form c args.file (λ source. ScriptSays c args.probes (λ script. CutSays c args source script))
+
 -- the file of the drill script was refused, which is blamed; or its bytes were to be played on a new book of the job
 abbrev pub OrdersSay : Call → DrillArgs → ProgramParts → List ℤ → Type 0
 OrdersSay c args program script =
@@ -142,6 +156,7 @@ BuiltSays c (Drill args) = DrillSays c args
 BuiltSays c (Check file) = CheckSays c file
 BuiltSays c (Types file) = TypesSays c file
 BuiltSays c (Watch args) = WatchSays c args
+BuiltSays c (Save args) = SaveSays c args
 BuiltSays c _ = ⊥
 
 -- what is said of a request, by whether it is built

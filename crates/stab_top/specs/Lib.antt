@@ -9,6 +9,7 @@ pub mod Playing
 pub mod Milling
 pub mod Drilling
 pub mod Typing
+pub mod Saving
 pub mod Call
 pub mod Command
 pub mod Complete

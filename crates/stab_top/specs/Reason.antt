@@ -18,7 +18,7 @@ use Rattle.stab_words.specs.declared.request.WordFault.{WordFault}
 use Rattle.stab_words.specs.FaultText as words
 use Rattle.stab_top.specs.declared.report.Report.{Report}
 use Rattle.stab_top.specs.declared.report.Status.{Status}
-use Rattle.stab_top.specs.declared.report.Status.TheVariants.{Done, Held, BadWords, BadText, NoFile, TooBig, FileFault, SinkFault, Spent, NoMemory, BadProbes, BadTrace, BadScript, No, NotBuilt, Untyped}
+use Rattle.stab_top.specs.declared.report.Status.TheVariants.{Done, Held, BadWords, BadText, NoFile, TooBig, FileFault, SinkFault, Spent, NoMemory, BadProbes, BadTrace, BadScript, No, NotBuilt, Untyped, NoCut}
 use Rattle.stab_top.specs.declared.report.Role.{Role}
 use Rattle.stab_top.specs.declared.report.Role.TheVariants.{Program, Probes, Trace, Script}
 
@@ -40,6 +40,7 @@ status_number BadScript = 12
 status_number No = 13
 status_number NotBuilt = 14
 status_number Untyped = 15
+status_number NoCut = 16
 
 -- the name of a status
 abbrev pub status_name : Status → List ℕ
@@ -59,6 +60,7 @@ status_name BadScript = codes "BadScript"
 status_name No = codes "No"
 status_name NotBuilt = codes "NotBuilt"
 status_name Untyped = codes "Untyped"
+status_name NoCut = codes "NoCut"
 
 -- the word for a file's role
 abbrev pub role_name : Role → List ℕ

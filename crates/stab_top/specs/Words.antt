@@ -1,7 +1,7 @@
 -- Which requests are built.
 use Rattle.std.specs.Prelude.{Bool, true, false}
 use Rattle.stab_words.specs.declared.request.Request.{Request}
-use Rattle.stab_words.specs.declared.request.Request.TheVariants.{Check, Drill, Mill, Run, Trace, Types, Verify, Watch}
+use Rattle.stab_words.specs.declared.request.Request.TheVariants.{Check, Drill, Mill, Run, Save, Trace, Types, Verify, Watch}
 
 -- what is built: the commands `run`, `trace`, `mill`, `verify`, `drill`, `check`, `types` and `watch`
 abbrev pub is_built : Request → Bool
@@ -13,4 +13,5 @@ is_built (Drill args) = true
 is_built (Check file) = true
 is_built (Types file) = true
 is_built (Watch args) = true
+is_built (Save args) = true
 is_built _ = false

@@ -14,6 +14,7 @@ mod reason_line;
 mod report;
 mod rounds;
 mod running;
+mod saving;
 mod sharing;
 mod silent;
 mod top;

@@ -52,6 +52,8 @@ pub enum Status {
     NotBuilt,
     /// A function of the program isn't typed.
     Untyped,
+    /// The trace is one of a run of the program, which has fewer cuts.
+    NoCut,
 }
 
 impl Status {
@@ -83,6 +85,7 @@ impl Status {
             Status::No => "No",
             Status::NotBuilt => "NotBuilt",
             Status::Untyped => "Untyped",
+            Status::NoCut => "NoCut",
         }
     }
 }

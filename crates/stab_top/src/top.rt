@@ -15,6 +15,7 @@ use crate::milling::run_mill;
 use crate::reading::{Given, read_probes_file, read_program_file, read_run, read_trace_file};
 use crate::report::{Report, Role, Status};
 use crate::running::{LastLine, Means, run_program, trace_program};
+use crate::saving::save_file;
 use crate::typing::types_file;
 use crate::watching::watch_file;
 use crate::words::is_built;
@@ -30,7 +31,7 @@ use worker_lease::Gate;
 /// it shows; `trace FILE` runs it and writes the trace; `mill SIZE` runs the mill of this size; `verify FILE TRACE` writes the
 /// verdict on a trace; `drill FILE SCRIPT` plays a schedule written by hand, and writes what its lines did and then what the
 /// program shows; `check FILE` writes how many functions and texts the program has; `types FILE` writes how many functions it
-/// has, if it is typed; `watch FILE` is `run FILE` while a board shows the run's journal, with a last line of what it shows. `run`,
+/// has, if it is typed; `save FILE TRACE CUT` writes the image at a cut of a trace; `watch FILE` is `run FILE` while a board shows the run's journal, with a last line of what it shows. `run`,
 /// `trace`, `watch` and `mill` use as many workers as the words say. One worker runs on the calling thread and calls no gate, but
 /// not in `watch`. Of several workers, each runs in a thread of its own, if one can be made, and calls the gate before each
 /// commit. So the call may wait.
@@ -78,6 +79,7 @@ fn answer_request<R: Threads + Wait + Sync, F: Files, K: Sink, G: Gate + Sync>(
         Request::Drill(args) => drill_file(alloc, args, files, sink),
         Request::Check(file) => check_file(alloc, file, files, sink),
         Request::Types(file) => types_file(alloc, file, files, sink),
+        Request::Save(args) => save_file(alloc, args, files, sink),
         Request::Watch(args) => watch_file(rt, alloc, args, files, sink, gate),
         _ => unreachable!(),
     }

@@ -4,8 +4,8 @@ ghost use Rattle.stab_top.specs.Words.{is_built};
 
 use stab_words::Request;
 
-/// Whether the request is built: `run`, `trace`, `watch`, `mill`, `verify`, `drill`, `check` or `types`. Any other gets the
-/// status NotBuilt.
+/// Whether the request is built: `run`, `trace`, `watch`, `mill`, `verify`, `drill`, `check`, `types` or `save`. `resume` gets
+/// the status NotBuilt.
 pub fn is_built(request: &Request) -> bool
     ensures { result ≡ is_built request.now }
 {
@@ -17,7 +17,8 @@ pub fn is_built(request: &Request) -> bool
         | Request::Drill(_)
         | Request::Check(_)
         | Request::Types(_)
-        | Request::Watch(_) => true,
+        | Request::Watch(_)
+        | Request::Save(_) => true,
         _ => false,
     }
 }
