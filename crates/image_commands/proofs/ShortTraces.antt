@@ -27,7 +27,7 @@ pieces_few mark (b ∷ bytes) =
     ]
 
 not_ok : {A : Type 0} (f : TraceFault) (a : A) → Err f ≡ Ok a → ⊥
-not_ok f a no = cc
+not_ok f a is = cc
 
 nothing_few : (at : ℕ) (lines : List (List ℕ)) (es : List Entry) → nothing_more at lines ≡ Ok es → length es ≤ 0
 nothing_few at [] es is = absurd (not_ok _ es is)
