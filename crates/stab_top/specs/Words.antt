@@ -3,7 +3,7 @@ use Rattle.std.specs.Prelude.{Bool, true, false}
 use Rattle.stab_words.specs.declared.request.Request.{Request}
 use Rattle.stab_words.specs.declared.request.Request.TheVariants.{Check, Drill, Mill, Run, Save, Trace, Types, Verify, Watch}
 
--- what is built: the commands `run`, `trace`, `mill`, `verify`, `drill`, `check`, `types` and `watch`
+-- what is built: the commands `run`, `trace`, `mill`, `verify`, `drill`, `check`, `types`, `watch` and `save`
 abbrev pub is_built : Request → Bool
 is_built (Run args) = true
 is_built (Trace args) = true
