@@ -9,5 +9,3 @@ pub mod BodySteps
 pub mod BodyLaws
 pub mod OpeningLaws
 pub mod OpeningSteps
-pub mod CountsLaws
-pub mod CountsSteps

@@ -7,5 +7,3 @@ pub mod Body
 pub mod BodyText
 pub mod Opening
 pub mod OpeningText
-pub mod Counts
-pub mod CountsText

@@ -1,12 +1,10 @@
 //! What holds of the lines of an image. The calls do nothing.
-ghost use Rattle.std.specs.Prelude.{◌≡◌, ℕ, List, None, Ok};
+ghost use Rattle.std.specs.Prelude.{◌≡◌, ℕ, List, None};
 ghost use Rattle.text_lines.specs.Lines.{split};
 ghost use Rattle.image_lines.specs.declared.line.Line.{Line};
 ghost use Rattle.image_lines.specs.Body.{Body, no_fault, read_lines};
 ghost use Rattle.image_lines.specs.BodyText.{AreLines, IsBody, body_text, placed};
 ghost use Rattle.image_lines.specs.OpeningText.{IsOpened};
-ghost use Rattle.image_lines.specs.Counts.{Counts, counts_in};
-ghost use Rattle.image_lines.specs.CountsText.{AreCounts, IsCounted, IsFound};
 ghost use Rattle.image_lines.specs.Head.{length_in, next_in, probe_in, probes_in};
 ghost use Rattle.image_lines.specs.HeadText.{AreNext, AreProbes, IsLength, IsProbe, length_text, next_text, probe_text, probes_text};
 ghost use Rattle.image_lines.specs.Line.{line_in};
@@ -31,10 +29,4 @@ pub fn bodies_read_back()
 /// The program of an image is read from its text and from no other bytes.
 pub fn programs_read_back()
     ensures { IsOpened }
-{}
-
-/// The script and the next numbers are read from their text and from no other bytes.
-pub fn counts_read_back()
-    ensures written { (at : ℕ) (c : Counts) → AreCounts c → IsFound at c }
-    ensures exact { (at : ℕ) (bytes : List ℕ) (c : Counts) → counts_in at bytes ≡ Ok c → IsCounted at bytes c }
 {}

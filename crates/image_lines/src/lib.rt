@@ -3,7 +3,6 @@
 
 mod begin;
 mod body;
-mod counts;
 mod head;
 mod laws;
 mod line;
@@ -11,8 +10,7 @@ mod opening;
 mod value;
 
 pub use body::{Body, TextFault, body_in};
-pub use counts::{Counts, counts_in};
 pub use head::{Next, Probes, length_in, next_in, probe_in, probes_in};
-pub use laws::{bodies_read_back, counts_read_back, lines_read_back, programs_read_back};
+pub use laws::{bodies_read_back, lines_read_back, programs_read_back};
 pub use line::{Line, line_in};
 pub use opening::program_in;

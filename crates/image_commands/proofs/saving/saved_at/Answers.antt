@@ -1,0 +1,14 @@
+use Rattle.std.proofs.Common.{ℕ, List, ◌++◌, ap, ◌∙◌}
+use Rattle.stab_image.specs.ImageText.{text_of_image}
+use Rattle.image_commands.proofs.saving.saved_at.Goals as goal
+
+pub returns : goal.returns
+returns c = record {
+  of_run = c.requires.of_run;
+  seq = c.in-Some.q.0;
+  cut = c.in-Some.ensures;
+  image = c.in_ok-image.image;
+  stands = c.in_ok-image.ensures.stands;
+  text_is = c.in_ok-image.ensures.text;
+  bytes_are = c.in_ok-put_image.ensures.written ∙ ap (λ (front : List ℕ). front ++ text_of_image c.in_ok-image.image) c.new-out.ensures.items;
+}
