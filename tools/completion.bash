@@ -9,7 +9,7 @@ _stab() {
         before=${COMP_WORDS[COMP_CWORD - 2]}
     fi
     case ${COMP_WORDS[1]} in
-    run | trace | watch) options=$'--probes\n--workers\n--fuel\n--quantum' ;;
+    run | trace) options=$'--probes\n--workers\n--fuel\n--quantum' ;;
     verify) options='--probes' ;;
     drill) options=$'--probes\n--fuel\n--quantum' ;;
     mill) options=$'--workers\n--fuel\n--quantum' ;;
@@ -26,7 +26,7 @@ _stab() {
     esac
     COMPREPLY=()
     if [[ $COMP_CWORD -eq 1 ]]; then
-        COMPREPLY=($(compgen -W $'run\ncheck\ntypes\ntrace\nwatch\nverify\ndrill\nmill' -- "$word"))
+        COMPREPLY=($(compgen -W $'run\ncheck\ntypes\ntrace\nverify\ndrill\nmill' -- "$word"))
     elif [[ $before == --probes ]]; then
         COMPREPLY=($(compgen -f -- "$word"))
     elif [[ $word == -* ]]; then

@@ -102,21 +102,12 @@ function kind_after(before, word) {
     if (before ~ /(^|[^A-Za-z0-9_])else$/) return "else"
     if (before ~ /:$/) return "type"
     if (before ~ /(^|[^A-Za-z0-9_])(let|fn)$/ && word ~ /^[a-z]+$/) return "reserved"
-    if (before ~ /^fn [A-Za-z0-9_?]+ ?\(([^()]*,)?$/ && word ~ /^[a-z]+$/) return "reserved"
     if (before ~ /(^|[^A-Za-z0-9_])(while|for|loop)$/) return "loop"
     if (before ~ /(^|[^A-Za-z0-9_])return$/) return "return"
     if (word == "," && before ~ /(^|[^A-Za-z0-9_])(ref|get|recv|print|fst|snd)\([^()]*$/) return "pair"
-    if ((word == ";" || word == "{" || word == "}") && before ~ /[A-Za-z0-9_?)"]$/ && is_open(before)) return "bracket"
     if (word == "}" && (before ~ /^[} ]*$/ || before ~ /(^|[^A-Za-z0-9_])let [^;]*$/)) return "closing"
     if (before != "" && before !~ /\)$/) return ""
     return is_of_word(right[1]) && word != "fn" && word != "else" ? "semicolon" : ""
-}
-
-# Whether a `(` isn't closed in what comes after the last `;`, `{` and `}`.
-function is_open(before) {
-    gsub(/"([^"\\]|\\.)*"/, "", before)
-    sub(/^.*[;{}]/, "", before)
-    return gsub(/\(/, "", before) > gsub(/\)/, "", before)
 }
 
 # The first bytes of a list as a text, with a `?` for each that isn't of ASCII.

@@ -14,7 +14,6 @@
 #include <stdio.h>
 #include <stdlib.h>
 #include <string.h>
-#include <sys/syscall.h>
 #include <unistd.h>
 
 enum kind { ALLOC, OPEN, READ, WRITE, ERROR, KINDS };
@@ -60,18 +59,11 @@ __attribute__((destructor)) static void end(void) {
     fclose(file);
 }
 
-// A program that can start threads ends so, and no destructor is called.
-void _exit(int status) {
-    end();
-    for (;;) syscall(SYS_exit_group, status);
-}
-
 static int is_refused(enum kind kind) {
     if (!is_on) return 0;
     long number = __atomic_add_fetch(&counts[kind], 1, __ATOMIC_SEQ_CST);
-    int is_it = is_scarce && kind == ALLOC ? number > at : refused == kind && number == at;
-    if (is_it && kind == ALLOC) errno = ENOMEM;
-    return is_it;
+    if (is_scarce && kind == ALLOC) return number > at;
+    return refused == kind && number == at;
 }
 
 // Whether this call of the system fails, and with what.

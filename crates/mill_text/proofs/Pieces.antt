@@ -3,7 +3,7 @@ use Rattle.std.proofs.Common.{◌≡◌, ℕ, List, ◌++◌, append_assoc}
 use Rattle.stab_base.specs.Gain.{GainsPrefix}
 use Rattle.stab_base.proofs.GainLemmas.{GainsPrefix-append, GainsPrefix-after}
 
--- two pieces were added, each with the number after it, and then a third
+-- two pieces were added, each with the number behind it, and then a third
 pub gains-pieces : (old one two three a b z n : List ℕ) → one ≡ old ++ (a ++ n) → two ≡ one ++ (b ++ n) → three ≡ two ++ z → three ≡ old ++ (a ++ n ++ b ++ n ++ z)
 gains-pieces old one two three a b z n e f g = rw (g, f, e) (simp append_assoc)
 

@@ -1,8 +1,8 @@
--- The mill: a program with n sections, and the numbers that its probes get.
+-- The mill: a program with so many sections, and the numbers that its probes get.
 use Rattle.std.specs.Prelude.{ℕ, ◌%◌, ◌==◌, List, ◌++◌, map, codes, decimal, ℤ, pos, neg_ℤ, if◌then◌else◌}
 use Rattle.std.specs.List.{range_with_len}
 
--- the text before the number of sections: the functions, up to the call of `start` in `main`
+-- what stands before the number of sections: the functions, as far as `main` starts them
 abbrev pub functions : List ℕ
 functions =
     codes "fn part(c: chan[int], i: int): unit { send(c, i); if probe() < 0 { stabilize() } else { () } }\n"
@@ -16,10 +16,10 @@ functions =
 abbrev pub mill_text : ℕ → List ℕ
 mill_text n = functions ++ decimal n ++ codes ", o); print(sum(" ++ decimal n ++ codes ", o, 0)) }\n"
 
--- the j-th number, from 1: -1 if 10 divides j, 0 otherwise
+-- the j-th number, from 1: -1 where 10 divides j, else 0
 abbrev pub probe_number : ℕ → ℤ
 probe_number j = if j % 10 == 0 then neg_ℤ (pos 1) else pos 0
 
--- the first n numbers
+-- the first to the n-th number
 abbrev pub mill_script : ℕ → List ℤ
 mill_script n = map probe_number (range_with_len 1 n)

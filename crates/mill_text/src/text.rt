@@ -6,7 +6,7 @@ ghost use Rattle.mill_text.specs.Mill.{mill_text};
 use itoa::Buffer;
 use stab_base::NoMemory;
 
-// The text before the first number of sections.
+// All that comes before the number of sections.
 const BEFORE: &[u8] = b"\
 fn part(c: chan[int], i: int): unit { send(c, i); if probe() < 0 { stabilize() } else { () } }
 fn maker(c: chan[int], a: chan[unit], i: int): unit { stable part(c, i); send(a, ()) }
@@ -19,8 +19,8 @@ const BETWEEN: &[u8] = b", o); print(sum(";
 
 const AFTER: &[u8] = b", o, 0)) }\n";
 
-/// Appends the text of the mill of this size. The program starts two threads for each number from 1 to `size` and prints the sum
-/// of the numbers, whatever is rolled back on the way. If memory runs out, a prefix of the text was appended.
+/// Adds the program of the mill of this size, which starts two threads for each number up to it and prints the sum of
+/// the numbers, whatever is rolled back on the way.
 pub fn mill_text(size: u32, out: &mut Vec<u8>) -> Result<(), NoMemory>
     ensures ok { OnOk result (out.new.items ≡ out.old.items ++ mill_text size) }
     ensures err { OnErr result (GainsPrefix out.old.items out.new.items (mill_text size)) }

@@ -1,14 +1,14 @@
--- What files and sinks say of their contents, and what is written to a sink.
+-- What files and sinks tell of themselves, and what a sink gains.
 use Rattle.std.specs.Prelude.{◌≡◌, ℕ, List, Option, ◌⊎◌}
 use Rattle.stab_files.specs.Count.{Rose}
 use Rattle.stab_files.specs.Told.{Appends, AppendsPrefix}
 
--- what files or a sink say of their contents, and how many faults they have counted
+-- what files or a sink tell of their contents, and how many faults they had
 pub record Device (Contents : Type 0) : Type 0 where
   pub told : Option Contents
   pub faults : ℕ
 
--- an object as a device: what it says of its contents, and its count of faults
+-- what an object is seen as, by what is told of it and by its count of faults
 abbrev pub device : {T Contents : Type 0} → (T → Option Contents) → (T → ℕ) → T → Device Contents
 device told faults object = record { told = told object; faults = faults object }
 
@@ -24,6 +24,6 @@ Gains sink after text = Appends sink.told after.told text × (after.faults ≡ s
 abbrev pub GainsPrefix : Device (List ℕ) → Device (List ℕ) → List ℕ → Type 0
 GainsPrefix sink after text = AppendsPrefix sink.told after.told text × Rose sink.faults after.faults
 
--- the text was written, or a prefix of it and then a fault was counted
+-- the text was written, or a prefix of it up to a fault
 abbrev pub Writes : Device (List ℕ) → Device (List ℕ) → List ℕ → Type 0
 Writes sink after text = Gains sink after text ⊎ GainsPrefix sink after text

@@ -1,4 +1,4 @@
-//! Writes a text to a sink, line by line, and says how contracts see files and sinks.
+//! A text that is written to a sink, line by line, and what files and sinks are seen as.
 #![tactic(auto)]
 
 mod writing;

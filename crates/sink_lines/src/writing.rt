@@ -5,7 +5,7 @@ ghost use Rattle.stab_files.specs.Told.{Appends, AppendsPrefix};
 
 use stab_files::{Sink, SinkFail};
 
-/// Writes the text, one `put` per line. If a `put` fails, a prefix of the text was written.
+/// Writes the text, one put a line.
 pub fn put_lines<K: Sink>(sink: &mut K, text: &[u8]) -> Result<(), SinkFail>
     ensures appended { OnOk result (Appends (K.told sink.old) (K.told sink.new) text.now) }
     ensures quiet { OnOk result (K.faults sink.new ≡ K.faults sink.old) }

@@ -1,4 +1,4 @@
--- By what the statuses say, a good program or trace is accepted, and a bad text is refused.
+-- What the statuses say leaves no way round a good program or a trace, nor round a text that is none.
 use Rattle.std.proofs.Common.{arith, ◌≡◌, ◌⊎◌, inl, inr, ℕ, ℤ, ◌<◌, true, List, [], ◌∷◌, ◌++◌, length, Option, Some, None, Result, Ok, Err, IfSome, IsSomeAnd, refl, sym, subst, ◌∙◌}
 use Rattle.plain_language.specs.Plain.{PlainState}
 use Rattle.commit_book.specs.Book.{BookView}
@@ -18,8 +18,6 @@ use Rattle.stab_text.specs.declared.fault.TextFault.{TextFault}
 use Rattle.stab_text.specs.Text.{HasFault, IsTextOf}
 use Rattle.stab_text.proofs.Reading.{not_both, one_fault, one_program}
 use Rattle.stab_words.specs.Asked.{asked}
-use Rattle.stab_words.specs.Command.{most_workers}
-use Rattle.stab_top.specs.Watching.{watched_by}
 use Rattle.stab_words.specs.declared.request.DrillArgs.{DrillArgs}
 use Rattle.stab_words.specs.declared.request.MillArgs.{MillArgs}
 use Rattle.stab_words.specs.declared.request.Request.{Request}
@@ -45,18 +43,18 @@ use Rattle.stab_top.specs.Typing.{TypesEnds}
 use Rattle.stab_top.specs.Call.{BuiltSays, Call, CheckSays, CountedFault, DrillSays, LastSays, OrdersSay, ReadSays, RequestSays, RunSaysBy, Says, ScriptSays, TraceSays, VerifySays, WordsSay, status_of}
 use Rattle.stab_top.specs.Complete.{Checked, IsHeld, IsHeldFor, IsRefused, IsScriptFor, Ran, WasDrilled, WasJudged, WasStuck}
 
--- what is found, if the files say what they hold
+-- what is found, where the files tell
 found_there : (files : Device (List Entry)) (name : List ℕ) (P : Option (List ℕ) → Type 0) (held : List Entry) → Finds files name P → files.told ≡ Some held → P (contents_of held name)
 found_there files name P held found told = subst (λ o. IfSome o (λ all. P (contents_of all name))) told found
 
 same_bytes : (a b : List ℕ) → ◌≡◌ {A = Option (List ℕ)} (Some a) (Some b) → a ≡ b
 same_bytes a b h = cc
 
--- memory ran out, or a file was refused for a counted fault
+-- the memory was refused, or a file was, for a fault that was counted
 abbrev pub Failed : Status → Call → Type 0
 Failed status c = (status ≡ NoMemory) ⊎ ((status ≡ FileFault) × CountedFault c)
 
--- a file that is held within the limit is refused only for a counted fault, or because memory ran out
+-- a file that is held within the limit is refused by a fault or for want of memory
 load_refused : (role : Role) (status : Status) (c : Call) (name bytes : List ℕ) → IsHeld role c name bytes → LoadRefused status role c.files name c.files_after → Failed status c
 load_refused role NoFile c name bytes is says =
     let none : contents_of is.files name ≡ None = found_there c.files name (λ found. found ≡ None) is.files says.1 is.told in
@@ -87,14 +85,14 @@ loaded_is role c name bytes loaded faults is loads =
     sym (same_bytes bytes loaded (sym is.held ∙ found_there c.files name (λ found. found ≡ Some loaded) is.files loads.held is.told))
 
 module _ {Content Fault : Type 0} (form : Form Content Fault) (c : Call) (name bytes : List ℕ) (is : IsHeld form.role c name bytes) where
-  -- if what is held has no fault, there is no other reason to refuse it
+  -- where what is held has no fault, there is no other reason to refuse it
   read_refused : ((fault : Fault) → form.HasFault bytes fault → ⊥) → ReadRefused form c.outcome.report c.files name c.files_after → Failed (status_of c) c
   read_refused none (inl (says, blames)) = load_refused form.role (status_of c) c name bytes is says
   read_refused none (inr (loaded, loads, inl have)) =
       absurd (none have.fault (subst (λ b. form.HasFault b have.fault) (loaded_is form.role c name bytes loaded c.files_after is loads) have.has))
   read_refused none (inr (loaded, loads, inr says)) = inl says.0
 
-  -- `Said` is true of what is held; or the call failed
+  -- something was said of what is held; or it was refused
   said_of : ((fault : Fault) → form.HasFault bytes fault → ⊥) → (faults : ℕ) (Said : Content → Type 0) → ReadSays form c name faults Said
       → Failed (status_of c) c ⊎ ((content : Content) × form.IsOf bytes content × Said content)
   said_of none faults Said (inl (refused, rests)) = inl (read_refused none refused)
@@ -105,7 +103,7 @@ module _ {Content Fault : Type 0} (form : Form Content Fault) (c : Call) (name b
   failed_refused fault (inl none) = inl (inr none)
   failed_refused fault (inr counted) = inr counted.1
 
-  -- what is held has a fault, and was refused for it
+  -- what is held has a fault, for which it was refused
   fault_refused : (fault : Fault) → ((content : Content) → form.IsOf bytes content → ⊥) → ((other : Fault) → form.HasFault bytes other → other ≡ fault) → (faults : ℕ) (Said : Content → Type 0)
       → ReadSays form c name faults Said → IsRefused form c fault ⊎ CountedFault c
   fault_refused fault none one faults Said (inl (inl (says, blames), rests)) = failed_refused fault (load_refused form.role (status_of c) c name bytes is says)
@@ -261,22 +259,14 @@ pub good_program_is_traced : (words : List (List ℕ)) (c : Call) (args : RunArg
 good_program_is_traced words c args bytes program script says is held text for_script =
     run_came AtTheEnd args.workers (traced args.workers) c (job_of program script args.fuel args.quantum) (run_said AtTheEnd c args bytes program held text args.probes script for_script (request_said words c (Trace args) says is refl))
 
-pub good_program_is_watched : (words : List (List ℕ)) (c : Call) (args : RunArgs) (bytes : List ℕ) (program : ProgramParts) (script : List ℤ) → Says words c → asked words ≡ Ok (Watch args) →
-    IsHeld roles.Program c args.file bytes → IsTextOf bytes program → IsScriptFor c args.probes script → Ran (status_of c) ⊎ CountedFault c
-good_program_is_watched words c args bytes program script says is held text for_script =
-    let by_most = record args { workers = most_workers } in
-    run_came (AsReleased watched_by) most_workers (ran watched_by most_workers) c (job_of program script args.fuel args.quantum) (run_said (AsReleased watched_by) c by_most bytes program held text args.probes script for_script (request_said words c (Watch args) says is refl).0)
-
-pub run_with_bad_probes : (words : List (List ℕ)) (c : Call) (args : RunArgs) (text name bytes : List ℕ) (program : ProgramParts) (fault : ProbesFault) → Says words c → (asked words ≡ Ok (Run args)) ⊎ (asked words ≡ Ok (Trace args)) ⊎ (asked words ≡ Ok (Watch args)) →
+pub run_with_bad_probes : (words : List (List ℕ)) (c : Call) (args : RunArgs) (text name bytes : List ℕ) (program : ProgramParts) (fault : ProbesFault) → Says words c → (asked words ≡ Ok (Run args)) ⊎ (asked words ≡ Ok (Trace args)) →
     IsHeld roles.Program c args.file text → IsTextOf text program → args.probes ≡ Some name → IsHeld roles.Probes c name bytes → probes_form.HasFault bytes fault → IsRefused probes_form c fault ⊎ CountedFault c
 run_with_bad_probes words c args text name bytes program fault says (inl is) held of named there has =
     bad_probes_said (AsReleased shown_by) c args text program held of args.probes name bytes fault named there has (request_said words c (Run args) says is refl)
-run_with_bad_probes words c args text name bytes program fault says (inr (inl is)) held of named there has =
+run_with_bad_probes words c args text name bytes program fault says (inr is) held of named there has =
     bad_probes_said AtTheEnd c args text program held of args.probes name bytes fault named there has (request_said words c (Trace args) says is refl)
-run_with_bad_probes words c args text name bytes program fault says (inr (inr is)) held of named there has =
-    bad_probes_said (AsReleased watched_by) c (record args { workers = most_workers }) text program held of args.probes name bytes fault named there has (request_said words c (Watch args) says is refl).0
 
--- the mill, if its text is that of a program
+-- the mill, where its text is one of a program
 pub mill_runs : (words : List (List ℕ)) (c : Call) (args : MillArgs) (program : ProgramParts) → Says words c → asked words ≡ Ok (Mill args) → IsTextOf (mill_text args.size) program → Ran (status_of c) ⊎ CountedFault c
 mill_runs words c args program says is text = by (request_said words c (Mill args) says is refl).1
   where
@@ -329,7 +319,7 @@ behind_program : (c : Call) (named : Option (List ℕ)) (script : List ℤ) (Sai
 behind_program c named script Said is (inl failed) = inl failed
 behind_program c named script Said is (inr says) = of_script c named script Said is says
 
--- if a program and a script are held, they are read before the trace
+-- a program and a script that are held are read before the trace
 trace_said : (words : List (List ℕ)) (c : Call) (args : VerifyArgs) (text : List ℕ) (program : ProgramParts) (script : List ℤ) → Says words c → asked words ≡ Ok (Verify args)
     → IsHeld roles.Program c args.file text → IsTextOf text program → IsScriptFor c args.probes script → Failed (status_of c) c ⊎ TraceSays c args.trace program script
 trace_said words c args text program script says is held of for_script =
@@ -360,7 +350,7 @@ bad_probes_refused words c args text name bytes program fault says is held of na
 
 -- ---- drills
 
--- if a program and a probe script are held, they are read before the drill script
+-- a program and a script of probes that are held are read before the script of the drill
 orders_said : (words : List (List ℕ)) (c : Call) (args : DrillArgs) (text : List ℕ) (program : ProgramParts) (script : List ℤ) → Says words c → asked words ≡ Ok (Drill args)
     → IsHeld roles.Program c args.file text → IsTextOf text program → IsScriptFor c args.probes script → Failed (status_of c) c ⊎ OrdersSay c args program script
 orders_said words c args text program script says is held of for_script =
@@ -412,7 +402,7 @@ module _ (c : Call) (args : DrillArgs) (bytes : List ℕ) (held : IsHeld roles.S
   orders_came (inl failed) = inl failed
   orders_came (inr says) = orders_held says
 
--- what is said of a drill script that is held, after a program and a probe script that are held
+-- what is said of a script that is held, behind a program and a script of probes that are
 pub drill_said : (words : List (List ℕ)) (c : Call) (args : DrillArgs) (text bytes : List ℕ) (program : ProgramParts) (script : List ℤ) → Says words c → asked words ≡ Ok (Drill args)
     → IsHeld roles.Program c args.file text → IsTextOf text program → IsScriptFor c args.probes script → IsHeld roles.Script c args.script bytes
     → Failed (status_of c) c ⊎ DrillEnds (status_of c) (job_of program script args.fuel args.quantum) bytes c.outcome
@@ -425,7 +415,7 @@ pub script_is_drilled : (words : List (List ℕ)) (c : Call) (args : DrillArgs) 
 script_is_drilled words c args text bytes program script says is held of for_script there =
     bytes_drilled c (job_of program script args.fuel args.quantum) bytes (drill_said words c args text bytes program script says is held of for_script there)
 
--- a line that isn't an order isn't played
+-- a line that is no order isn't played
 no_order_played : (before behind : List Line) (line : Line) (old new : Stand) (text : List ℕ) → line.order ≡ None → ArePlayed (before ++ line ∷ behind) old text new → ⊥
 no_order_played [] behind line old new text none are = subst (λ (o : Option Order). IsSomeAnd o (IsAnswered old are.next are.written)) none are.played
 no_order_played (first ∷ before) behind line old new text none are = no_order_played before behind line are.next new are.more none are.follows
@@ -465,7 +455,7 @@ request_with_fault c (Mill args) bytes fault says is has = elim is [ ]
 request_with_fault c (Types file) bytes fault says is has = text_with_fault c file bytes fault c.files_after (λ p. TypesEnds (status_of c) p c.outcome) is has says
 request_with_fault c (Save args) bytes fault says is has = elim is [ ]
 request_with_fault c (Resume args) bytes fault says is has = elim is [ ]
-request_with_fault c (Watch args) bytes fault says is has = run_with_fault (AsReleased watched_by) c (record args { workers = most_workers }) args.probes bytes fault says.0 is has
+request_with_fault c (Watch args) bytes fault says is has = elim is [ ]
 
 pub bad_text_refused : (words : List (List ℕ)) (c : Call) (request : Request) (bytes : List ℕ) (fault : TextFault) → Says words c → asked words ≡ Ok request → is_built request ≡ true →
     IsHeldFor c request bytes → HasFault bytes fault → IsRefused program_form c fault ⊎ CountedFault c

@@ -1,4 +1,4 @@
--- The job and the lines of its script determine the result of a drill.
+-- What comes of a drill is fixed by its job and the lines of its script.
 use Rattle.std.proofs.Common.{◌≡◌, ◌⊎◌, inl, inr, ℕ, ℤ, List, ◌++◌, Some, Ok, ap, sym, subst, ◌∙◌}
 use Rattle.commit_book.specs.Book.{BookView}
 use Rattle.drill_text.specs.declared.script.Line.{Line}
@@ -31,7 +31,7 @@ use Rattle.stab_top.specs.Reason.{blames_script}
 use Rattle.stab_top.proofs.Complete.{Failed, drill_said}
 
 module _ (c : Call) (job : JobParts) (script : List Line) where
-  -- ---- a drill that is played
+  -- ---- one that is played
 
   module _ (lines : List ℕ) (book : BookView) (drilled : IsDrilled job script lines book) where
     text_of : (end : IsPlayedOut job script c.outcome) → IsTextOfDrill c lines book (drill_text end)
@@ -80,9 +80,9 @@ module _ (c : Call) (job : JobParts) (script : List Line) where
     said_comes (inl failed) = failed_comes failed
     said_comes (inr ends) = comes_to (status_of c) ends
 
-  -- ---- a drill that can't be played
+  -- ---- one that can't be played
 
-  -- a script stops for one fault only
+  -- a script stops for one fault
   same_stop : (f g : DrillFault) (a b : Stand) → IsNew job a → IsNew job b → StopsAt a script f → StopsAt b script g → f ≡ g
   same_stop f g a b new_a new_b u v =
       stops_once u.before v.before u.line v.line u.behind v.behind a b u.last v.last u.text v.text f g (paired_first job a b new_a new_b)

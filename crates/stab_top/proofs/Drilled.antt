@@ -1,4 +1,4 @@
--- What each status says of a script that was to be played.
+-- What a status says of a script that was to be played.
 use Rattle.std.proofs.Common.{◌≡◌, ◌++◌, ℕ, List, sym, subst}
 use Rattle.stab_code.specs.JobParts.{JobParts}
 use Rattle.stab_journal.specs.Script.{FollowsScript}
@@ -58,7 +58,7 @@ module _ (job : JobParts) (script : List Line) (o : Outcome) where
   abbrev stuck_at : (fault : DrillFault) (first : Stand) → IsNew job first → StopsAt first script fault → Refuses o (blames_script fault) → IsStuck job script o
   stuck_at fault first new stops refuses = record { first = first; new = new; fault = fault; stops = stops; refuses = refuses }
 
-  -- what is reported of a script that wasn't played
+  -- what is reported of a script that isn't played
   pub unplayed_ends : (status : Status) (fault : DrillFault) → status ≡ unplayed_status fault → IsRefused job script fault → Refuses o (unplayed_blame fault) → PlayEnds status job script o
   unplayed_ends status faults.NoMemory is refused refuses = subst (λ s. PlayEnds s job script o) (sym is) refuses
   unplayed_ends status (faults.BadLine at) is refused refuses = subst (λ s. PlayEnds s job script o) (sym is) (stuck_at (faults.BadLine at) refused.0 refused.1 refused.2 refuses)

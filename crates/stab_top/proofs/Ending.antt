@@ -1,5 +1,7 @@
--- What each status says of a job that was run.
-use Rattle.std.proofs.Common.{◌≡◌, ◌∙◌, inl, inr, ℕ, List, [], ◌++◌, take, drop, Option, Some, None, Result, Ok, Err, IfOk, IfErr, refl, sym, ap, subst, append-nil, append_assoc}
+-- What a status says of a job that was run.
+use Rattle.std.proofs.Common.{◌≡◌, ◌⊎◌, ◌∙◌, inl, inr, ℕ, List, [], ◌++◌, take, drop, Option, Some, None, Result, Ok, Err, IfOk, IfErr, refl, sym, ap, subst, append-nil, append_assoc}
+use Rattle.std.specs.List.{flat_map}
+use Rattle.std.specs.FinMap as map
 use Rattle.std.proofs.lemmas.Grind.{flat_map-append}
 use Rattle.std.proofs.lemmas.List.{take-append-drop}
 use Rattle.stab_base.specs.Datum.{Datum}
@@ -8,13 +10,14 @@ use Rattle.stab_base.specs.Printed.{printed}
 use Rattle.stab_base.proofs.GainLemmas.{SomePrefix-append}
 use Rattle.stab_code.specs.JobParts.{JobParts}
 use Rattle.stab_files.specs.Count.{Rose}
-use Rattle.stab_files.specs.Told.{Appends}
+use Rattle.stab_files.specs.Told.{Appends, AppendsPrefix}
 use Rattle.stab_files.proofs.Puts.{appends_trans}
 use Rattle.stab_journal.specs.Due.{released}
-use Rattle.plain_language.specs.Plain.{PlainState}
+use Rattle.stab_journal.specs.Journal.{survivors}
+use Rattle.plain_language.specs.Plain.{PlainState, end_of}
 use Rattle.plain_language.specs.Shown.{line, shown, value_lines}
 use Rattle.commit_book.specs.Book.{BookView, IsShown}
-use Rattle.book_text.specs.Written.{released_lines}
+use Rattle.book_text.specs.Written.{IsRestText, released_lines}
 use Rattle.trace_text.specs.Text.{trace}
 use Rattle.worker_rounds.specs.declared.rounds.Stop.TheVariants as stops
 use Rattle.worker_rounds.specs.Releases.{HasReleases, StopSays}
@@ -22,11 +25,8 @@ use Rattle.stab_top.specs.declared.report.Status.{Status}
 use Rattle.stab_top.specs.declared.report.Status.TheVariants.{Done, Held, BadWords, BadText, NoFile, TooBig, FileFault, SinkFault, Spent, NoMemory, BadProbes, BadTrace, BadScript, No, NotBuilt, Untyped}
 use Rattle.sink_lines.specs.Device.{Device, Gains, GainsPrefix, Rests}
 use Rattle.sink_lines.proofs.Gained.{gains_on}
-use Rattle.stab_top.specs.Ending.{AsReleased, AtTheEnd, Ends, IsOver, IsRunOf, IsWritten, Outcome, Refuses, RunEnds, Writing, mill_line, shown_by}
-use Rattle.stab_top.specs.declared.running.LastLine.{LastLine}
-use Rattle.stab_top.specs.declared.running.LastLine.TheVariants.{Nothing, Mill, Watch}
-use Rattle.stab_top.specs.Playing.{HasRun, HasStopped, IsTextBehind, WritesOf}
-use Rattle.stab_top.specs.Watching.{text_with, watch_line}
+use Rattle.stab_top.specs.Ending.{AsReleased, AtTheEnd, Ends, IsOver, IsRunOf, IsWritten, Outcome, Refuses, RestSays, RunEnds, WritesReleases, Writing, mill_line, milled_by, shown_by, text_with}
+use Rattle.stab_top.specs.Playing.{HasRun, HasStopped, IsTextBehind, WritesOf, line_behind}
 use Rattle.stab_top.specs.Reason.{blame_of, no_blame}
 use Rattle.stab_top.proofs.Led.{leads}
 use Rattle.stab_top.proofs.Played.{has_all}
@@ -101,7 +101,7 @@ module _ (workers : ℕ) (book : BookView) (state : PlainState) (o : Outcome) wh
   trace_whole NotBuilt w = w
   trace_whole Untyped w = w
 
--- a run that ended with a status is over
+-- a run whose end the status tells is over
 pub over_of : (workers : ℕ) (status : Status) (job : JobParts) (book : BookView) (has : HasRun workers status job book) → IsOver workers book has.state
 over_of workers Done job book has = record { whole = has.whole; rest = inl has.rest.0 }
 over_of workers Held job book has = record { whole = has.whole; rest = inl has.rest.0 }
@@ -147,31 +147,25 @@ module _ (workers : ℕ) (book : BookView) (state : PlainState) (job : JobParts)
                 ∙ append_assoc (released_lines book) (rest ++ faults) ends,
           )
 
-  line_more : (last : List ℕ) → (more : List ℕ) × (shown_by book state ++ last ≡ released_lines book ++ more)
-  line_more last = let s = shown_more in (s.0 ++ last, ap (λ l. l ++ last) s.1 ∙ append_assoc (released_lines book) s.0 last)
-
-  text_more : (last : LastLine) → (more : List ℕ) × (text_with last book state ≡ released_lines book ++ more)
-  text_more Nothing = shown_more
-  text_more (Mill n) = line_more (mill_line n book.history.events)
-  text_more Watch = line_more (watch_line book.history.events)
+  text_more : (size : Option ℕ) → (more : List ℕ) × (text_with size book state ≡ released_lines book ++ more)
+  text_more None = shown_more
+  text_more (Some n) =
+      let s = shown_more in
+      (s.0 ++ mill_line n book.history.events, ap (λ l. l ++ mill_line n book.history.events) s.1 ∙ append_assoc (released_lines book) s.0 (mill_line n book.history.events))
 
   -- and goes on with the rest
-  line_rest : (last text rest : List ℕ) → IsRestText book rest → text ≡ rest ++ last → shown_by book state ++ last ≡ released_lines book ++ text
-  line_rest last text rest behind is =
-      ap (λ l. l ++ last) (behind state (leads book.job.program book.history run.run state run.shown.journal.history))
-      ∙ append_assoc (released_lines book) rest last
-      ∙ ap (λ l. released_lines book ++ l) (sym is)
+  text_rest : (size : Option ℕ) (text : List ℕ) → IsTextBehind size book text → text_with size book state ≡ released_lines book ++ text
+  text_rest None text behind = behind.1 state (leads book.job.program book.history run.run state run.shown.journal.history) ∙ ap (λ l. released_lines book ++ l) (sym (behind.2 ∙ append-nil behind.0))
+  text_rest (Some n) text behind =
+      ap (λ l. l ++ mill_line n book.history.events) (behind.1 state (leads book.job.program book.history run.run state run.shown.journal.history))
+      ∙ append_assoc (released_lines book) behind.0 (mill_line n book.history.events)
+      ∙ ap (λ l. released_lines book ++ l) (sym behind.2)
 
-  text_rest : (last : LastLine) (text : List ℕ) → IsTextBehind last book text → text_with last book state ≡ released_lines book ++ text
-  text_rest Nothing text behind = behind.1 state (leads book.job.program book.history run.run state run.shown.journal.history) ∙ ap (λ l. released_lines book ++ l) (sym (behind.2 ∙ append-nil behind.0))
-  text_rest (Mill n) text behind = line_rest (mill_line n book.history.events) text behind.0 behind.1 behind.2
-  text_rest Watch text behind = line_rest (watch_line book.history.events) text behind.0 behind.1 behind.2
-
-  module _ (last : LastLine) (o : Outcome) where
+  module _ (size : Option ℕ) (o : Outcome) where
     -- only the lines of what was released were written
-    lines_only : Gains o.sink o.sink_after (released_lines book) → AsReleased (text_with last) workers NoMemory book state o
+    lines_only : Gains o.sink o.sink_after (released_lines book) → AsReleased (text_with size) workers NoMemory book state o
     lines_only gains =
-        let more = text_more last in (
+        let more = text_more size in (
           record {
             front = released_lines book;
             back = more.0;
@@ -182,9 +176,9 @@ module _ (workers : ℕ) (book : BookView) (state : PlainState) (job : JobParts)
         )
 
     -- a line couldn't be written
-    fault_written : StopSays stops.SinkFault book state o.sink o.sink_after → AsReleased (text_with last) workers SinkFault book state o
+    fault_written : StopSays stops.SinkFault book state o.sink o.sink_after → AsReleased (text_with size) workers SinkFault book state o
     fault_written says =
-        let more = text_more last in (
+        let more = text_more size in (
           subst (SomePrefix (λ front. Appends o.sink.told o.sink_after.told front × HasReleases book state front)) (sym more.1)
               (SomePrefix-append (λ front. Appends o.sink.told o.sink_after.told front × HasReleases book state front) (released_lines book) more.0 says.0),
           says.1,
@@ -192,13 +186,13 @@ module _ (workers : ℕ) (book : BookView) (state : PlainState) (job : JobParts)
 
     module _ (between : Device (List ℕ)) (so_far : Gains o.sink between (released_lines book)) where
       -- the rest was written, or a prefix of it
-      rest_prefix : (text : List ℕ) → IsTextBehind last book text → GainsPrefix between o.sink_after text → AsReleased (text_with last) workers SinkFault book state o
+      rest_prefix : (text : List ℕ) → IsTextBehind size book text → GainsPrefix between o.sink_after text → AsReleased (text_with size) workers SinkFault book state o
       rest_prefix text behind prefix =
           let part = prefix.0 in (
             record {
               front = released_lines book ++ part.front;
               back = part.back;
-              split = append_assoc (released_lines book) part.front part.back ∙ ap (λ l. released_lines book ++ l) part.split ∙ sym (text_rest last text behind);
+              split = append_assoc (released_lines book) part.front part.back ∙ ap (λ l. released_lines book ++ l) part.split ∙ sym (text_rest size text behind);
               fact = (
                 appends_trans o.sink.told between.told o.sink_after.told (released_lines book) part.front so_far.0 part.fact,
                 has_all book is_shown (released_lines book ++ part.front) part.front refl,
@@ -207,41 +201,41 @@ module _ (workers : ℕ) (book : BookView) (state : PlainState) (job : JobParts)
             subst (λ n. Rose n o.sink_after.faults) so_far.1 prefix.1,
           )
 
-      rest_whole : (text : List ℕ) → IsTextBehind last book text → Gains between o.sink_after text → Gains o.sink o.sink_after (text_with last book state)
-      rest_whole text behind gains = subst (Gains o.sink o.sink_after) (sym (text_rest last text behind)) (gains_on o.sink between o.sink_after (released_lines book) text so_far gains)
+      rest_whole : (text : List ℕ) → IsTextBehind size book text → Gains between o.sink_after text → Gains o.sink o.sink_after (text_with size book state)
+      rest_whole text behind gains = subst (Gains o.sink o.sink_after) (sym (text_rest size text behind)) (gains_on o.sink between o.sink_after (released_lines book) text so_far gains)
 
       -- there was no memory for the rest
-      rest_none : Rests between o.sink_after → AsReleased (text_with last) workers NoMemory book state o
+      rest_none : Rests between o.sink_after → AsReleased (text_with size) workers NoMemory book state o
       rest_none rests = lines_only (rests.0 ∙ so_far.0, rests.1 ∙ so_far.1)
 
 -- ---- a run, from what is said of its play
 
-module _ (last : LastLine) (workers : ℕ) (job : JobParts) (book : BookView) (o : Outcome) where
-  -- it was stopped
-  pub stopped_by_sink : HasStopped workers stops.SinkFault job book o.sink o.sink_after → o.report.status ≡ SinkFault → o.report.book ≡ Some book → blame_of o.report ≡ no_blame → RunEnds (AsReleased (text_with last)) workers o.report.status job o
-  stopped_by_sink has is reported blame = with_book (AsReleased (text_with last)) workers o.report.status SinkFault job o book has.state is reported blame has.run (fault_written workers book has.state job has.run last o has.says)
+module _ (size : Option ℕ) (workers : ℕ) (job : JobParts) (book : BookView) (o : Outcome) where
+  -- it stopped
+  pub stopped_by_sink : HasStopped workers stops.SinkFault job book o.sink o.sink_after → o.report.status ≡ SinkFault → o.report.book ≡ Some book → blame_of o.report ≡ no_blame → RunEnds (AsReleased (text_with size)) workers o.report.status job o
+  stopped_by_sink has is reported blame = with_book (AsReleased (text_with size)) workers o.report.status SinkFault job o book has.state is reported blame has.run (fault_written workers book has.state job has.run size o has.says)
 
-  pub stopped_by_memory : HasStopped workers stops.NoMemory job book o.sink o.sink_after → o.report.status ≡ NoMemory → o.report.book ≡ Some book → blame_of o.report ≡ no_blame → RunEnds (AsReleased (text_with last)) workers o.report.status job o
-  stopped_by_memory has is reported blame = with_book (AsReleased (text_with last)) workers o.report.status NoMemory job o book has.state is reported blame has.run (lines_only workers book has.state job has.run last o has.says)
+  pub stopped_by_memory : HasStopped workers stops.NoMemory job book o.sink o.sink_after → o.report.status ≡ NoMemory → o.report.book ≡ Some book → blame_of o.report ≡ no_blame → RunEnds (AsReleased (text_with size)) workers o.report.status job o
+  stopped_by_memory has is reported blame = with_book (AsReleased (text_with size)) workers o.report.status NoMemory job o book has.state is reported blame has.run (lines_only workers book has.state job has.run size o has.says)
 
-  -- it is over, and this text was left to write, or there was no memory for it
+  -- it is over, and what was still to be written is this text, or there was no memory for it
   module _ (end said : Status) (has : HasRun workers end job book) (between : Device (List ℕ)) (so_far : Gains o.sink between (released_lines book)) (is : o.report.status ≡ said) (reported : o.report.book ≡ Some book) (blame : blame_of o.report ≡ no_blame) where
-    by_state : AsReleased (text_with last) workers said book has.state o → RunEnds (AsReleased (text_with last)) workers o.report.status job o
-    by_state wrote = with_book (AsReleased (text_with last)) workers o.report.status said job o book has.state is reported blame has.run wrote
+    by_state : AsReleased (text_with size) workers said book has.state o → RunEnds (AsReleased (text_with size)) workers o.report.status job o
+    by_state wrote = with_book (AsReleased (text_with size)) workers o.report.status said job o book has.state is reported blame has.run wrote
 
-    pub rest_given : (text : List ℕ) → IsTextBehind last book text → WritesOf end said text between o.sink_after → RunEnds (AsReleased (text_with last)) workers o.report.status job o
+    pub rest_given : (text : List ℕ) → IsTextBehind size book text → WritesOf end said text between o.sink_after → RunEnds (AsReleased (text_with size)) workers o.report.status job o
     rest_given text behind (inl (same, gains)) =
-        by_state (subst (λ s. AsReleased (text_with last) workers s book has.state o) (sym same)
-        (whole_by (text_with last) workers book has.state o end (record { whole = has.whole; rest = has.rest; gains = rest_whole workers book has.state job has.run last o between so_far text behind gains })))
+        by_state (subst (λ s. AsReleased (text_with size) workers s book has.state o) (sym same)
+        (whole_by (text_with size) workers book has.state o end (record { whole = has.whole; rest = has.rest; gains = rest_whole workers book has.state job has.run size o between so_far text behind gains })))
     rest_given text behind (inr (fault, prefix)) =
-        by_state (subst (λ s. AsReleased (text_with last) workers s book has.state o) (sym fault) (rest_prefix workers book has.state job has.run last o between so_far text behind prefix))
+        by_state (subst (λ s. AsReleased (text_with size) workers s book has.state o) (sym fault) (rest_prefix workers book has.state job has.run size o between so_far text behind prefix))
 
-    pub rest_wanted : said ≡ NoMemory → Rests between o.sink_after → RunEnds (AsReleased (text_with last)) workers o.report.status job o
-    rest_wanted none rests = by_state (subst (λ s. AsReleased (text_with last) workers s book has.state o) (sym none) (rest_none workers book has.state job has.run last o between so_far rests))
+    pub rest_wanted : said ≡ NoMemory → Rests between o.sink_after → RunEnds (AsReleased (text_with size)) workers o.report.status job o
+    rest_wanted none rests = by_state (subst (λ s. AsReleased (text_with size) workers s book has.state o) (sym none) (rest_none workers book has.state job has.run size o between so_far rests))
 
   -- the same of a text for which there may have been no memory
   pub rest_written : {T E : Type 0} (items : T → List ℕ) (rest : Result T E) (end said : Status) → HasRun workers end job book → (between : Device (List ℕ)) → Gains o.sink between (released_lines book) → o.report.status ≡ said → o.report.book ≡ Some book → blame_of o.report ≡ no_blame
-      → IfOk rest (λ text. IsTextBehind last book (items text)) → IfOk rest (λ text. WritesOf end said (items text) between o.sink_after) → IfErr rest (λ _. (said ≡ NoMemory) × Rests between o.sink_after) → RunEnds (AsReleased (text_with last)) workers o.report.status job o
+      → IfOk rest (λ text. IsTextBehind size book (items text)) → IfOk rest (λ text. WritesOf end said (items text) between o.sink_after) → IfErr rest (λ _. (said ≡ NoMemory) × Rests between o.sink_after) → RunEnds (AsReleased (text_with size)) workers o.report.status job o
   rest_written items (Ok text) end said has between so_far is reported blame behind wrote none = rest_given end said has between so_far is reported blame (items text) behind wrote
   rest_written items (Err e) end said has between so_far is reported blame behind wrote none = rest_wanted end said has between so_far is reported blame none.0 none.1
 

@@ -6,8 +6,6 @@ use Rattle.stab_code.specs.JobParts.{JobParts, job_of}
 use Rattle.stab_code.specs.Program.{ProgramParts}
 use Rattle.stab_files.specs.Entry.{Entry}
 use Rattle.stab_words.specs.Asked.{asked}
-use Rattle.stab_words.specs.Command.{most_workers}
-use Rattle.stab_top.specs.Watching.{watched_by}
 use Rattle.stab_words.specs.declared.request.DrillArgs.{DrillArgs}
 use Rattle.stab_words.specs.declared.request.MillArgs.{MillArgs}
 use Rattle.stab_words.specs.declared.request.Request.{Request}
@@ -50,7 +48,7 @@ of_shown book run state shows =
 abbrev of_language : (workers : ℕ) (job : JobParts) (book : BookView) (state : PlainState) → IsRunOf workers job book state → IsOfTheLanguage book
 of_language workers job book state r = of_shown book r.run state r.shown
 
--- a list of steps ends in only one state
+-- a list of steps ends in one state
 one_end : (p : ProgramParts) (run steps : List Numbered) (s u : PlainState) → steps ≡ run → IsRun p steps u → IsRun p run s → u ≡ s
 one_end p run steps s u same left right =
     let ends : end_of p run ≡ Some u = subst (λ (ns : List Numbered). end_of p ns ≡ Some u) same left.ends in
@@ -77,7 +75,7 @@ no_bytes_book : {Content Fault : Type 0} (form : Form Content Fault) (report : R
 no_bytes_book form report bytes (inl have) = have.blames.no_book
 no_bytes_book form report bytes (inr none) = none.1.no_book
 
-pub no_read_book : {Content Fault : Type 0} (form : Form Content Fault) (report : Report) (files : Device (List Entry)) (name : List ℕ) (faults : ℕ) → ReadRefused form report files name faults → report.book ≡ None
+no_read_book : {Content Fault : Type 0} (form : Form Content Fault) (report : Report) (files : Device (List Entry)) (name : List ℕ) (faults : ℕ) → ReadRefused form report files name faults → report.book ≡ None
 no_read_book form report files name faults (inl x) = x.1.no_book
 no_read_book form report files name faults (inr x) = no_bytes_book form report x.0 x.2
 
@@ -146,7 +144,7 @@ module _ (c : Call) (b : BookView) (there : c.outcome.report.book ≡ Some b) wh
   mill_book args (same, inl refused) = not_there c.outcome.report.book b (no_bytes_book program_form c.outcome.report _ refused.0) there
   mill_book args (same, inr (p, is, ends)) = run_book c.outcome b there (AsReleased (milled_by args.size)) args.workers _ (status_of c) ends
 
-  -- the program was read, then the probe script, then the drill script
+  -- the program was read, then the script of probes, then that of the drill
   behind_probes : (named : Option (List ℕ)) (Said : List ℤ → Type 0) → ((script : List ℤ) → Said script → IsOfTheLanguage b) → ScriptSays c named Said → IsOfTheLanguage b
   behind_probes None Said all says = all [] says
   behind_probes (Some name) Said all says = read_book probes_form name c.files.faults Said all says
@@ -170,7 +168,7 @@ module _ (c : Call) (b : BookView) (there : c.outcome.report.book ≡ Some b) wh
   built_book (Types file) asks says = elim asks [ ]
   built_book (Save args) asks says = elim asks [ ]
   built_book (Resume args) asks says = elim asks [ ]
-  built_book (Watch args) asks says = file_book (AsReleased watched_by) (record args { workers = most_workers }) args.probes says.0
+  built_book (Watch args) asks says = elim asks [ ]
 
 is_asked : (request : Request) → AsksForRun request → is_built request ≡ true
 is_asked (Run args) asks = refl
@@ -182,9 +180,9 @@ is_asked (Drill args) asks = refl
 is_asked (Types file) asks = elim asks [ ]
 is_asked (Save args) asks = elim asks [ ]
 is_asked (Resume args) asks = elim asks [ ]
-is_asked (Watch args) asks = refl
+is_asked (Watch args) asks = elim asks [ ]
 
--- each reported book of a run is of the language
+-- each book that is reported of a run is of the language
 pub book_of_language : (words : List (List ℕ)) (c : Call) (request : Request) (b : BookView) → Says words c → asked words ≡ Ok request → AsksForRun request → c.outcome.report.book ≡ Some b → IsOfTheLanguage b
 book_of_language words c request b says is asks there = built_book c b there request asks (request_said words c request says is (is_asked request asks))
 
@@ -200,12 +198,12 @@ drill_of_one book whole =
       events = solo.left;
     }
 
-module _ (text_by : BookView → PlainState → List ℕ) (c : Call) (args : RunArgs) (program : ProgramParts) (script : List ℤ) (given : AreGiven c.files c.files_after args program script) where
+module _ (c : Call) (args : RunArgs) (program : ProgramParts) (script : List ℤ) (given : AreGiven c.files c.files_after args program script) where
   abbrev job : JobParts
   job = job_of program script args.fuel args.quantum
 
   ended : (book : BookView) (state : PlainState) → IsRunOf args.workers job book state → c.outcome.report.book ≡ Some book
-      → IsWritten args.workers (status_of c) book state (text_by book state) c.outcome → ShowsRunOf text_by c args
+      → IsWritten args.workers (status_of c) book state (shown_by book state) c.outcome → ShowsRunOf c args
   ended book state r reported writes = record {
     program = program;
     script = script;
@@ -216,13 +214,13 @@ module _ (text_by : BookView → PlainState → List ℕ) (c : Call) (args : Run
     says = of_language args.workers job book state r;
     rest = subst (λ (s : PlainState). RestSays (status_of c) book s) (sym (ends_in args.workers job book state r)) writes.rest;
     alone = λ one. drill_of_one book (writes.whole one);
-    written = subst (λ (s : PlainState). Gains c.outcome.sink c.outcome.sink_after (text_by book s)) (sym (ends_in args.workers job book state r)) writes.gains;
+    written = subst (λ (s : PlainState). Gains c.outcome.sink c.outcome.sink_after (shown_by book s)) (sym (ends_in args.workers job book state r)) writes.gains;
   }
 
-  ended_run : (status : Status) → status_of c ≡ status → IsEnd status → RunEnds (AsReleased text_by) args.workers status job c.outcome → ShowsRunOf text_by c args
-  ended_run Done is over e = ended e.book e.state e.run e.reported (subst (λ (s : Status). IsWritten args.workers s e.book e.state (text_by e.book e.state) c.outcome) (sym is) e.writes)
-  ended_run Held is over e = ended e.book e.state e.run e.reported (subst (λ (s : Status). IsWritten args.workers s e.book e.state (text_by e.book e.state) c.outcome) (sym is) e.writes)
-  ended_run Spent is over e = ended e.book e.state e.run e.reported (subst (λ (s : Status). IsWritten args.workers s e.book e.state (text_by e.book e.state) c.outcome) (sym is) e.writes)
+  ended_run : (status : Status) → status_of c ≡ status → IsEnd status → RunEnds (AsReleased shown_by) args.workers status job c.outcome → ShowsRunOf c args
+  ended_run Done is over e = ended e.book e.state e.run e.reported (subst (λ (s : Status). IsWritten args.workers s e.book e.state (shown_by e.book e.state) c.outcome) (sym is) e.writes)
+  ended_run Held is over e = ended e.book e.state e.run e.reported (subst (λ (s : Status). IsWritten args.workers s e.book e.state (shown_by e.book e.state) c.outcome) (sym is) e.writes)
+  ended_run Spent is over e = ended e.book e.state e.run e.reported (subst (λ (s : Status). IsWritten args.workers s e.book e.state (shown_by e.book e.state) c.outcome) (sym is) e.writes)
   ended_run BadWords is over e = elim over [ ]
   ended_run BadText is over e = elim over [ ]
   ended_run NoFile is over e = elim over [ ]
@@ -264,27 +262,24 @@ module _ {Content Fault : Type 0} (form : Form Content Fault) (bad : IsEnd form.
   read_no_end files name faults (inl x) = load_no_end form.role report.status files name faults x.0 over
   read_no_end files name faults (inr x) = bytes_no_end x.0 x.2
 
-module _ (text_by : BookView → PlainState → List ℕ) (c : Call) (args : RunArgs) (over : IsEnd (status_of c)) where
+module _ (c : Call) (args : RunArgs) (over : IsEnd (status_of c)) where
   read_ended : {Content Fault : Type 0} (form : Form Content Fault) → (IsEnd form.bad → ⊥) → (file : List ℕ) (faults : ℕ) (Said : Content → Type 0)
-      → ((content : Content) → Holds form c.files file faults content → Said content → ShowsRunOf text_by c args) → ReadSays form c file faults Said → ShowsRunOf text_by c args
+      → ((content : Content) → Holds form c.files file faults content → Said content → ShowsRunOf c args) → ReadSays form c file faults Said → ShowsRunOf c args
   read_ended form bad file faults Said all (inl refused) = absurd (read_no_end form bad c.outcome.report over c.files file c.files_after refused.0)
   read_ended form bad file faults Said all (inr (content, holds, said)) = all content holds said
 
   abbrev Ran : ProgramParts → List ℤ → Type 0
-  Ran program script = RunEnds (AsReleased text_by) args.workers (status_of c) (job_of program script args.fuel args.quantum) c.outcome
+  Ran program script = RunEnds (AsReleased shown_by) args.workers (status_of c) (job_of program script args.fuel args.quantum) c.outcome
 
-  file_ended : (named : Option (List ℕ)) → args.probes ≡ named → RunSaysBy (AsReleased text_by) c args named → ShowsRunOf text_by c args
+  file_ended : (named : Option (List ℕ)) → args.probes ≡ named → RunSaysBy (AsReleased shown_by) c args named → ShowsRunOf c args
   file_ended None is says =
       read_ended program_form (λ bad. bad) args.file c.files_after (λ p. Ran p [])
-      (λ p holds ends. ended_run text_by c args p [] (subst (λ o. AreGivenBy c.files c.files_after args.file o p []) (sym is) (holds, refl)) (status_of c) refl over ends) says
+      (λ p holds ends. ended_run c args p [] (subst (λ o. AreGivenBy c.files c.files_after args.file o p []) (sym is) (holds, refl)) (status_of c) refl over ends) says
   file_ended (Some name) is says =
       read_ended program_form (λ bad. bad) args.file c.files.faults (λ p. LastSays probes_form c name (λ script. Ran p script))
       (λ p program said. read_ended probes_form (λ bad. bad) name c.files_after (λ script. Ran p script)
-      (λ script holds ends. ended_run text_by c args p script (subst (λ o. AreGivenBy c.files c.files_after args.file o p script) (sym is) (program, holds)) (status_of c) refl over ends) said) says
+      (λ script holds ends. ended_run c args p script (subst (λ o. AreGivenBy c.files c.files_after args.file o p script) (sym is) (program, holds)) (status_of c) refl over ends) said) says
 
 -- what a run that is over shows
-pub run_shows : (words : List (List ℕ)) (c : Call) (args : RunArgs) → Says words c → asked words ≡ Ok (Run args) → IsEnd (status_of c) → ShowsRunOf shown_by c args
-run_shows words c args says is over = file_ended shown_by c args over args.probes refl (request_said words c (Run args) says is refl)
-
-pub watch_shows : (words : List (List ℕ)) (c : Call) (args : RunArgs) → Says words c → asked words ≡ Ok (Watch args) → IsEnd (status_of c) → ShowsRunOf watched_by c (record args { workers = most_workers })
-watch_shows words c args says is over = file_ended watched_by c (record args { workers = most_workers }) over args.probes refl (request_said words c (Watch args) says is refl).0
+pub run_shows : (words : List (List ℕ)) (c : Call) (args : RunArgs) → Says words c → asked words ≡ Ok (Run args) → IsEnd (status_of c) → ShowsRunOf c args
+run_shows words c args says is over = file_ended c args over args.probes refl (request_said words c (Run args) says is refl)

@@ -1,4 +1,4 @@
--- The state in which a book's run ends.
+-- The state to which a book's run leads.
 use Rattle.std.proofs.Common.{◌≡◌, List, Some, ap, ◌∙◌}
 use Rattle.stab_journal.specs.Journal.{Journal, survivors}
 use Rattle.stab_journal.specs.declared.event.Numbered.{Numbered}

@@ -3,13 +3,13 @@ pub mod Led
 pub mod Drilled
 pub mod Resting
 pub mod Rounding
+pub mod SourceRead
 pub mod Played
 pub mod Results
 pub mod Ending
 pub mod Complete
 pub mod Determined
 pub mod Wording
-pub mod Watched
 pub mod Executing
 pub mod OwnTraces
 pub mod Given

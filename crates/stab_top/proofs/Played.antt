@@ -1,16 +1,18 @@
 -- How far a run came, from the book before its first event.
-use Rattle.std.proofs.Common.{◌≡◌, ◌≢◌, ◌++◌, ℕ, ◌+◌, ◌≤◌, nat_eq, List, [], ◌∷◌, take, drop, Some, None, refl, sym, ap, subst, ◌∙◌, append-nil, append_assoc, arith}
+use Rattle.std.proofs.Common.{◌≡◌, ◌≢◌, ◌++◌, ℕ, ◌+◌, ◌≤◌, nat_eq, List, [], ◌∷◌, take, drop, Option, Some, None, refl, sym, ap, subst, ◌∙◌, append-nil, append_assoc, arith}
 use Rattle.std.specs.Prelude.{if◌then◌else◌}
 use Rattle.std.specs.List.{AllByRecursion}
 use Rattle.stab_base.specs.Datum.{Datum}
 use Rattle.stab_code.specs.JobParts.{JobParts}
 use Rattle.stab_code.specs.Valid.{IsValid}
 use Rattle.stab_files.specs.Count.{Rose}
+use Rattle.stab_files.specs.Told.{Appends}
 use Rattle.stab_files.proofs.Puts.{appends_trans}
 use Rattle.stab_journal.specs.declared.event.Event.{Event}
 use Rattle.stab_journal.specs.declared.event.What.TheVariants.{Release}
 use Rattle.stab_journal.specs.Due.{released}
 use Rattle.stab_journal.specs.Script.{FollowsScript}
+use Rattle.plain_language.specs.Plain.{PlainState}
 use Rattle.plain_language.specs.Shown.{value_lines}
 use Rattle.plain_language.specs.Standing.{event}
 use Rattle.thread_slots.specs.declared.state.State.TheVariants.{Parked}
@@ -22,7 +24,7 @@ use Rattle.book_text.specs.Written.{released_lines}
 use Rattle.lone_worker.specs.declared.worker.RunEnd.{RunEnd}
 use Rattle.lone_worker.specs.declared.worker.RunEnd.TheVariants as ends
 use Rattle.lone_worker.specs.Desk.{IsUnlent}
-use Rattle.lone_worker.specs.Rounds.{AreRounds, IsPlayed, one_more}
+use Rattle.lone_worker.specs.Rounds.{AreRounds, IsPlayed, none, one_more}
 use Rattle.lone_worker.specs.Running.{AreTurns, EndSays, IsLater, IsRun}
 use Rattle.lone_worker.specs.Running as turns
 use Rattle.lone_worker.specs.Solo.{IsSolo}
@@ -44,7 +46,7 @@ use Rattle.stab_top.proofs.Rounding.{lines_stay, run_lines, run_same, two_parts}
 
 -- ---- the lines of what was released
 
--- the lines of the first n values begin with the lines of what was released by fewer events
+-- the lines of n values begin with those that fewer events released
 module _ (b : BookView) (shown : IsShown b) where
   front_lines : (n : ℕ) (first : List Event) (piece more : List ℕ) → released first ≤ n → piece ≡ value_lines b.job.program (take n b.printed) ++ more
       → (rest : List ℕ) × (piece ≡ first_lines b.job.program shown.state first ++ rest)
@@ -56,13 +58,13 @@ module _ (b : BookView) (shown : IsShown b) where
       in
       (others ++ more, is ∙ ap (λ l. l ++ more) split ∙ append_assoc (first_lines p shown.state first) others more)
 
-  -- they begin with the lines of everything that was released
+  -- all that was released is there
   pub has_all : (piece more : List ℕ) → piece ≡ released_lines b ++ more → HasReleases b shown.state piece
   has_all piece more is first after e split by =
       front_lines (released b.history.events) first piece more
       (released_more b.job.program b.history.events shown.run shown.state shown.shows.journal.history.stands first (e ∷ after) split) is
 
--- the lines of everything that was released before the last round
+-- all that was released before the last round
 round_has : (old new : BookView) (shown : IsShown old) (behind : IsShown new) (later : IsLater old new) (round : IsRound old new) (piece more : List ℕ) → piece ≡ released_lines old ++ more → HasReleases new behind.state piece
 round_has old new shown behind later round piece more is first after e split by =
     let last = round.last in
@@ -74,7 +76,7 @@ round_has old new shown behind later round piece more is first after e split by 
     (subst (λ n. released first ≤ n) (run_same ends.Due old last round.run) up)
     (is ∙ ap (λ l. l ++ more) (sym (lines_stay old new shown behind later)))
 
--- ---- the lines written since a book
+-- ---- the lines that were written since
 
 pub gains_none : (b : BookView) (sink : Device (List ℕ)) → GainsSince b b sink sink
 gains_none b sink = record { lines = []; more = sym (append-nil (released_lines b)); gains = gains_nothing sink }
@@ -98,18 +100,18 @@ run_gains start old new unlent behind later end run sink after so_far = record {
   gains = so_far.gains;
 }
 
--- the lines released up to the old book were written, and then those released since: so all of them were
+-- all that was released since a book was written, and before it all that was released then
 pub gains_all : (old new : BookView) (sink between after : Device (List ℕ)) → Gains sink between (released_lines old) → GainsSince old new between after → Gains sink after (released_lines new)
 gains_all old new sink between after so_far since =
     subst (Gains sink after) (sym since.more) (gains_on sink between after (released_lines old) since.lines so_far since.gains)
 
 -- ---- what is played on
 
--- one more round
+-- a round more
 pub rounds_on : (start old new : BookView) → AreRounds start old → IsRound old new → IsUnlent new → AreRounds start new
 rounds_on start old new rounds round behind = one_more rounds round.run round.unlent round.released behind
 
--- the play stops after a round
+-- the play goes no further behind a round
 pub stopped_behind : (start b : BookView) → AreRounds start b → IsPlayed ends.NoMemory start b
 stopped_behind start b rounds = record { last = b; rounds = rounds; run = record { last = b; turns = turns.none; ends = refl } }
 
@@ -121,7 +123,7 @@ quiet_out start b unlent status played says valid is =
 pub spent_out : (start b : BookView) → IsPlayed ends.Spent start b → EndSays ends.Spent b → IsPlayedOut Spent start b
 spent_out start b played says = record { end = ends.Spent; whole = tt; played = played; rest = λ shown. record { used = says.0; ready = says.1 } }
 
--- the play was stopped, and what was released before it had been written
+-- the play was stopped, and what came before it had been written
 module _ (old b : BookView) (shown : IsShown b) (sink between after : Device (List ℕ)) (so_far : Gains sink between (released_lines old)) where
   pub broken_says : (stop : Stop) → BreakSays stop old b between after → StopSays stop b shown.state sink after
   broken_says stops.NoMemory since = gains_all old b sink between after so_far since
@@ -142,7 +144,7 @@ module _ (old b : BookView) (shown : IsShown b) (sink between after : Device (Li
 
 -- ---- a run
 
--- an event of worker 1 is one of the workers'
+-- the events of worker 1 are those of one of the workers
 module _ (workers : ℕ) (some : 1 ≤ workers) where
   of_one : (es : List Event) → AllByRecursion (λ (e : Event). e.worker ≡ worker) es → AreOf workers es
   of_one [] one = tt
@@ -152,10 +154,10 @@ module _ (workers : ℕ) (some : 1 ≤ workers) where
   of_both [] ys a b = b
   of_both (x ∷ xs) ys a b = (a.0, of_both xs ys a.1 b)
 
-  pub later_named : (old b : BookView) → IsLater old b → AreOf workers old.history.events → AreOf workers b.history.events
+  later_named : (old b : BookView) → IsLater old b → AreOf workers old.history.events → AreOf workers b.history.events
   later_named old b later named = subst (AreOf workers) (sym later.events) (of_both old.history.events later.added named (of_one later.added later.by_one))
 
--- the run of a book of the job, from what its events are
+-- a book of the job, by what its events are
 run_of_book : (workers : ℕ) (job : JobParts) (b : BookView) (shown : IsShown b) → b.job ≡ job → AreOf workers b.history.events → (workers ≡ 1 → IsSoloPart job b.history.events) → IsRunOf workers job b shown.state
 run_of_book workers job b shown of_job named solo = record {
   of_job = of_job;
@@ -208,11 +210,11 @@ module _ (workers : ℕ) (job : JobParts) (several : workers ≢ 1) (mid : BookV
   no_solo : {A : Type 0} → workers ≡ 1 → A
   no_solo one = absurd (several one)
 
-  -- the workers were stopped
+  -- they were stopped
   pub several_stopped : (stop : Stop) → IsSharedOf workers job mid (Some stop) sink between → HasStopped workers stop job mid sink between
   several_stopped stop shared = record { state = shared.shown.state; run = run_of_book workers job mid shared.shown shared.of_job shared.named no_solo; says = shared.says }
 
-  -- worker 1 played the workers' book on
+  -- worker 1 played their book on
   module _ (shared : IsSharedOf workers job mid None sink between) (some : 1 ≤ workers) (b : BookView) (later : IsLater mid b) (unlent : IsUnlent b) where
     several_run : IsRunOf workers job b unlent.shown.state
     several_run = run_of_book workers job b unlent.shown (later.job ∙ shared.of_job) (later_named workers some mid b later shared.named) no_solo
@@ -221,7 +223,7 @@ module _ (workers : ℕ) (job : JobParts) (several : workers ≢ 1) (mid : BookV
     several_over status out = record { state = unlent.shown.state; run = several_run; whole = no_solo; rest = out.rest unlent.shown }
 
     pub several_gains : (after : Device (List ℕ)) → GainsSince mid b between after → Gains sink after (released_lines b)
-    several_gains after since = gains_all mid b sink between after shared.says.0 since
+    several_gains after since = gains_all mid b sink between after shared.says since
 
     pub several_broken : (stop : Stop) (after : Device (List ℕ)) → IsBroken stop mid b between after → HasStopped workers stop job b sink after
-    several_broken stop after broken = record { state = unlent.shown.state; run = several_run; says = broken_says mid b unlent.shown sink between after shared.says.0 stop broken.says }
+    several_broken stop after broken = record { state = unlent.shown.state; run = several_run; says = broken_says mid b unlent.shown sink between after shared.says stop broken.says }

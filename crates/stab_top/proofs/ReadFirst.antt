@@ -11,7 +11,7 @@ pub first : {Content Fault : Type 0} (form : Form Content Fault) (files : Device
 first form files name faults content h =
     record { bytes = h.bytes; loads = record { held = h.loads.held; within = h.loads.within; no_fault = refl }; is = h.is }
 
--- files that say the same and have the same fault count are the same
+-- files that tell the same and have counted as many faults
 pub same_files : (files other : Device (List Entry)) → other.told ≡ files.told → other.faults ≡ files.faults → other ≡ files
 same_files files other told faults =
     ap (λ t. record { told = t; faults = other.faults }) told ∙ ap (λ n. record { told = files.told; faults = n }) faults
@@ -20,7 +20,7 @@ same_files files other told faults =
 abbrev pub finding : Outcome → ℕ → Device (List Entry) → Call
 finding outcome after files = record { files = files; files_after = after; outcome = outcome }
 
--- the script was read, and then this is said of what was done with it
+-- the script was read, and then this is said of what is done with it
 pub script_read : (outcome : Outcome) (after : ℕ) (files between : Device (List Entry)) (named : Option (List ℕ)) (file : List ℕ) (Said : Call → List ℤ → Type 0) (script : List ℤ) → named ≡ Some file →
     between.told ≡ files.told → Holds probes_form files file between.faults script → Said (finding outcome after between) script →
     ScriptSays (finding outcome after files) named (Said (finding outcome after files))

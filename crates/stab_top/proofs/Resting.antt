@@ -1,5 +1,5 @@
--- The states of the threads at the end of a run, by the counts of its book.
-use Rattle.std.proofs.Common.{◌≡◌, ◌⊎◌, inl, inr, ℕ, zero, suc, ◌+◌, ◌<◌, Bool, true, false, not, ◌&&◌, nat_eq, [], ◌∷◌, ◌++◌, length, Option, Some, None, refl, sym, ap, subst, ◌∙◌, arith, append-nil}
+-- How the threads stand at the end of a run, by the counts of its book.
+use Rattle.std.proofs.Common.{◌≡◌, ◌⊎◌, inl, inr, ℕ, zero, suc, ◌+◌, ◌<◌, Bool, true, false, not, ◌&&◌, nat_eq, List, [], ◌∷◌, ◌++◌, length, Option, Some, None, refl, sym, ap, subst, ◌∙◌, arith, append-nil}
 use Rattle.std.specs.Prelude.{IfSome, IsSomeAnd, option_map, if◌then◌else◌}
 use Rattle.std.specs.Option.{option_map_or}
 use Rattle.std.specs.FinMap as map
@@ -12,7 +12,7 @@ use Rattle.thread_slots.proofs.Counted.{numbers-some}
 use Rattle.stab_code.specs.Program.{ProgramParts}
 use Rattle.stab_code.specs.Valid.{IsValid}
 use Rattle.plain_language.specs.Expression.{Expr}
-use Rattle.plain_language.specs.Plain.{PlainState, look_in}
+use Rattle.plain_language.specs.Plain.{PlainState, look_in, standing}
 use Rattle.plain_language.specs.Shown.{is_done}
 use Rattle.step_eval.specs.ControlView.{ControlView, expr_of}
 use Rattle.commit_book.specs.Book.{BookView, IsShown, over, offered}

@@ -1,4 +1,4 @@
--- What is true of a result, by what follows from what is known of it.
+-- What is said of a result, from what was said of it.
 use Rattle.std.proofs.Common.{Result, Ok, Err, IfOk, IfErr, OnOk}
 
 module _ {T E : Type 0} where

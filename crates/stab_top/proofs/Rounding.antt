@@ -1,12 +1,13 @@
--- What a round leaves: a run up to where values are due, and their release.
-use Rattle.std.proofs.Common.{◌≡◌, ◌⊎◌, inl, inr, ℕ, zero, suc, ◌+◌, ◌-◌, ◌<◌, ◌≤◌, true, List, [], ◌∷◌, ◌++◌, take, drop, refl, sym, ap, subst, ◌∙◌, append-nil, append_assoc, arith}
-use Rattle.std.specs.List.{AllByRecursion}
+-- What a round leaves: a run that ends where values are due, and their release.
+use Rattle.std.proofs.Common.{◌≡◌, ◌⊎◌, inl, inr, ℕ, zero, suc, ◌+◌, ◌-◌, ◌<◌, ◌≤◌, Bool, true, false, ◌&&◌, nat_eq, List, [], ◌∷◌, ◌++◌, length, take, drop, refl, sym, ap, subst, ◌∙◌, append-nil, append_assoc, arith}
+use Rattle.std.specs.List.{AllByRecursion, flat_map}
 use Rattle.std.proofs.lemmas.Bool.{false≢true}
 use Rattle.std.proofs.lemmas.Grind.{flat_map-append}
 use Rattle.std.proofs.lemmas.List.{take-append-drop}
 use Rattle.std.proofs.lemmas.List.Sums.{sum_by-append}
 use Rattle.stab_base.specs.Datum.{Datum}
 use Rattle.stab_base.specs.Printed.{printed}
+use Rattle.stab_base.specs.declared.numbers.ThreadId.{ThreadId}
 use Rattle.stab_code.specs.JobParts.{JobParts}
 use Rattle.stab_code.specs.Program.{ProgramParts}
 use Rattle.stab_journal.specs.declared.event.Event.{Event}
@@ -16,6 +17,7 @@ use Rattle.stab_journal.specs.declared.event.What.TheVariants.{Release}
 use Rattle.stab_journal.specs.Due.{due, final_prints, released, released_by, released_from}
 use Rattle.stab_journal.specs.Event.{weigh, weight_of}
 use Rattle.stab_journal.specs.Surviving.{after_event, after_events, run_of}
+use Rattle.plain_language.specs.Plain.{PlainState}
 use Rattle.plain_language.specs.Shown.{line, value_lines}
 use Rattle.plain_language.specs.Standing.{StandsFor, event}
 use Rattle.journal_laws.proofs.Undone.{stands_run}
@@ -24,7 +26,7 @@ use Rattle.commit_book.specs.declared.done.Done.TheVariants.{Taken, Parked, Undo
 use Rattle.commit_book.specs.Book.{BookView, IsShown}
 use Rattle.commit_book.specs.Commits.{IsCommitted, IsLeftBy, row_at}
 use Rattle.commit_book.specs.Leases.{LeaseView}
-use Rattle.commit_book.specs.Releases.{IsReleased, due_lines, finals}
+use Rattle.commit_book.specs.Releases.{IsReleased, due_lines, due_values, finals}
 use Rattle.commit_book.specs.Rows.{Row, alone, starts, meets, waits, stays, undoes, events_by, local_of, steps_of}
 use Rattle.commit_book.specs.Undoing.{undo_by}
 use Rattle.commit_book.proofs.Chosen.{chosen_light}
@@ -34,9 +36,10 @@ use Rattle.book_text.specs.Written.{released_lines}
 use Rattle.step_eval.specs.Progress.{ProgressView}
 use Rattle.lone_worker.specs.declared.worker.RunEnd.{RunEnd}
 use Rattle.lone_worker.specs.declared.worker.RunEnd.TheVariants as ends
+use Rattle.lone_worker.specs.Desk.{IsUnlent}
 use Rattle.lone_worker.specs.Running.{AreTurns, none, one_more, IsLater, IsRun}
 use Rattle.lone_worker.specs.Turn.{IsTurnOf, is_made, worker}
-use Rattle.stab_top.specs.Rounds.{one_if_any, rounds_left}
+use Rattle.stab_top.specs.Rounds.{IsRound, one_if_any, rounds_left}
 
 -- ---- of what is released
 
@@ -102,7 +105,7 @@ first_light a b (one_more {between = mid} turns turn unlent) = by (first_light a
     by (inr light) = inr light
     by (inl same) = inr (subst (λ (x : BookView). weight_of x.history.events < x.job.fuel) (sym same) (chosen_light mid (record { 0 = turn.lease.thread }) turn.leases.0))
 
--- a run that ends with values due, where none were due before, had fuel left at its start
+-- a run that comes to values that are due, from where none were, has begun with a turn
 pub due_light : (a b : BookView) → IsRun ends.Due a b → due a.history.events ≡ 0 → 0 < due b.history.events → weight_of a.history.events < a.job.fuel
 due_light a b r undue some = by (first_light a r.last r.turns)
   where
@@ -203,7 +206,7 @@ module _ (a b : BookView) (shown : IsShown a) (behind : IsShown b) (later : IsLa
 
 -- ---- of a round
 
--- a release leaves nothing due, so one round fewer is left: if nothing was due before, the turns of the round used fuel
+-- a release leaves nothing due, so a round fewer is left: where nothing was due before, the turns of the round used fuel
 pub nearer : (old last new : BookView) → IsLater old last → IsRun ends.Due old last → 0 < due last.history.events → IsReleased last new worker → rounds_left new < rounds_left old
 nearer old last new later run some is = by (due old.history.events) refl
   where

@@ -1,6 +1,6 @@
 -- What a call says of the types of a program that is held.
-use Rattle.std.proofs.Common.{◌≡◌, ◌≤◌, ℕ, List, length, Ok, ◌⊎◌, inl, inr, refl, sym, subst, ◌∙◌}
-use Rattle.std.specs.Prelude.{IfOk}
+use Rattle.std.proofs.Common.{◌≡◌, ◌≤◌, ℕ, List, length, Result, Ok, Err, ◌⊎◌, inl, inr, refl, sym, ap, subst, ◌∙◌}
+use Rattle.std.specs.Prelude.{IfOk, IfSome, Some}
 use Rattle.scope_check.specs.Scope.{program_scoped}
 use Rattle.stab_code.specs.Program.{ProgramParts}
 use Rattle.stab_code.specs.Valid.{IsValid}
@@ -61,14 +61,14 @@ done_typed : (c : Call) (program : ProgramParts) → status_of c ≡ Done → Fa
 done_typed c program done (inl failed) = absurd (failed_done c done failed)
 done_typed c program done (inr ends) = (subst (λ s. TypesEnds s program c.outcome) done ends).0
 
--- a program is typed if the call's status is Done
+-- a program of which it was told is typed
 pub told_typed : (words : List (List ℕ)) (c : Call) (file bytes : List ℕ) (program : ProgramParts) → Says words c → asked words ≡ Ok (Types file) → status_of c ≡ Done → IsHeld roles.Program c file bytes → IsTextOf bytes program →
     IsTyped program
 told_typed words c file bytes program says is done held text =
     let types : TypesSays c file = request_said words c (Types file) says is refl in
     done_typed c program done (program_said c file bytes program held text c.files_after (λ p. TypesEnds (status_of c) p c.outcome) types)
 
--- each program that a text has can be run
+-- each program of a text can be run
 abbrev pub TextsAreValid : Type 0
 TextsAreValid = (bytes : List ℕ) (tokens : List Token) (syntax : Syntax) → length bytes ≤ max_text → Reads bytes tokens → IsParsed tokens syntax → IfOk (program_scoped bytes syntax) IsValid
 

@@ -1,4 +1,4 @@
--- The terms of the laws of whole calls.
+-- What the laws of whole calls speak of.
 use Rattle.std.specs.Prelude.{◌≡◌, ℕ, ℤ, ◌≤◌, List, [], ◌++◌, length, Option, Some, None, ◌⊎◌}
 use Rattle.commit_book.specs.Book.{BookView}
 use Rattle.drill_text.specs.declared.script.Line.{Line}
@@ -13,7 +13,7 @@ use Rattle.stab_journal.specs.Journal.{Journal}
 use Rattle.stab_journal.specs.Surviving.{run_of}
 use Rattle.stab_types.specs.Typed.{IsFirstUntyped, IsTyped}
 use Rattle.stab_words.specs.declared.request.Request.{Request}
-use Rattle.stab_words.specs.declared.request.Request.TheVariants.{Check, Drill, Run, Trace as WritesTrace, Types, Verify, Watch}
+use Rattle.stab_words.specs.declared.request.Request.TheVariants.{Check, Drill, Run, Trace as WritesTrace, Types, Verify}
 use Rattle.trace_verify.specs.declared.verdict.Verdict.{Verdict}
 use Rattle.trace_verify.specs.Verdict.{IsVerdict}
 use Rattle.stab_top.specs.declared.report.Status.{Status}
@@ -28,14 +28,14 @@ use Rattle.stab_top.specs.Loading.{max_bytes}
 use Rattle.stab_top.specs.Reading.{Blames, Form, probes_form, trace_form}
 use Rattle.stab_top.specs.Reason.{blames_script}
 
--- the files say that they hold the bytes under the name, and the bytes are within the limit for their role
+-- the files tell that the bytes are held under the name, within the limit of what they are for
 pub record IsHeld (role : Role) (c : Call) (name bytes : List ℕ) : Type 0 where
   pub files : List Entry
   pub told : c.files.told ≡ Some files
   pub held : contents_of files name ≡ Some bytes
   pub within : length bytes ≤ max_bytes role
 
--- the bytes are held as the program that the request names
+-- the bytes are those of the program that is asked for
 abbrev pub IsHeldFor : Call → Request → List ℕ → Type 0
 IsHeldFor c (Run args) bytes = IsHeld Program c args.file bytes
 IsHeldFor c (WritesTrace args) bytes = IsHeld Program c args.file bytes
@@ -43,15 +43,14 @@ IsHeldFor c (Verify args) bytes = IsHeld Program c args.file bytes
 IsHeldFor c (Drill args) bytes = IsHeld Program c args.file bytes
 IsHeldFor c (Check file) bytes = IsHeld Program c file bytes
 IsHeldFor c (Types file) bytes = IsHeld Program c file bytes
-IsHeldFor c (Watch args) bytes = IsHeld Program c args.file bytes
 IsHeldFor c _ bytes = ⊥
 
--- the script is the one in the probe file of this name, or empty if there is no name
+-- the script is the one that is held under the name, or empty where there is no name
 abbrev pub IsScriptFor : Call → Option (List ℕ) → List ℤ → Type 0
 IsScriptFor c None script = script ≡ []
 IsScriptFor c (Some name) script = (bytes : List ℕ) × IsHeld Probes c name bytes × probes_form.IsOf bytes script
 
--- the run came to its end, or memory ran out
+-- the run came to its end, or memory was refused
 abbrev pub Ran : Status → Type 0
 Ran Done = Unit {0}
 Ran Held = Unit {0}
@@ -59,24 +58,24 @@ Ran Spent = Unit {0}
 Ran NoMemory = Unit {0}
 Ran _ = ⊥
 
--- the line of the program was written, or memory ran out
+-- the program was told of, or memory was refused
 abbrev pub Checked : Status → Type 0
 Checked Done = Unit {0}
 Checked NoMemory = Unit {0}
 Checked _ = ⊥
 
--- the program is typed, or one of its functions is the first that isn't, or memory ran out
+-- the program is typed, or a function is the first that isn't, or memory was refused
 abbrev pub TypesFound : Status → ProgramParts → Type 0
 TypesFound Done program = IsTyped program
 TypesFound Untyped program = (f : FnId) × IsFirstUntyped program f
 TypesFound NoMemory program = Unit {0}
 TypesFound _ program = ⊥
 
--- the bytes were refused for this fault, or memory ran out
+-- the bytes were refused for their fault, or memory was refused
 abbrev pub IsRefused : {Content Fault : Type 0} → Form Content Fault → Call → Fault → Type 0
 IsRefused form c fault = ((status_of c ≡ form.bad) × Blames c.outcome.report (form.blames fault)) ⊎ (status_of c ≡ NoMemory)
 
--- the bytes are the trace of a history, and the status is that of its verdict
+-- the bytes are a history's trace, and the status is that of its verdict
 pub record HasVerdict (c : Call) (program : ProgramParts) (script : List ℤ) (bytes : List ℕ) : Type 0 where
   pub history : Journal
   pub is : trace_form.IsOf bytes history
@@ -84,27 +83,27 @@ pub record HasVerdict (c : Call) (program : ProgramParts) (script : List ℤ) (b
   pub given : IsVerdict program script history verdict
   pub status : status_of c ≡ verdict_status verdict
 
--- the trace was judged, or memory ran out
+-- the trace was judged, or memory was refused
 abbrev pub WasJudged : Call → ProgramParts → List ℤ → List ℕ → Type 0
 WasJudged c program script bytes = HasVerdict c program script bytes ⊎ (status_of c ≡ NoMemory)
 
--- the script was played, and the drill's lines and then what its book shows were written
+-- the script was played, and its lines and what the program then shows were written
 pub record WasPlayed (c : Call) (job : JobParts) (script : List Line) : Type 0 where
   pub status : status_of c ≡ Done
   pub end : IsPlayedOut job script c.outcome
   pub gains : Gains c.outcome.sink c.outcome.sink_after (drill_text end)
 
--- a line of the script can't be played, and the first such line is blamed
+-- a line of the script can't be played, and the first such line is told
 pub record WasStuck (c : Call) (job : JobParts) (script : List Line) : Type 0 where
   pub status : status_of c ≡ BadScript
   pub stuck : IsStuck job script c.outcome
 
--- the script was played, or a line can't be played, or memory ran out
+-- the script was played, or a line can't be, or memory was refused
 abbrev pub WasDrilled : Call → JobParts → List Line → Type 0
 WasDrilled c job script = WasPlayed c job script ⊎ (WasStuck c job script ⊎ (status_of c ≡ NoMemory))
 
--- the report's book has the same desk as this book; the text is these lines, and then what the state shows in which the steps of
--- this book end that no undo took back
+-- the report's book has the desk of this one, and the text is these lines, and then what the state shows to which the steps of
+-- the book lead that no undo took away
 pub record IsTextOfDrill (c : Call) (lines : List ℕ) (book : BookView) (text : List ℕ) : Type 0 where
   pub last : BookView
   pub reported : c.outcome.report.book ≡ Some last
@@ -113,8 +112,8 @@ pub record IsTextOfDrill (c : Call) (lines : List ℕ) (book : BookView) (text :
   pub ends : end_of book.job.program (run_of book.history.events) ≡ Some state
   pub is : text ≡ lines ++ shown_by book state
 
--- What each status says if a drill has these lines and this book. Memory may run out, or a file may be refused for a counted
--- fault; other statuses don't occur.
+-- What each status says where a drill comes to these lines and this book. Memory may be refused, or a file for a fault that was
+-- counted, and no other status comes.
 abbrev pub ComesTo : Status → Call → List ℕ → BookView → Type 0
 ComesTo Done c lines book = (text : List ℕ) × IsTextOfDrill c lines book text × Gains c.outcome.sink c.outcome.sink_after text
 ComesTo SinkFault c lines book =
@@ -123,7 +122,7 @@ ComesTo FileFault c lines book = CountedFault c
 ComesTo NoMemory c lines book = Unit {0}
 ComesTo _ c lines book = ⊥
 
--- the same if a script can't be played for this fault: the fault is blamed, and nothing was written
+-- the same where a script can't be played for this fault, which is blamed, and nothing was written
 abbrev pub StopsWith : Status → Call → DrillFault → Type 0
 StopsWith BadScript c fault = Refuses c.outcome (blames_script fault)
 StopsWith FileFault c fault = CountedFault c

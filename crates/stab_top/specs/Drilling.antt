@@ -1,4 +1,4 @@
--- What each status says of a drill.
+-- What a call says of the end of a drill.
 use Rattle.std.specs.Prelude.{◌≡◌, ℕ, List, ◌++◌, Some}
 use Rattle.stab_code.specs.JobParts.{JobParts}
 use Rattle.stab_journal.specs.declared.event.Numbered.{Numbered}
@@ -18,7 +18,7 @@ use Rattle.sink_lines.specs.Device.{Gains, GainsPrefix}
 use Rattle.stab_top.specs.Ending.{Outcome, Refuses, shown_by}
 use Rattle.stab_top.specs.Reason.{Blame, blame_of, blames_script, no_blame}
 
--- the drill of the job by the script was played; the report has its book, which shows a run that follows the job's probe script
+-- the drill of the job by the script was played; the report has its book, which shows a run that follows the job's script
 pub record IsPlayedOut (job : JobParts) (script : List Line) (o : Outcome) : Type 0 where
   pub book : BookView
   pub state : PlainState
@@ -35,7 +35,7 @@ pub record IsPlayedOut (job : JobParts) (script : List Line) (o : Outcome) : Typ
 abbrev pub drill_text : {job : JobParts} {script : List Line} {o : Outcome} → IsPlayedOut job script o → List ℕ
 drill_text end = end.lines ++ shown_by end.book end.state
 
--- the report has the book, and no cause
+-- the report has the book, and nothing to blame
 pub record Reports (o : Outcome) (book : BookView) : Type 0 where
   pub reported : o.report.book ≡ Some book
   pub blame : blame_of o.report ≡ no_blame
@@ -49,7 +49,7 @@ WriteEnds SinkFault lines book o =
 WriteEnds NoMemory lines book o = Refuses o no_blame
 WriteEnds _ lines book o = ⊥
 
--- the status and the cause if a script isn't played: memory ran out, or a line can't be played
+-- what is reported of a script that isn't played: memory is wanted, or a line can't be
 abbrev pub unplayed_status : DrillFault → Status
 unplayed_status faults.NoMemory = NoMemory
 unplayed_status fault = BadScript
@@ -58,7 +58,7 @@ abbrev pub unplayed_blame : DrillFault → Blame
 unplayed_blame faults.NoMemory = no_blame
 unplayed_blame fault = blames_script fault
 
--- a line can't be played on a new book of the job; its fault is blamed, and nothing was written
+-- a line can't be played on a new book, which is blamed, and nothing was written
 pub record IsStuck (job : JobParts) (script : List Line) (o : Outcome) : Type 0 where
   pub first : Stand
   pub new : IsNew job first
@@ -66,7 +66,7 @@ pub record IsStuck (job : JobParts) (script : List Line) (o : Outcome) : Type 0 
   pub stops : StopsAt first script fault
   pub refuses : Refuses o (blames_script fault)
 
--- What each status says of a script that was to be played. NoMemory is always allowed; other statuses don't occur.
+-- What each status says of a script that was to be played. Want of memory is free, and no other status comes.
 abbrev pub PlayEnds : Status → JobParts → List Line → Outcome → Type 0
 PlayEnds Done job script o = (end : IsPlayedOut job script o) × Gains o.sink o.sink_after (drill_text end)
 PlayEnds SinkFault job script o = (end : IsPlayedOut job script o) × GainsPrefix o.sink o.sink_after (drill_text end)

@@ -1,4 +1,4 @@
--- What each status says of a run, a check or a verdict.
+-- What a call says of the end of what it does with a program.
 use Rattle.std.specs.Prelude.{◌≡◌, ℕ, ℤ, ◌<◌, ◌≤◌, true, false, List, [], ◌∷◌, ◌++◌, count_by, Option, Some, None, IfSome, IsSomeAnd, codes, decimal, length, ◌⊎◌}
 use Rattle.stab_base.specs.Gain.{SomePrefix}
 use Rattle.stab_code.specs.JobParts.{JobParts}
@@ -31,30 +31,30 @@ use Rattle.sink_lines.specs.Device.{Device, Gains, GainsPrefix, Rests, device}
 use Rattle.stab_top.specs.Reading.{Blames}
 use Rattle.stab_top.specs.Reason.{Blame, blame_of, failing_words, names_verdict, no_blame}
 
--- the outcome of a call: the sink before and after it, and the report
+-- what came of a call: the sink before and after it, and what is reported
 pub record Outcome : Type 0 where
   pub sink : Device (List ℕ)
   pub sink_after : Device (List ℕ)
   pub report : Report
 
--- the outcome with this report, and with this sink before and after it
+-- the outcome of a report, with a sink before and after it
 abbrev pub outcome_of : {K : Type 0} → (K → Option (List ℕ)) → (K → ℕ) → K → K → Report → Outcome
 outcome_of told faults sink after report =
     record { sink = device told faults sink; sink_after = device told faults after; report = report }
 
--- the report has no book and this cause, and nothing was written
+-- no book, this to blame, and the sink as it was
 abbrev pub Refuses : Outcome → Blame → Type 0
 Refuses o cause = Blames o.report cause × Rests o.sink o.sink_after
 
 -- ---- a run
 
--- The events are the first ones of the job's run by one worker.
+-- Worker 1 made the first events of the job's run by one worker.
 abbrev pub IsSoloPart : JobParts → List Event → Type 0
 IsSoloPart job events = (end : RunEnd) × IsSolo job end events
 
--- The book is of this job. It shows its history, the run of the steps that weren't undone, and the state in which that run ends.
--- The probes in the history got the numbers of the script. Each event is one of these workers'. With one worker, the events are
--- the first ones of the job's run by one worker.
+-- The book is of this job. It shows its history, which stands for this run of the program from the start state, and the state in
+-- which the run ends; the history's probes got the numbers of the script. Each event is one of these workers'. With one worker
+-- they are the first events of the run of the job by one worker.
 pub record IsRunOf (workers : ℕ) (job : JobParts) (book : BookView) (state : PlainState) : Type 0 where
   pub of_job : book.job ≡ job
   pub run : List Numbered
@@ -69,7 +69,7 @@ pub record Rested (book : BookView) (state : PlainState) : Type 0 where
   pub free : in_state Leased book ≡ 0
   pub quiet : IsQuiet (language_of book.job.program) state
 
--- `AllDone`: every thread of the state ended without a fault; `SomeHeld`: one failed or waits
+-- every thread of the state ended without a fault; and one failed or waits
 abbrev pub AllDone : ProgramParts → PlainState → Type 0
 AllDone p s = (t : ℕ) → IfSome (standing s t) (λ e. is_done (look_in p e) ≡ true)
 
@@ -77,66 +77,71 @@ pub record SomeHeld (p : ProgramParts) (s : PlainState) : Type 0 where
   pub thread : ℕ
   pub held : IsSomeAnd (standing s thread) (λ e. is_done (look_in p e) ≡ false)
 
--- the fuel is used up, and a thread is still ready
+-- the fuel is used up, and a thread is ready
 pub record IsSpent (book : BookView) : Type 0 where
   pub used : book.job.fuel ≤ weight_of book.history.events
   pub ready : 0 < in_state Ready book
 
--- what each status says of the end of a run
+-- how a run is at its end
 abbrev pub RestSays : Status → BookView → PlainState → Type 0
 RestSays Done book state = Rested book state × AllDone book.job.program state
 RestSays Held book state = Rested book state × SomeHeld book.job.program state
 RestSays Spent book state = IsSpent book
 RestSays _ book state = ⊥
 
--- the run is over: at rest or spent; with one worker, its events are those of the whole run of the job by one worker
+-- a run is over; with one worker its events are those of the whole run of the job by one worker
 pub record IsOver (workers : ℕ) (book : BookView) (state : PlainState) : Type 0 where
   pub whole : workers ≡ 1 → IsWholeSolo book.job book.history.events
   pub rest : Rested book state ⊎ IsSpent book
 
 -- ---- what is written of a run
 
--- what a run shows that ends in this state
+-- what the run shows that ends in the state
 abbrev pub shown_by : BookView → PlainState → List ℕ
 shown_by book state = shown book.job.program state
 
--- the line with the mill's size and the number of undos, and what a mill's run shows with this line after it
+-- the same, and a line that tells the size of the mill and how many undos there were
 abbrev pub mill_line : ℕ → List Event → List ℕ
 mill_line size events = line (codes "mill " ++ decimal size ++ codes " undos " ++ decimal (count_by is_undo events))
 
 abbrev pub milled_by : ℕ → BookView → PlainState → List ℕ
 milled_by size book state = shown_by book state ++ mill_line size book.history.events
 
--- a prefix of the text was written, which begins with the lines of every release after which worker 1 has an event
+-- the text of a run, and of that of a mill of a size
+abbrev pub text_with : Option ℕ → BookView → PlainState → List ℕ
+text_with None = shown_by
+text_with (Some size) = milled_by size
+
+-- a prefix of the text was written, which begins with these lines
 abbrev pub WritesReleases : BookView → PlainState → List ℕ → Outcome → Type 0
 WritesReleases book state text o =
     SomePrefix (λ front. Appends o.sink.told o.sink_after.told front × HasReleases book state front) text
 
--- the run is over as the status says, and the whole text was written; with one worker, its events are those of the whole run
+-- the run is over as the status says, and the text was written whole; with one worker its events are those of the whole run
 pub record IsWritten (workers : ℕ) (status : Status) (book : BookView) (state : PlainState) (text : List ℕ) (o : Outcome) : Type 0 where
   pub whole : workers ≡ 1 → IsWholeSolo book.job book.history.events
   pub rest : RestSays status book state
   pub gains : Gains o.sink o.sink_after text
 
--- what a command writes of a run by this many workers that ended with this status
+-- how a command writes of a run by so many workers that ended so
 abbrev pub Writing : Type 1
 Writing = ℕ → Status → BookView → PlainState → Outcome → Type 0
 
 module _ (text_by : BookView → PlainState → List ℕ) where
-  -- `run` and `mill` write the lines of values as soon as they are released, and the rest of their text at the end
+  -- `run` and `mill` write the lines of values as soon as a release made them known, and the rest of their text at the end
   abbrev pub AsReleased : Writing
   AsReleased workers SinkFault book state o = WritesReleases book state (text_by book state) o × Rose o.sink.faults o.sink_after.faults
   AsReleased workers NoMemory book state o = WritesReleases book state (text_by book state) o × (o.sink_after.faults ≡ o.sink.faults)
   AsReleased workers status book state o = IsWritten workers status book state (text_by book state) o
 
--- `trace` writes the trace of the history, at the end
+-- `trace` writes the trace of what happened, at the end
 abbrev pub AtTheEnd : Writing
 AtTheEnd workers SinkFault book state o = IsOver workers book state × GainsPrefix o.sink o.sink_after (trace book.history)
 AtTheEnd workers NoMemory book state o = ⊥
 AtTheEnd workers status book state o = IsWritten workers status book state (trace book.history) o
 
 module _ (WritesBy : Writing) (workers : ℕ) where
-  -- the report has the book of the job's run and no cause, and the status says how far the run came and what was written
+  -- the report has the book of the job's run, and nothing to blame, and the status says how far it came and what was written
   pub record Ends (status : Status) (job : JobParts) (o : Outcome) : Type 0 where
     pub book : BookView
     pub state : PlainState
@@ -145,21 +150,21 @@ module _ (WritesBy : Writing) (workers : ℕ) where
     pub run : IsRunOf workers job book state
     pub writes : WritesBy workers status book state o
 
-  -- What each status says of a job that was to be run. NoMemory is always allowed: either there is no book and nothing was
-  -- written, or there is the book of the run.
+  -- What each status says of a job that was to be run. Want of memory is free: there is no book and nothing was written, or
+  -- there is one.
   abbrev pub RunEnds : Status → JobParts → Outcome → Type 0
   RunEnds NoMemory job o = Refuses o no_blame ⊎ Ends NoMemory job o
   RunEnds status job o = Ends status job o
 
 -- ---- a check
 
--- the line that `check` writes of a program
+-- the line that tells of a program that was read
 abbrev pub checked_line : ProgramParts → List ℕ
 checked_line program =
     codes "ok functions "
     ++ (decimal (length program.functions) ++ (codes " texts " ++ (decimal (length program.texts) ++ 10 ∷ [])))
 
--- What each status says of a program that was to be checked. NoMemory is always allowed; other statuses don't occur.
+-- What each status says of a program that was to be checked. Want of memory is free, and no other status comes.
 abbrev pub CheckEnds : Status → ProgramParts → Outcome → Type 0
 CheckEnds Done program o = Blames o.report no_blame × Gains o.sink o.sink_after (checked_line program)
 CheckEnds SinkFault program o = Blames o.report no_blame × GainsPrefix o.sink o.sink_after (checked_line program)
@@ -178,21 +183,20 @@ abbrev pub verdict_status : Verdict → Status
 verdict_status verdicts.Yes = Done
 verdict_status (verdicts.No q why) = No
 
--- the line of the verdict was written, and the status is the verdict's; or a prefix was written up to a fault, and it is
--- SinkFault
+-- the line of the verdict was written, and the status is the verdict's; or a prefix of it up to a fault of the sink
 abbrev pub IsTold : Status → Verdict → Outcome → Type 0
 IsTold status verdict o =
     ((status ≡ verdict_status verdict) × Gains o.sink o.sink_after (verdict_line verdict))
     ⊎ ((status ≡ SinkFault) × GainsPrefix o.sink o.sink_after (verdict_line verdict))
 
--- the history has this verdict, which is reported with no book; its line was written, or a prefix up to a fault
+-- the history has this verdict, which is reported with no book, and was told
 pub record IsJudged (status : Status) (program : ProgramParts) (script : List ℤ) (history : Journal) (o : Outcome) : Type 0 where
   pub verdict : Verdict
   pub is : IsVerdict program script history verdict
   pub reported : Blames o.report (names_verdict verdict)
   pub told : IsTold status verdict o
 
--- What a status says of a history that was to be judged. NoMemory is always allowed; other statuses don't occur.
+-- What a status says of a history that was to be judged. Want of memory is free, and no other status comes.
 abbrev pub VerdictEnds : Status → ProgramParts → List ℤ → Journal → Outcome → Type 0
 VerdictEnds status program script history o =
     IsJudged status program script history o ⊎ ((status ≡ NoMemory) × Refuses o no_blame)

@@ -12,9 +12,8 @@ use Rattle.stab_journal.specs.Floor.{floor, is_pin}
 use Rattle.stab_journal.specs.Journal.{survivors}
 use Rattle.stab_journal.specs.Surviving.{run_of}
 use Rattle.stab_words.specs.declared.request.Request.{Request}
-use Rattle.stab_words.specs.declared.request.Request.TheVariants.{Drill, Mill, Run, Trace, Watch}
+use Rattle.stab_words.specs.declared.request.Request.TheVariants.{Drill, Mill, Run, Trace}
 use Rattle.stab_words.specs.declared.request.RunArgs.{RunArgs}
-use Rattle.plain_language.specs.Plain.{PlainState}
 use Rattle.plain_language.specs.Standing.{event}
 use Rattle.commit_book.specs.Book.{BookView}
 use Rattle.commit_book.specs.Headline.{HasRun, IsGranted, StandsIn}
@@ -23,13 +22,13 @@ use Rattle.stab_top.specs.declared.report.Status.{Status}
 use Rattle.stab_top.specs.declared.report.Status.TheVariants.{Done, Held, Spent}
 use Rattle.stab_top.specs.Call.{Call, status_of}
 use Rattle.sink_lines.specs.Device.{Gains}
-use Rattle.stab_top.specs.Ending.{RestSays}
+use Rattle.stab_top.specs.Ending.{RestSays, shown_by}
 use Rattle.stab_top.specs.Reading.{AreGiven}
 
 -- The journal without its undone steps is, in order, a run of the plain language from the start state that ends in exactly the
 -- book's threads, channels, references and output;
 -- each granted stabilize undoes its section's entry and precisely the steps that depend on it;
--- and no step before a cut, and no step on which a pin depends, is ever undone.
+-- and no step that stands before a cut, or on which a pin depends, is ever undone.
 pub record IsOfTheLanguage (book : BookView) : Type 0 where
   pub run : HasRun book
   pub undos : (first after : List Event) (worker : ℕ) (t : ThreadId) (m : Seq)
@@ -40,13 +39,12 @@ pub record IsOfTheLanguage (book : BookView) : Type 0 where
   pub pins : (first after : List Event) → book.history.events ≡ first ++ after → (n pin : Numbered) → StandsIn (run_of first) n
       → is_pin pin.label ≡ true → Reaches (run_of first) n.seq.0 pin → StandsIn (survivors book.history) n
 
--- a request that runs a program, by workers or by a schedule written by hand
+-- a request for which a program is run, by workers or by a schedule that is written by hand
 abbrev pub AsksForRun : Request → Type 0
 AsksForRun (Run args) = Unit {0}
 AsksForRun (Trace args) = Unit {0}
 AsksForRun (Mill args) = Unit {0}
 AsksForRun (Drill args) = Unit {0}
-AsksForRun (Watch args) = Unit {0}
 AsksForRun request = ⊥
 
 -- a status of a run that is over
@@ -62,10 +60,10 @@ pub record IsDrillOfOne (book : BookView) : Type 0 where
   pub drilled : IsDrilledByOne book.job last
   pub events : last.history.events ≡ book.history.events
 
--- The call ran the program in the file, with the script, the fuel and the quantum that the words name, and reports the book of
--- that run, of which the above is true; the status says how the run ended; with one worker the run is a drill of one worker; and
--- exactly this text of the run was written.
-pub record ShowsRunOf (text_by : BookView → PlainState → List ℕ) (c : Call) (args : RunArgs) : Type 0 where
+-- The call ran the program of the file, with the script that the words name and their fuel and quantum, and reports the book of
+-- that run, of which the above holds; the status says how the run ended; with one worker the run is a drill of one worker; and
+-- what it shows was written, and nothing else.
+pub record ShowsRunOf (c : Call) (args : RunArgs) : Type 0 where
   pub program : ProgramParts
   pub script : List ℤ
   pub given : AreGiven c.files c.files_after args program script
@@ -75,4 +73,4 @@ pub record ShowsRunOf (text_by : BookView → PlainState → List ℕ) (c : Call
   pub says : IsOfTheLanguage book
   pub rest : RestSays (status_of c) book says.run.end
   pub alone : args.workers ≡ 1 → IsDrillOfOne book
-  pub written : Gains c.outcome.sink c.outcome.sink_after (text_by book says.run.end)
+  pub written : Gains c.outcome.sink c.outcome.sink_after (shown_by book says.run.end)

@@ -1,6 +1,5 @@
 pub mod Reason
 pub mod Words
-pub mod Watching
 pub mod Loading
 pub mod Reading
 pub mod Ending
@@ -9,6 +8,7 @@ pub mod Playing
 pub mod Milling
 pub mod Drilling
 pub mod Typing
+pub mod Saving
 pub mod Call
 pub mod Command
 pub mod Complete

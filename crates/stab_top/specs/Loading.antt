@@ -1,4 +1,4 @@
--- What a call says of loading a file, by the file's role.
+-- What a call says of a file that it reads, by what the file is for.
 use Rattle.std.specs.Prelude.{◌≡◌, ℕ, ◌<◌, ◌≤◌, List, length, Option, Some, None, IfSome, IsSomeAnd, ◌⊎◌}
 use Rattle.stab_files.specs.Count.{Rose}
 use Rattle.stab_files.specs.Entry.{Entry, contents_of}
@@ -8,24 +8,24 @@ use Rattle.stab_top.specs.declared.report.Role.{Role}
 use Rattle.stab_top.specs.declared.report.Role.TheVariants.{Program, Probes, Trace, Script}
 use Rattle.sink_lines.specs.Device.{Device}
 
--- the largest size of a file, in bytes
+-- how many bytes a file may have
 abbrev pub max_bytes : Role → ℕ
 max_bytes Program = 1048576
 max_bytes Probes = 1048576
 max_bytes Trace = 67108864
 max_bytes Script = 1048576
 
--- if the files say what they hold, the fact is true of what they hold under the name
+-- where the files tell what they hold, the fact is true of what is held under the name
 abbrev pub Finds : Device (List Entry) → List ℕ → (Option (List ℕ) → Type 0) → Type 0
 Finds files name P = IfSome files.told (λ held. P (contents_of held name))
 
--- the bytes are what the files hold under the name, if they say it, and within the limit, and no fault was counted
+-- the bytes are what is held under the name, where the files tell, and within the limit, and no fault was counted
 pub record Loads (role : Role) (files : Device (List Entry)) (name : List ℕ) (faults : ℕ) (bytes : List ℕ) : Type 0 where
   pub held : Finds files name (λ found. found ≡ Some bytes)
   pub within : length bytes ≤ max_bytes role
   pub no_fault : faults ≡ files.faults
 
--- why the file couldn't be loaded; NoMemory is always allowed, and other statuses don't occur
+-- why there are no bytes of the file; want of memory is free, and no other status comes
 abbrev pub LoadRefused : Status → Role → Device (List Entry) → List ℕ → ℕ → Type 0
 LoadRefused NoFile role files name faults = (faults ≡ files.faults) × Finds files name (λ found. found ≡ None)
 LoadRefused TooBig role files name faults =
@@ -34,14 +34,14 @@ LoadRefused FileFault role files name faults = Rose files.faults faults
 LoadRefused NoMemory role files name faults = faults ≡ files.faults
 LoadRefused _ role files name faults = ⊥
 
--- the file that a report names for this status
+-- the file that a report blames for such a status
 abbrev pub blamed : Status → Role → Option Role
 blamed NoFile role = Some role
 blamed TooBig role = Some role
 blamed FileFault role = Some role
 blamed _ role = None
 
--- The file couldn't be loaded, and `Refused` is true; or it was loaded, and `Said` is true of its bytes.
+-- There are no bytes of the file, and this is said of the call; or there are, and that is said of them.
 abbrev pub FileSays : Role → Status → Device (List Entry) → List ℕ → ℕ → Type 0 → (List ℕ → Type 0) → Type 0
 FileSays role status files name faults Refused Said =
     (LoadRefused status role files name faults × Refused) ⊎ ((bytes : List ℕ) × Loads role files name faults bytes × Said bytes)

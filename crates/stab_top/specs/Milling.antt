@@ -1,4 +1,4 @@
--- What each status says of a run of the mill.
+-- What a call says of the end of the mill.
 use Rattle.std.specs.Prelude.{◌⊎◌}
 use Rattle.stab_code.specs.JobParts.{job_of}
 use Rattle.stab_code.specs.Program.{ProgramParts}
@@ -10,7 +10,7 @@ use Rattle.sink_lines.specs.Device.{Rests}
 use Rattle.stab_top.specs.Ending.{AsReleased, Outcome, RunEnds, milled_by}
 use Rattle.stab_top.specs.Reading.{BytesRefused, program_form}
 
--- the mill's text of this size was refused and nothing written; or it is a program, which was run with the mill's script
+-- the text of the mill of this size was refused and nothing written; or it is a program, which was run with the mill's script
 abbrev pub MillEnds : Status → MillArgs → Outcome → Type 0
 MillEnds status args o =
     (BytesRefused program_form o.report (mill_text args.size) × Rests o.sink o.sink_after)

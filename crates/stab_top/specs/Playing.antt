@@ -1,4 +1,4 @@
--- How far a run came if its lines are written as they are released.
+-- How far a run came whose lines are written as they are released.
 use Rattle.std.specs.Prelude.{◌≡◌, ◌⊎◌, ℕ, List, [], ◌++◌, Option, Some, None}
 use Rattle.stab_code.specs.JobParts.{JobParts}
 use Rattle.stab_journal.specs.declared.event.Event.{Event}
@@ -15,27 +15,25 @@ use Rattle.worker_rounds.specs.declared.rounds.Stop.TheVariants as stops
 use Rattle.worker_rounds.specs.Releases.{StopSays}
 use Rattle.stab_top.specs.declared.report.Status.{Status}
 use Rattle.stab_top.specs.declared.report.Status.TheVariants.{SinkFault}
-use Rattle.stab_top.specs.declared.running.LastLine.{LastLine}
-use Rattle.stab_top.specs.Ending.{IsRunOf, RestSays}
+use Rattle.stab_top.specs.Ending.{IsRunOf, RestSays, mill_line}
 use Rattle.stab_top.specs.Rounds.{IsRound}
-use Rattle.stab_top.specs.Watching.{line_behind}
 
 -- ---- a book that one worker plays on
 
--- the lines of what was released since `old` were written
+-- the lines of what was released since were written
 pub record GainsSince (old new : BookView) (sink after : Device (List ℕ)) : Type 0 where
   pub lines : List ℕ
   pub more : released_lines new ≡ released_lines old ++ lines
   pub gains : Gains sink after lines
 
--- the run is over, as the status says: there are no more turns
+-- no turn comes any more, as the status says
 pub record IsPlayedOut (status : Status) (old new : BookView) : Type 0 where
   pub end : RunEnd
   pub whole : IsWhole end
   pub played : IsPlayed end old new
   pub rest : (shown : IsShown new) → RestSays status new shown.state
 
--- all lines up to the last release were written, and the lines of the last release were cut short
+-- the lines of the last release were cut short
 pub record IsCutShort (old new : BookView) (sink after : Device (List ℕ)) : Type 0 where
   pub last : BookView
   pub between : Device (List ℕ)
@@ -51,7 +49,7 @@ abbrev pub BreakSays : Stop → BookView → BookView → Device (List ℕ) → 
 BreakSays stops.SinkFault old new sink after = IsCutShort old new sink after
 BreakSays stops.NoMemory old new sink after = GainsSince old new sink after
 
--- the play was stopped; for a fault of the sink, too, `end` is NoMemory
+-- the play was stopped
 pub record IsBroken (stop : Stop) (old new : BookView) (sink after : Device (List ℕ)) : Type 0 where
   pub end : RunEnd
   pub played : IsPlayed end old new
@@ -66,17 +64,22 @@ pub record HasRun (workers : ℕ) (status : Status) (job : JobParts) (book : Boo
   pub whole : workers ≡ 1 → IsWholeSolo book.job book.history.events
   pub rest : RestSays status book state
 
--- the job's run was stopped
+-- the job's run isn't over
 pub record HasStopped (workers : ℕ) (stop : Stop) (job : JobParts) (book : BookView) (sink after : Device (List ℕ)) : Type 0 where
   pub state : PlainState
   pub run : IsRunOf workers job book state
   pub says : StopSays stop book state sink after
 
--- what is left to write of a run that is over
-abbrev pub IsTextBehind : LastLine → BookView → List ℕ → Type 0
-IsTextBehind last book text = (rest : List ℕ) × IsRestText book rest × (text ≡ rest ++ line_behind last book.history.events)
+-- the line that stands behind what a run shows
+abbrev pub line_behind : Option ℕ → List Event → List ℕ
+line_behind None events = []
+line_behind (Some size) events = mill_line size events
 
--- the text was written whole, and the status is `rest`; or a prefix was written up to a fault, and it is SinkFault
+-- what is still to be written of a run that is over
+abbrev pub IsTextBehind : Option ℕ → BookView → List ℕ → Type 0
+IsTextBehind size book text = (rest : List ℕ) × IsRestText book rest × (text ≡ rest ++ line_behind size book.history.events)
+
+-- the text was written whole, with this status, or a prefix of it up to a fault
 abbrev pub WritesOf : Status → Status → List ℕ → Device (List ℕ) → Device (List ℕ) → Type 0
 WritesOf rest status text sink after =
     ((status ≡ rest) × Gains sink after text) ⊎ ((status ≡ SinkFault) × GainsPrefix sink after text)

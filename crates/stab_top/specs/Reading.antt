@@ -1,4 +1,4 @@
--- What a call says of the contents of the files that it reads.
+-- What a call says of what it reads in a file.
 use Rattle.std.specs.Prelude.{◌≡◌, ℕ, ℤ, List, [], Option, Some, None, Ok, Err, ◌⊎◌}
 use Rattle.probe_text.specs.declared.fault.ProbesFault.{ProbesFault}
 use Rattle.probe_text.specs.Probes as probes
@@ -20,12 +20,12 @@ use Rattle.sink_lines.specs.Device.{Device}
 use Rattle.stab_top.specs.Loading.{FileSays, Loads, blamed}
 use Rattle.stab_top.specs.Reason.{Blame, blame_of, blames_file, blames_probes, blames_text, blames_trace, no_blame}
 
--- the report has no book and this cause
+-- the report has no book, and this is to blame
 pub record Blames (report : Report) (cause : Blame) : Type 0 where
   pub no_book : report.book ≡ None
   pub blame : blame_of report ≡ cause
 
--- the content that the bytes of a file have, the fault of bytes that have none, and the status for such a fault
+-- what the bytes of a file stand for, their fault where they stand for nothing, and the status that then comes
 pub record Form (Content Fault : Type 0) : Type 1 where
   pub role : Role
   pub IsOf : List ℕ → Content → Type 0
@@ -55,7 +55,7 @@ trace_form = record {
 }
 
 module _ {Content Fault : Type 0} (form : Form Content Fault) where
-  -- the file holds this content, and no fault was counted
+  -- the file holds what stands for this, and no fault was counted
   pub record Holds (files : Device (List Entry)) (name : List ℕ) (faults : ℕ) (content : Content) : Type 0 where
     pub bytes : List ℕ
     pub loads : Loads form.role files name faults bytes
@@ -68,17 +68,17 @@ module _ {Content Fault : Type 0} (form : Form Content Fault) where
     pub has : form.HasFault bytes fault
     pub blames : Blames report (form.blames fault)
 
-  -- why the bytes were refused: for their fault, or because memory ran out, which is always allowed
+  -- why the bytes were refused: for their fault, or for want of memory, which is free
   abbrev pub BytesRefused : Report → List ℕ → Type 0
   BytesRefused report bytes = HaveFault report bytes ⊎ ((report.status ≡ NoMemory) × Blames report no_blame)
 
-  -- why nothing was read: the file couldn't be loaded, or its bytes were refused
+  -- why nothing was read: the file was refused, or its bytes were
   abbrev pub ReadRefused : Report → Device (List Entry) → List ℕ → ℕ → Type 0
   ReadRefused report files name faults =
       FileSays form.role report.status files name faults
       (Blames report (blames_file (blamed report.status form.role))) (BytesRefused report)
 
--- ---- a run, with the script in a probe file or an empty one
+-- ---- a run, whose script is that of a probe file, or empty
 
 module _ (files : Device (List Entry)) (faults : ℕ) (file : List ℕ) where
   -- the program was read, and then the script
@@ -87,7 +87,7 @@ module _ (files : Device (List Entry)) (faults : ℕ) (file : List ℕ) where
   AreGivenBy (Some probes) program script =
       Holds program_form files file files.faults program × Holds probes_form files probes faults script
 
-  -- the program was refused, or the script was
+  -- the one was refused, or the other
   abbrev pub AreRefusedBy : Option (List ℕ) → Report → Type 0
   AreRefusedBy None report = ReadRefused program_form report files file faults
   AreRefusedBy (Some probes) report =

@@ -1,4 +1,4 @@
--- The numbers and names of statuses, and the reason line.
+-- The numbers and names of statuses, and the line that tells a reason.
 use Rattle.std.specs.Prelude.{ℕ, List, [], ◌∷◌, ◌++◌, Option, Some, None, codes, decimal}
 use Rattle.stab_text.specs.declared.fault.TextFault.{TextFault}
 use Rattle.stab_text.specs.FaultText as text
@@ -18,7 +18,7 @@ use Rattle.stab_words.specs.declared.request.WordFault.{WordFault}
 use Rattle.stab_words.specs.FaultText as words
 use Rattle.stab_top.specs.declared.report.Report.{Report}
 use Rattle.stab_top.specs.declared.report.Status.{Status}
-use Rattle.stab_top.specs.declared.report.Status.TheVariants.{Done, Held, BadWords, BadText, NoFile, TooBig, FileFault, SinkFault, Spent, NoMemory, BadProbes, BadTrace, BadScript, No, NotBuilt, Untyped}
+use Rattle.stab_top.specs.declared.report.Status.TheVariants.{Done, Held, BadWords, BadText, NoFile, TooBig, FileFault, SinkFault, Spent, NoMemory, BadProbes, BadTrace, BadScript, No, NotBuilt, Untyped, NoCut}
 use Rattle.stab_top.specs.declared.report.Role.{Role}
 use Rattle.stab_top.specs.declared.report.Role.TheVariants.{Program, Probes, Trace, Script}
 
@@ -40,6 +40,7 @@ status_number BadScript = 12
 status_number No = 13
 status_number NotBuilt = 14
 status_number Untyped = 15
+status_number NoCut = 16
 
 -- the name of a status
 abbrev pub status_name : Status → List ℕ
@@ -59,16 +60,17 @@ status_name BadScript = codes "BadScript"
 status_name No = codes "No"
 status_name NotBuilt = codes "NotBuilt"
 status_name Untyped = codes "Untyped"
+status_name NoCut = codes "NoCut"
 
--- the word for a file's role
+-- the word for what a file is for
 abbrev pub role_name : Role → List ℕ
 role_name Program = codes "program"
 role_name Probes = codes "probes"
 role_name Trace = codes "trace"
 role_name Script = codes "script"
 
--- what a report names besides its status: the fault of the words, the file, the fault of the program's text, of the probe file,
--- of the trace, of the script or of the types, and the verdict
+-- what a report names beside its status: the fault of the words, the file, the fault of the program's text, of the probe file,
+-- of the trace, of the script or of the types, the verdict
 pub record Blame : Type 0 where
   pub words : Option WordFault
   pub file : Option Role
@@ -118,7 +120,7 @@ blame_of report = record {
   verdict = report.verdict;
 }
 
--- a word of the line, after a space
+-- a word of the line, behind a space
 abbrev pub role_word : Option Role → List ℕ
 role_word None = []
 role_word (Some role) = 32 ∷ role_name role
@@ -184,17 +186,17 @@ abbrev pub verdict_words : Option Verdict → List ℕ
 verdict_words None = []
 verdict_words (Some verdict) = failing_words verdict
 
--- the words for all parts of the cause
+-- the words of all that is blamed
 abbrev pub blame_words : Blame → List ℕ
 blame_words blame =
     role_word blame.file ++ (fault_words blame.words ++ (text_words blame.text
     ++ (probes_words blame.probes ++ (trace_words blame.trace ++ (script_words blame.script ++ (type_words blame.types ++ verdict_words blame.verdict))))))
 
--- the line with the status and its cause
+-- the status, and what is blamed
 abbrev pub reason_line : Status → Blame → List ℕ
 reason_line status blame = codes "stab: " ++ (status_name status ++ (blame_words blame ++ 10 ∷ []))
 
--- nothing for Done, and the reason line for any other status
+-- nothing for Done, and else a line
 abbrev pub reason_text : Status → Blame → List ℕ
 reason_text Done blame = []
 reason_text status blame = reason_line status blame

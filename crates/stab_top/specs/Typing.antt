@@ -11,12 +11,12 @@ use Rattle.stab_top.specs.Ending.{Outcome, Refuses}
 use Rattle.stab_top.specs.Reading.{Blames}
 use Rattle.stab_top.specs.Reason.{blames_types, no_blame}
 
--- the line that `types` writes of a typed program
+-- the line that tells of a typed program
 abbrev pub typed_line : ProgramParts → List ℕ
 typed_line program = codes "typed functions " ++ (decimal (length program.functions) ++ 10 ∷ [])
 
--- What each status says of a program whose types were to be checked: it is typed, and its line or a prefix of it was written; or
--- its first function that isn't typed is blamed. NoMemory is always allowed; other statuses don't occur.
+-- What each status says of a program whose types were to be checked: it is typed, which is told; or its first function that isn't
+-- typed is blamed. Want of memory is free, and no other status comes.
 abbrev pub TypesEnds : Status → ProgramParts → Outcome → Type 0
 TypesEnds Done program o = IsTyped program × Blames o.report no_blame × Gains o.sink o.sink_after (typed_line program)
 TypesEnds SinkFault program o = IsTyped program × Blames o.report no_blame × GainsPrefix o.sink o.sink_after (typed_line program)

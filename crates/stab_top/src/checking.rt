@@ -1,4 +1,4 @@
-//! Writes the size of a program that was read.
+//! Writes how much a program has that was read.
 ghost use Rattle.std.specs.Prelude.{◌≡◌, IfOk, string_bytes};
 ghost use Rattle.stab_top.specs.Ending.{CheckEnds, checked_line, outcome_of};
 

@@ -24,8 +24,8 @@ use stab_files::{Sink, SinkFail};
 use std::alloc::Global;
 use std::sync::Arc;
 
-/// Plays the script `orders` on a new book of the program, and writes the drill's lines and then what the book shows. If the
-/// script can't be played, or memory runs out, nothing is written.
+/// Plays the script of a drill on a new book of the program, and writes the drill's lines and then what the book shows. If the
+/// script can't be played, nothing is written.
 pub fn play_drill<K: Sink>(
     alloc: Global,
     given: Given,
@@ -46,7 +46,7 @@ pub fn play_drill<K: Sink>(
     }
 }
 
-// The report of a script that couldn't be played.
+// The report of a script that isn't played.
 fn unplayed(fault: DrillFault) -> Report
     ensures status { result.status ≡ unplayed_status fault }
     ensures blames { Blames result (unplayed_blame fault) }
@@ -59,7 +59,7 @@ fn unplayed(fault: DrillFault) -> Report
     }
 }
 
-// Plays the drill to its end.
+// The end of the drill.
 fn drilled(
     alloc: Global,
     given: Given,

@@ -21,8 +21,7 @@ const FUEL: u64 = 1;
 
 const QUANTUM: u32 = 1;
 
-/// Writes the verdict on the history: whether it is that of a run of the program with the script, and if not, its first bad
-/// event.
+/// Writes whether the history is one of a run of the program with the script, and else the first event that fails.
 pub fn judge<K: Sink>(
     alloc: Global,
     program: Program,

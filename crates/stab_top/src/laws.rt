@@ -1,5 +1,5 @@
-//! Laws of whole calls, which follow from what each status says: what a run shows is right, a good file is accepted, a bad one is
-//! refused. Where a law says that a fault was counted, the files or the sink failed in that call. The functions do nothing.
+//! What the statuses say together: they leave no way round a good program or a trace, nor round a text that is none. The
+//! calls do nothing.
 ghost use Rattle.std.specs.Prelude.{◌≡◌, ◌⊎◌, ◌++◌, ◌∷◌, [], ℕ, ℤ, List, count_by, length, Some, None, Ok, true};
 ghost use Rattle.commit_book.specs.Book.{BookView, fault_at};
 ghost use Rattle.commit_book.specs.Headline.{StandsIn};
@@ -32,7 +32,7 @@ ghost use Rattle.stab_words.specs.Asked.{asked};
 ghost use Rattle.stab_words.specs.declared.request.Request.{Request};
 ghost use Rattle.stab_words.specs.declared.request.DrillArgs.{DrillArgs};
 ghost use Rattle.stab_words.specs.declared.request.MillArgs.{MillArgs};
-ghost use Rattle.stab_words.specs.declared.request.Request.TheVariants.{Check, Drill, Mill, Run, Trace, Types, Verify, Watch};
+ghost use Rattle.stab_words.specs.declared.request.Request.TheVariants.{Check, Drill, Mill, Run, Trace, Types, Verify};
 ghost use Rattle.stab_words.specs.declared.request.RunArgs.{RunArgs as Args};
 ghost use Rattle.stab_words.specs.declared.request.VerifyArgs.{VerifyArgs};
 ghost use Rattle.trace_text.specs.declared.fault.TraceFault.{TraceFault};
@@ -40,9 +40,7 @@ ghost use Rattle.trace_text.specs.Text.{trace};
 ghost use Rattle.stab_top.specs.Call.{Call, CountedFault, Says, status_of};
 ghost use Rattle.stab_top.specs.Words.{is_built};
 ghost use Rattle.stab_top.specs.Complete.{Checked, ComesTo, IsHeld, IsHeldFor, IsRefused, IsScriptFor, Ran, StopsWith, TypesFound, WasDrilled, WasJudged, WasStuck};
-ghost use Rattle.stab_top.specs.Ending.{IsRunOf, shown_by};
-ghost use Rattle.stab_top.specs.Watching.{watched_by};
-ghost use Rattle.stab_words.specs.Command.{most_workers};
+ghost use Rattle.stab_top.specs.Ending.{IsRunOf};
 ghost use Rattle.stab_top.specs.Headline.{AsksForRun, IsEnd, IsOfTheLanguage, ShowsRunOf};
 ghost use Rattle.stab_top.specs.Reading.{probes_form, program_form, trace_form};
 ghost use Rattle.stab_top.specs.declared.report.Role.TheVariants.{Probes as ProbesFile, Program as ProgramFile, Script as ScriptFile, Trace as TraceFile};
@@ -51,33 +49,25 @@ ghost use Rattle.stab_top.specs.declared.report.Status.TheVariants.{Done as Done
 use scope_check::programs_are_valid;
 use stab_types::typed_programs_never_go_wrong;
 
-/// If the words ask for a run, and it is Done, Held or Spent, then: the program in the file was run, with the script, the fuel
-/// and the quantum that the words name; the journal of the report's book without its undone steps is, in order, a run of the
-/// plain language from the start state that ends in exactly the book's threads, channels, references and output; each granted
-/// stabilize undid its section's entry and precisely the steps that depend on it; no step before a cut, and no step on which a
-/// pin depends, was undone; the status says how the run ended; and exactly what the run shows was written. This is true for any
-/// number of workers. With one worker the run's events are also those of a drill of `lease 1` and `commit 1`.
+/// Where the words ask for a run, and it is Done, Held or Spent: the program of the file was run, with the script that the words
+/// name and their fuel and quantum; the journal of the report's book without its undone steps is, in order, a run of the plain
+/// language from the start state that ends in exactly the book's threads, channels, references and output; each granted stabilize
+/// undid its section's entry and precisely the steps that depend on it; no step that stands before a cut, or on which a pin
+/// depends, was undone; the status says how the run ended; and what the run shows was written, and nothing else. All this holds of
+/// any number of workers. With one worker the run's events are also those of a drill of `lease 1` and `commit 1`.
 pub fn runs_are_of_the_language()
     ensures { (words : List (List ℕ)) (c : Call) (args : Args) → Says words c → asked words ≡ Ok (Run args) →
-        IsEnd (status_of c) → ShowsRunOf shown_by c args }
+        IsEnd (status_of c) → ShowsRunOf c args }
 {}
 
-/// The same for a watched run. It has a floor also with one worker, so it is said as of a run by the most workers. After what the run
-/// shows, the line that a board shows was written.
-pub fn watched_runs_are_of_the_language()
-    ensures { (words : List (List ℕ)) (c : Call) (args : Args) → Says words c → asked words ≡ Ok (Watch args) →
-        IsEnd (status_of c) → ShowsRunOf watched_by c (record args { workers = most_workers }) }
-{}
-
-/// If the report of a run, a trace, a watched run, the mill or a drill has a book, what is said above of the book's journal is true,
-/// whatever the status.
+/// The same of the book of a run, a trace, the mill or a drill, whatever the status, wherever the report has a book.
 pub fn books_are_of_the_language()
     ensures { (words : List (List ℕ)) (c : Call) (request : Request) (book : BookView) → Says words c →
         asked words ≡ Ok request → AsksForRun request → c.outcome.report.book ≡ Some book → IsOfTheLanguage book }
 {}
 
-/// Two consequences for such a book: an undo takes back only steps that depend on its section's entry; and the book has printed
-/// as many values as the journal without its undone steps has prints.
+/// What this says of an undo in the history of such a book, and of the output: the undo takes back only steps that depend on its
+/// section's entry; and as many values are printed as the journal without its undone steps has prints.
 pub fn undos_and_output()
     ensures no_more { (book : BookView) (first after : List Event) (worker : ℕ) (t : ThreadId) (m : Seq) (n : Numbered) →
         IsOfTheLanguage book → book.history.events ≡ first ++ event worker (Undo t m) ∷ after → StandsIn (run_of first) n →
@@ -86,54 +76,46 @@ pub fn undos_and_output()
         length book.printed ≡ count_by (λ (n : Numbered). is_print n.label) (survivors book.history) }
 {}
 
-/// If the words ask for a run, and the files say that they hold, within the limits, the text of a program under its name and the
-/// script that the words name, then the run came to its end, or memory ran out, or a fault was counted.
+/// Where the words ask for a run, and the files say that the text of a program is held within the limit under its
+/// name, and so is the script that the words name, the run came to its end, or memory was refused, or a fault was counted.
 pub fn good_programs_run()
     ensures { (words : List (List ℕ)) (c : Call) (args : Args) (bytes : List ℕ) (program : ProgramParts)
         (script : List ℤ) → Says words c → asked words ≡ Ok (Run args) → IsHeld ProgramFile c args.file bytes →
         IsTextOf bytes program → IsScriptFor c args.probes script → Ran (status_of c) ⊎ CountedFault c }
 {}
 
-/// The same for the trace of a run.
+/// The same where the words ask for the trace of a run.
 pub fn good_programs_are_traced()
     ensures { (words : List (List ℕ)) (c : Call) (args : Args) (bytes : List ℕ) (program : ProgramParts)
         (script : List ℤ) → Says words c → asked words ≡ Ok (Trace args) → IsHeld ProgramFile c args.file bytes →
         IsTextOf bytes program → IsScriptFor c args.probes script → Ran (status_of c) ⊎ CountedFault c }
 {}
 
-/// The same for a watched run.
-pub fn good_programs_are_watched()
-    ensures { (words : List (List ℕ)) (c : Call) (args : Args) (bytes : List ℕ) (program : ProgramParts)
-        (script : List ℤ) → Says words c → asked words ≡ Ok (Watch args) → IsHeld ProgramFile c args.file bytes →
-        IsTextOf bytes program → IsScriptFor c args.probes script → Ran (status_of c) ⊎ CountedFault c }
-{}
-
-/// If the words ask for the mill, and its text is that of a program, then the run came to its end, or memory ran out, or a fault
-/// was counted.
+/// Where the words ask for the mill, and its text is one of a program, the run came to its end, or memory was refused, or a fault was
+/// counted.
 pub fn mills_run()
     ensures { (words : List (List ℕ)) (c : Call) (args : MillArgs) (program : ProgramParts) → Says words c →
         asked words ≡ Ok (Mill args) → IsTextOf (mill_text args.size) program → Ran (status_of c) ⊎ CountedFault c }
 {}
 
-/// If the words ask for a check, and the files say that they hold the text of a program under its name within the limit, then its
-/// line was written, or memory ran out, or a fault was counted.
+/// Where the words ask for a check, and the files say that the text of a program is held within the limit under its name,
+/// it was told of, or memory was refused, or a fault was counted.
 pub fn good_programs_check()
     ensures { (words : List (List ℕ)) (c : Call) (file bytes : List ℕ) (program : ProgramParts) → Says words c →
         asked words ≡ Ok (Check file) → IsHeld ProgramFile c file bytes → IsTextOf bytes program →
         Checked (status_of c) ⊎ CountedFault c }
 {}
 
-/// If the words ask for the types of a program, and the files say that they hold its text under its name within the limit, then
-/// the program is typed, or one of its functions is the first that isn't, or memory ran out, or a fault was counted.
+/// Where the words ask for the types of a program, and the files say that its text is held within the limit under its name, it was
+/// told that it is typed, or the first function was blamed that isn't, or memory was refused, or a fault was counted.
 pub fn types_are_told()
     ensures { (words : List (List ℕ)) (c : Call) (file bytes : List ℕ) (program : ProgramParts) → Says words c →
         asked words ≡ Ok (Types file) → IsHeld ProgramFile c file bytes → IsTextOf bytes program →
         TypesFound (status_of c) program ⊎ CountedFault c }
 {}
 
-/// If the words ask for the types of a program, and the status is Done, then no thread in any book of that program has failed
-/// because a value was of the wrong kind. The book may come from `run`, `trace`, `watch`, `mill` or `drill`, with any
-/// numbers for its probes.
+/// Where the words ask for the types of a program, and it is Done, no thread of any book of that program has failed because a value
+/// was of the wrong kind, whichever words made the book: `run`, `trace`, `mill` or `drill`, whatever the numbers that probes get.
 pub fn typed_files_never_go_wrong()
     ensures { (words : List (List ℕ)) (c : Call) (file bytes : List ℕ) (program : ProgramParts) (book : BookView) → Says words c →
         asked words ≡ Ok (Types file) → status_of c ≡ DoneStatus → IsHeld ProgramFile c file bytes → IsTextOf bytes program →
@@ -143,8 +125,8 @@ pub fn typed_files_never_go_wrong()
     typed_programs_never_go_wrong();
 }
 
-/// If the words ask for a verdict, and the files say that they hold the program, the script and the trace within their limits,
-/// then the status is that of the verdict, or memory ran out, or a fault was counted.
+/// Where the words ask for a verdict, and the files say that the program, the script and the trace are held within their
+/// limits, the status is that of the verdict, or memory was refused, or a fault was counted.
 pub fn traces_are_judged()
     ensures { (words : List (List ℕ)) (c : Call) (args : VerifyArgs) (text bytes : List ℕ) (program : ProgramParts)
         (script : List ℤ) (history : Journal) → Says words c → asked words ≡ Ok (Verify args) →
@@ -153,8 +135,8 @@ pub fn traces_are_judged()
         WasJudged c program script bytes ⊎ CountedFault c }
 {}
 
-/// If the words ask for a verdict, and the files say that they hold, within their limits, a program, a script and the trace of a
-/// run of the two, as `run` and `trace` make one, then the verdict is yes, or memory ran out, or a fault was counted.
+/// Where the words ask for a verdict, and the files say that the program, the script and the trace of a run of these, as `run`
+/// and `trace` make one, are held within their limits, the verdict is yes, or memory was refused, or a fault was counted.
 pub fn traces_of_runs_pass()
     ensures { (workers : ℕ) (job : JobParts) (book : BookView) (state : PlainState) (words : List (List ℕ)) (c : Call) (args : VerifyArgs)
         (text : List ℕ) → IsRunOf workers job book state → IsValid book.history → Says words c → asked words ≡ Ok (Verify args) →
@@ -163,8 +145,8 @@ pub fn traces_of_runs_pass()
         ((status_of c ≡ DoneStatus) ⊎ (status_of c ≡ NoMemoryStatus)) ⊎ CountedFault c }
 {}
 
-/// If the words ask for a drill, and the files say that they hold the program, the probe script and the drill script within their
-/// limits, then the drill was played and its text written, or a line can't be played and is blamed, or memory ran out, or a fault
+/// Where the words ask for a drill, and the files say that the program, the script of probes and the script of the drill are held
+/// within their limits, it was played and written, or a line of it can't be played and is told, or memory was refused, or a fault
 /// was counted.
 pub fn scripts_are_drilled()
     ensures { (words : List (List ℕ)) (c : Call) (args : DrillArgs) (text bytes : List ℕ) (program : ProgramParts)
@@ -173,7 +155,7 @@ pub fn scripts_are_drilled()
         WasDrilled c (job_of program script args.fuel args.quantum) (script_of bytes) ⊎ CountedFault c }
 {}
 
-/// If a line of such a drill script isn't an order, the script was refused, or memory ran out, or a fault was counted.
+/// Where a line of such a script is no order, it was refused, or memory was, or a fault was counted.
 pub fn bad_lines_stop_drills()
     ensures { (words : List (List ℕ)) (c : Call) (args : DrillArgs) (text bytes : List ℕ) (program : ProgramParts)
         (script : List ℤ) (before : List Line) (line : Line) (behind : List Line) → Says words c →
@@ -183,9 +165,8 @@ pub fn bad_lines_stop_drills()
         (WasStuck c (job_of program script args.fuel args.quantum) (script_of bytes) ⊎ (status_of c ≡ NoMemoryStatus)) ⊎ CountedFault c }
 {}
 
-/// The job and the lines of such a script determine the result, unless memory runs out or a fault is counted. If a drill of the
-/// two can be played, the call ends with its lines, its desk and what that desk shows; if a line can't be played, the call ends
-/// with the fault of that line, and nothing is written.
+/// What comes of such a script is fixed by its lines and by the job: where a drill of the two can be played, the call comes to its
+/// lines, its desk and what that shows; where a line can't be, to the fault of that line, and nothing is written.
 pub fn drills_are_determined()
     ensures played { (words : List (List ℕ)) (c : Call) (args : DrillArgs) (text bytes : List ℕ) (program : ProgramParts)
         (script : List ℤ) (lines : List ℕ) (book : BookView) → Says words c → asked words ≡ Ok (Drill args) →
@@ -200,8 +181,8 @@ pub fn drills_are_determined()
         IsUnplayed (job_of program script args.fuel args.quantum) (script_of bytes) fault → StopsWith (status_of c) c fault }
 {}
 
-/// The job determines the run of one worker, as `run`, `trace` and `mill` make one: two such runs that are over have the same
-/// history, and the history of one that isn't over is the beginning of the history of one that is.
+/// What happens in a run by one worker is fixed by its job, as `run`, `trace` and `mill` make one: two such runs that are over have
+/// one history, and one that isn't over has the first events of one that is.
 pub fn runs_have_one_history()
     ensures whole { (job : JobParts) (a b : BookView) (s t : PlainState) → IsRunOf 1 job a s → IsRunOf 1 job b t →
         IsWholeSolo a.job a.history.events → IsWholeSolo b.job b.history.events → a.history.events ≡ b.history.events }
@@ -209,24 +190,23 @@ pub fn runs_have_one_history()
         IsWholeSolo a.job a.history.events → BeginsWith a.history.events b.history.events }
 {}
 
-/// If the words ask for what is built, and the files say that they hold bytes with this fault under the program's name within the
-/// limit, then the call was refused for this fault, or memory ran out, or a fault was counted.
+/// Where the words ask for what is built, and the files say that bytes with a fault are held within the limit under the name
+/// of the program, the answer is this fault, or memory was refused, or a fault was counted.
 pub fn bad_texts_are_refused()
     ensures { (words : List (List ℕ)) (c : Call) (request : Request) (bytes : List ℕ) (fault : TextFault) → Says words c →
         asked words ≡ Ok request → is_built request ≡ true → IsHeldFor c request bytes → HasFault bytes fault →
         IsRefused program_form c fault ⊎ CountedFault c }
 {}
 
-/// The same for the probe file of a run, a trace or a watched run, if there is a program.
+/// The same of a probe file that a run or its trace asks for, where there is a program.
 pub fn bad_probes_stop_runs()
     ensures { (words : List (List ℕ)) (c : Call) (args : Args) (text name bytes : List ℕ) (program : ProgramParts)
-        (fault : ProbesFault) → Says words c → (asked words ≡ Ok (Run args)) ⊎ (asked words ≡ Ok (Trace args)) ⊎
-        (asked words ≡ Ok (Watch args)) →
+        (fault : ProbesFault) → Says words c → (asked words ≡ Ok (Run args)) ⊎ (asked words ≡ Ok (Trace args)) →
         IsHeld ProgramFile c args.file text → IsTextOf text program → args.probes ≡ Some name →
         IsHeld ProbesFile c name bytes → probes_form.HasFault bytes fault → IsRefused probes_form c fault ⊎ CountedFault c }
 {}
 
-/// The same for the probe file of a verdict, if there is a program.
+/// The same of a probe file that a verdict asks for.
 pub fn bad_probes_are_refused()
     ensures { (words : List (List ℕ)) (c : Call) (args : VerifyArgs) (text name bytes : List ℕ) (program : ProgramParts)
         (fault : ProbesFault) → Says words c → asked words ≡ Ok (Verify args) →
@@ -234,7 +214,7 @@ pub fn bad_probes_are_refused()
         IsHeld ProbesFile c name bytes → probes_form.HasFault bytes fault → IsRefused probes_form c fault ⊎ CountedFault c }
 {}
 
-/// The same for the probe file of a drill, if there is a program.
+/// The same of a probe file that a drill asks for.
 pub fn bad_probes_stop_drills()
     ensures { (words : List (List ℕ)) (c : Call) (args : DrillArgs) (text name bytes : List ℕ) (program : ProgramParts)
         (fault : ProbesFault) → Says words c → asked words ≡ Ok (Drill args) →
@@ -242,7 +222,7 @@ pub fn bad_probes_stop_drills()
         IsHeld ProbesFile c name bytes → probes_form.HasFault bytes fault → IsRefused probes_form c fault ⊎ CountedFault c }
 {}
 
-/// The same for a trace file, if there are a program and a script.
+/// The same of a trace, where there are a program and a script.
 pub fn bad_traces_are_refused()
     ensures { (words : List (List ℕ)) (c : Call) (args : VerifyArgs) (text bytes : List ℕ) (program : ProgramParts)
         (script : List ℤ) (fault : TraceFault) → Says words c → asked words ≡ Ok (Verify args) →

@@ -1,4 +1,4 @@
-//! The program's one call: it takes the words, the files and a sink, and returns a report.
+//! The one call that the program makes: from its words, its files and its sink to what it reports.
 #![tactic(auto)]
 
 mod checking;
@@ -14,20 +14,20 @@ mod reason_line;
 mod report;
 mod rounds;
 mod running;
+mod saving;
 mod sharing;
 mod silent;
 mod top;
 mod typing;
-mod watching;
 mod words;
 
 pub use laws::{
     bad_lines_stop_drills, bad_probes_are_refused, bad_probes_stop_drills, bad_probes_stop_runs,
     bad_texts_are_refused, bad_traces_are_refused, books_are_of_the_language,
-    drills_are_determined, good_programs_are_traced, good_programs_are_watched,
-    good_programs_check, good_programs_run, mills_run, runs_are_of_the_language,
-    runs_have_one_history, scripts_are_drilled, traces_are_judged, traces_of_runs_pass,
-    typed_files_never_go_wrong, types_are_told, undos_and_output, watched_runs_are_of_the_language,
+    drills_are_determined, good_programs_are_traced, good_programs_check, good_programs_run,
+    mills_run, runs_are_of_the_language, runs_have_one_history, scripts_are_drilled,
+    traces_are_judged, traces_of_runs_pass, typed_files_never_go_wrong, types_are_told,
+    undos_and_output,
 };
 pub use program::command;
 pub use reason_line::reason;

@@ -9,7 +9,7 @@ use crate::report::{Report, Role, Status};
 use stab_files::{Files, Loaded};
 use std::alloc::Global;
 
-/// The bytes of the file, or a report of why they couldn't be loaded: NoFile, TooBig, FileFault or NoMemory.
+/// The bytes of the file, or the report of why they couldn't be loaded.
 pub fn load<F: Files>(
     alloc: Global,
     files: &mut F,
@@ -31,7 +31,7 @@ pub fn load<F: Files>(
     Err(Report::bad_file(status, blame(status, role)))
 }
 
-// The file that the report names if it couldn't be loaded; none for NoMemory.
+// The file that a report blames for a refused load.
 fn blame(status: Status, role: Role) -> Option<Role>
     ensures { result ≡ blamed status role }
 {

@@ -11,7 +11,7 @@ ghost use Rattle.stab_top.specs.Reading.{BytesRefused, program_form};
 
 use crate::reading::{Given, program_of};
 use crate::report::{Report, Status};
-use crate::running::{LastLine, Means, run_program};
+use crate::running::{Means, run_program};
 use mill_text::{mill_script, mill_text};
 use stab_base::NoMemory;
 use stab_files::Sink;
@@ -21,7 +21,7 @@ use std::sync::Wait;
 use std::thread::Threads;
 use worker_lease::Gate;
 
-/// Runs the mill of this size, and writes what it shows and then its size and the number of undos.
+/// Runs the mill of this size, and writes what it shows and how many undos there were.
 pub fn run_mill<R: Threads + Wait + Sync, K: Sink, G: Gate + Sync>(
     rt: &R,
     alloc: Global,
@@ -40,21 +40,13 @@ pub fn run_mill<R: Threads + Wait + Sync, K: Sink, G: Gate + Sync>(
                 fuel: args.fuel,
                 quantum: args.quantum,
             };
-            run_program(
-                rt,
-                alloc,
-                given,
-                means,
-                LastLine::Mill(args.size),
-                gate,
-                sink,
-            )
+            run_program(rt, alloc, given, means, Some(args.size), gate, sink)
         }
         Err(report) => report,
     }
 }
 
-// The program and the script of the mill, or the report of why they couldn't be made.
+// The program and the script of the mill, or the report of a call that can't have them.
 fn mill(alloc: Global, size: u32) -> Result<Given, Report>
     requires { IsUpTo most_size size }
     ensures program { IfOk result (λ given. IsTextOf (mill_text size) given.program) }

@@ -17,8 +17,8 @@ use stab_files::{Sink, SinkFail};
 use std::alloc::Global;
 use worker_rounds::Stop;
 
-/// Runs the book on to its end as worker 1, and writes the lines of printed values as soon as they are released, one `put` per
-/// line. The status is the one to report once the rest of the run's text is written.
+/// Runs the book on to the end of its run as worker 1, and writes the lines of printed values as soon as they are released, one put
+/// a line. The status is that of a run whose whole text is written.
 pub fn play<K: Sink>(alloc: Global, book: &mut Book, sink: &mut K) -> Result<Status, Stop>
     requires { IsUnlent book.old }
     ensures later { IsLater book.old book.new }
@@ -42,7 +42,7 @@ pub fn play<K: Sink>(alloc: Global, book: &mut Book, sink: &mut K) -> Result<Sta
     }
 }
 
-// Held if a thread failed or waits, Done otherwise.
+// Held where a thread failed or waits, and else Done.
 fn at_rest(book: &Book) -> Status
     ensures status { result ≡ (if nat_eq (faulted_in book.now.job.program book.now.threads book.now.next.thread
         + in_state Parked book.now) 0 then IsDone else IsHeld) }

@@ -29,8 +29,8 @@ impl Gate for OpenGate {
     fn before_commit(&self, _worker: u32) {}
 }
 
-/// Carries out the command in the program's arguments, writes to `errors` why it didn't end as Done, and returns the exit status.
-/// The first argument is the program's name. Arguments that aren't text give BadWords.
+/// Does what the program's arguments ask for, writes to `errors` why it didn't end as Done, and gives the exit status.
+/// The arguments begin with the program's name.
 pub fn command<R: Threads + Wait + Sync, F: Files, K: Sink, E: Sink>(
     rt: &R,
     alloc: Global,
@@ -76,7 +76,7 @@ fn called<R: Threads + Wait + Sync, F: Files, K: Sink>(
     }
 }
 
-/// The words of a call: all arguments after the program's name.
+/// The words of a call: all arguments behind the program's name.
 fn words(alloc: Global, mut args: Args) -> Result<Vec<String>, NoMemory>
     ensures { IfOk result (λ words. words.items ≡ drop 1 (into_iter_items args)) }
 {
@@ -94,7 +94,7 @@ fn all(alloc: Global, mut args: Args) -> Result<Vec<String>, NoMemory>
     Ok(all)
 }
 
-/// An argument that isn't text has no number as a word, so the report doesn't say which one it is.
+/// An argument that isn't text is no word, so no number tells which it is.
 fn refused_words(error: &io::Error) -> Report
     ensures no_memory { error_kind error.now ≡ ErrorKind.OutOfMemory → result.status ≡ OutOfMemory }
     ensures no_text { error_kind error.now ≢ ErrorKind.OutOfMemory → result.status ≡ BadWords }
@@ -115,7 +115,7 @@ fn reason_line(alloc: Global, report: &Report) -> Result<Vec<u8>, NoMemory>
     Ok(line)
 }
 
-/// Writes the reason line if there is memory for it, and returns the exit status.
+/// Writes the reason, where there is memory for it, and gives the number of the status.
 fn finish<E: Sink>(alloc: Global, report: &Report, errors: &mut E) -> u8
     ensures { EndsWith report.now.status (blame_of report.now) result (device E.told E.faults errors.old)
         (device E.told E.faults errors.new) }
@@ -123,7 +123,8 @@ fn finish<E: Sink>(alloc: Global, report: &Report, errors: &mut E) -> u8
     end(report, reason_line(alloc, report), errors)
 }
 
-/// Writes the reason line if there was memory for it, and returns the exit status, which is the same if the write fails.
+/// Writes the reason, where there was memory for it, and gives the number of the status. A reason that can't be written
+/// changes no status.
 fn end<E: Sink>(report: &Report, line: Result<Vec<u8>, NoMemory>, errors: &mut E) -> u8
     requires { IfOk line (λ line. line.items ≡ reason_text report.now.status (blame_of report.now)) }
     ensures number { result ≡ status_number report.now.status }

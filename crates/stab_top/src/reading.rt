@@ -18,7 +18,7 @@ use stab_words::RunArgs;
 use std::alloc::Global;
 use trace_text::{TraceFault, read_trace};
 
-/// The program in the file, or a report of why it couldn't be read: NoFile, TooBig, FileFault, BadText or NoMemory.
+/// The program in the file, or the report of why it couldn't be read.
 pub fn read_program_file<F: Files>(
     alloc: Global,
     files: &mut F,
@@ -34,7 +34,7 @@ pub fn read_program_file<F: Files>(
     }
 }
 
-/// The program with this text, or a report of BadText or NoMemory.
+/// The program of the text, or the report of why it couldn't be read.
 pub fn program_of(alloc: Global, bytes: &[u8]) -> Result<Program, Report>
     requires { length bytes.now ≤ max_bytes ProgramFile }
     ensures ok { IfOk result (program_form.IsOf bytes.now) }
@@ -47,7 +47,7 @@ pub fn program_of(alloc: Global, bytes: &[u8]) -> Result<Program, Report>
     }
 }
 
-/// The numbers in the probe file, or a report of why they couldn't be read: NoFile, TooBig, FileFault, BadProbes or NoMemory.
+/// The numbers in the probe file, or the report of why they couldn't be read.
 pub fn read_probes_file<F: Files>(
     alloc: Global,
     files: &mut F,
@@ -64,7 +64,7 @@ pub fn read_probes_file<F: Files>(
     }
 }
 
-// The numbers in this text, or a report of BadProbes or NoMemory.
+// The numbers of the text, or the report of why they couldn't be read.
 fn probes_of(alloc: Global, bytes: &[u8]) -> Result<Vec<i64>, Report>
     requires { length bytes.now ≤ max_bytes ProbesFile }
     ensures ok { IfOk result (λ numbers. probes_form.IsOf bytes.now numbers.items) }
@@ -78,7 +78,7 @@ fn probes_of(alloc: Global, bytes: &[u8]) -> Result<Vec<i64>, Report>
     }
 }
 
-/// A program, and the script: the numbers that its probes get, in order.
+/// A program with the numbers that its probes get.
 #[derive(Drop)]
 pub struct Given {
     pub program: Program,
@@ -103,7 +103,7 @@ pub fn read_run<F: Files>(alloc: Global, args: &RunArgs, files: &mut F) -> Resul
     Ok(Given { program, script })
 }
 
-/// The history in the trace file, or a report of why it couldn't be read: NoFile, TooBig, FileFault, BadTrace or NoMemory.
+/// The history in the trace, or the report of why it couldn't be read.
 pub fn read_trace_file<F: Files>(
     alloc: Global,
     files: &mut F,
@@ -119,7 +119,7 @@ pub fn read_trace_file<F: Files>(
     }
 }
 
-// The history with this text, or a report of BadTrace or NoMemory.
+// The history of the text, or the report of why it couldn't be read.
 fn history_of(alloc: Global, bytes: &[u8]) -> Result<History, Report>
     requires { length bytes.now ≤ max_bytes TraceFile }
     ensures ok { IfOk result (trace_form.IsOf bytes.now) }

@@ -1,4 +1,4 @@
-//! The reason line: why a call didn't end as Done.
+//! The line that gives a reason.
 ghost use Rattle.std.specs.Prelude.{◌≡◌, ◌++◌, IfOk, OnOk, OnErr, string_bytes};
 ghost use Rattle.stab_top.specs.Reason.{blame_of, blame_words, failing_words, fault_words, number_word, probes_words, reason_text, role_word, script_words, text_words, trace_words, type_words, verdict_words, why_name};
 
@@ -13,8 +13,8 @@ use std::alloc::Global;
 use trace_text::TraceFault;
 use trace_verify::{Verdict, Why};
 
-/// Appends the line that says why a call didn't end as Done: the status and its cause, which is a file, a fault of the words or
-/// of a text, a function, or the bad event of a trace. For Done nothing is appended.
+/// Adds the line that says why a call didn't end as Done: the status, and the cause: a file, the fault of the words or of a text,
+/// a function, or the event of a trace that fails. Nothing is added for Done.
 pub fn reason(alloc: Global, report: &Report, out: &mut Vec<u8>) -> Result<(), NoMemory>
     ensures ok { OnOk result (out.new.items ≡ out.old.items ++ reason_text report.now.status (blame_of report.now)) }
     ensures err { OnErr result (out.new.items ≡ out.old.items) }
@@ -29,7 +29,7 @@ pub fn reason(alloc: Global, report: &Report, out: &mut Vec<u8>) -> Result<(), N
     Ok(())
 }
 
-// The words for all parts of the cause.
+// The words of all that is blamed.
 fn blame_words(alloc: Global, report: &Report) -> Result<String, NoMemory>
     ensures { IfOk result (λ words. string_bytes words ≡ blame_words (blame_of report.now)) }
 {
@@ -55,7 +55,7 @@ fn role_word(alloc: Global, file: Option<Role>) -> Result<String, NoMemory>
     Ok(format!(in alloc; " {name}")?)
 }
 
-// The name of the fault and the number of the word that it is about, each after a space.
+// The name of the fault and its number, each after a space.
 fn fault_words(alloc: Global, fault: Option<WordFault>) -> Result<String, NoMemory>
     ensures { IfOk result (λ words. string_bytes words ≡ fault_words fault) }
 {

@@ -19,39 +19,41 @@ use trace_verify::Verdict;
 /// How a call ended. Its number is the program's exit status.
 #[derive(Clone, Copy, PartialEq, Eq, Debug)]
 pub enum Status {
-    /// The run came to rest, and every thread ended without a fault. For `check`, its line was written; for `types`, the program
-    /// is typed; for `drill`, the script was played to its end; for `verify`, the trace is that of a run of the program.
+    /// The run came to rest, and every thread ended without a fault; or the program was told of, or is typed, the drill was played to
+    /// its end, or the trace is one of a run of the program.
     Done,
-    /// The run came to rest, and some thread failed or waits.
+    /// The run came to rest, and a thread failed or waits.
     Held,
-    /// The words aren't a valid command line, or an argument isn't text.
+    /// The words name no command in its form.
     BadWords,
-    /// The program's file isn't a valid program.
+    /// The file is no program.
     BadText,
-    /// A file that the words name doesn't exist.
+    /// A file that the words name isn't there.
     NoFile,
-    /// A file is larger than `Role::max_bytes`.
+    /// A file is larger than its limit.
     TooBig,
     /// Reading a file failed.
     FileFault,
     /// Writing the output failed.
     SinkFault,
-    /// The run used up its fuel, and a thread is still ready.
+    /// The run has used up its fuel.
     Spent,
-    /// The call ran out of memory.
+    /// The memory that the call needs isn't there.
     NoMemory,
-    /// The probe file is malformed.
+    /// The probe file isn't in its grammar.
     BadProbes,
-    /// The trace file is malformed.
+    /// The trace isn't in its grammar.
     BadTrace,
-    /// The drill script is malformed, or one of its lines can't be played.
+    /// The drill script isn't in its grammar, or a line of it can't be played.
     BadScript,
-    /// The trace isn't that of a run of the program.
+    /// The trace is no run of the program.
     No,
-    /// The words ask for a command that isn't built yet.
+    /// What the words ask for isn't built yet.
     NotBuilt,
     /// A function of the program isn't typed.
     Untyped,
+    /// The trace is one of a run of the program, which has fewer cuts.
+    NoCut,
 }
 
 impl Status {
@@ -62,7 +64,7 @@ impl Status {
         self as u8
     }
 
-    /// The name of the status in the reason line.
+    /// The name that the line of reasons gives.
     pub fn name(self) -> &'static str
         ensures { result.now ≡ status_name self }
     {
@@ -83,6 +85,7 @@ impl Status {
             Status::No => "No",
             Status::NotBuilt => "NotBuilt",
             Status::Untyped => "Untyped",
+            Status::NoCut => "NoCut",
         }
     }
 }
@@ -97,7 +100,7 @@ pub enum Role {
 }
 
 impl Role {
-    /// The word for the role in the reason line.
+    /// The word by which a reason names the role.
     pub fn name(self) -> &'static str
         ensures { result.now ≡ role_name self }
     {
@@ -109,7 +112,7 @@ impl Role {
         }
     }
 
-    /// The largest size of such a file, in bytes.
+    /// How many bytes such a file may have.
     pub fn max_bytes(self) -> u64
         ensures { result ≡ max_bytes self }
     {
@@ -120,33 +123,33 @@ impl Role {
     }
 }
 
-/// How a call ended, and what it left.
+/// How a call ended, with what it leaves.
 #[derive(Drop)]
 pub struct Report {
     pub status: Status,
-    /// The book of a run or a drill, even if its output couldn't be written. A `run` or `mill` that runs out of memory leaves its
-    /// book once the run has begun; `trace` and `drill` then leave none.
+    /// The book of a run or a drill, also where its output couldn't be written. Where a run wanted memory it is there once the run
+    /// had begun.
     pub book: Option<Book>,
     /// Why the words were refused.
     pub words_fault: Option<WordFault>,
-    /// Why the program's file isn't a valid program.
+    /// Why the program's file is no program.
     pub text_fault: Option<TextFault>,
-    /// Which file is missing, too big or unreadable.
+    /// The file that is missing, too big or couldn't be read.
     pub file: Option<Role>,
-    /// What is wrong with the probe file.
+    /// Why the probe file isn't one.
     pub probes_fault: Option<ProbesFault>,
-    /// What is wrong with the trace file.
+    /// Why the trace isn't one.
     pub trace_fault: Option<TraceFault>,
-    /// What is wrong with the drill script, or which line of it can't be played.
+    /// Why the script isn't one, or can't be played.
     pub script_fault: Option<DrillFault>,
     /// Why the program isn't typed.
     pub type_fault: Option<TypeFault>,
-    /// The verdict on a trace, even if it couldn't be written.
+    /// The verdict on a trace, also where it couldn't be written.
     pub verdict: Option<Verdict>,
 }
 
 impl Report {
-    /// The report of a run or a drill, with its book.
+    /// The report of a run, or of a drill.
     pub(crate) fn ending(status: Status, book: Book) -> Report
         ensures status { result.status ≡ status }
         ensures book { result.book ≡ Some book }
@@ -158,7 +161,7 @@ impl Report {
         }
     }
 
-    /// A report with no book and no cause.
+    /// The report of a call that leaves no book, where nothing is to blame.
     pub(crate) fn bare(status: Status) -> Report
         ensures status { result.status ≡ status }
         ensures blames { Blames result no_blame }
@@ -177,7 +180,7 @@ impl Report {
         }
     }
 
-    /// The report that a file couldn't be loaded.
+    /// The report of a file that was refused.
     pub(crate) fn bad_file(status: Status, file: Option<Role>) -> Report
         ensures status { result.status ≡ status }
         ensures blames { Blames result (blames_file file) }
@@ -188,7 +191,7 @@ impl Report {
         }
     }
 
-    /// The report that the words are wrong.
+    /// The report of words that have a fault.
     pub(crate) fn bad_words(fault: WordFault) -> Report
         ensures status { result.status ≡ BadWordsStatus }
         ensures blames { Blames result (blames_words fault) }
@@ -199,7 +202,7 @@ impl Report {
         }
     }
 
-    /// The report that the file isn't a program.
+    /// The report of a file that is no program.
     pub(crate) fn bad_text(fault: TextFault) -> Report
         ensures status { result.status ≡ BadTextStatus }
         ensures blames { Blames result (blames_text fault) }
@@ -210,7 +213,7 @@ impl Report {
         }
     }
 
-    /// The report that the probe file is malformed.
+    /// The report of a file that is no probe file.
     pub(crate) fn bad_probes(fault: ProbesFault) -> Report
         ensures status { result.status ≡ BadProbesStatus }
         ensures blames { Blames result (blames_probes fault) }
@@ -221,7 +224,7 @@ impl Report {
         }
     }
 
-    /// The report that the trace file is malformed.
+    /// The report of a file that is no trace.
     pub(crate) fn bad_trace(fault: TraceFault) -> Report
         ensures status { result.status ≡ BadTraceStatus }
         ensures blames { Blames result (blames_trace fault) }
@@ -243,7 +246,7 @@ impl Report {
         }
     }
 
-    /// The report that the program isn't typed, with its first function that isn't.
+    /// The report of a program of which this is the first function that isn't typed.
     pub(crate) fn untyped(first: FnId) -> Report
         ensures status { result.status ≡ UntypedStatus }
         ensures blames { Blames result (blames_types (UntypedFault first)) }
@@ -254,7 +257,7 @@ impl Report {
         }
     }
 
-    /// The report of the verdict on a trace.
+    /// The report of a trace that was judged.
     pub(crate) fn judged(status: Status, verdict: Verdict) -> Report
         ensures status { result.status ≡ status }
         ensures reported { Blames result (names_verdict verdict) }

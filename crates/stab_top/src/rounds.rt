@@ -1,4 +1,4 @@
-//! Rounds of a run: the turns of one worker until printed values are due, and their release.
+//! Rounds of a run: what one worker does until printed values are due, and their release.
 ghost use Rattle.std.specs.Prelude.{◌≡◌, ◌<◌, ◌++◌, []};
 ghost use Rattle.stab_journal.specs.Due.{due};
 ghost use Rattle.book_text.specs.Written.{released_lines};
@@ -10,7 +10,7 @@ use commit_book::Book;
 use lone_worker::{RunEnd, run};
 use stab_base::NoMemory;
 
-/// The number of the worker that makes the rounds.
+/// The number of the one worker.
 const WORKER: u32 = 1;
 
 /// How a round ended.
@@ -20,14 +20,14 @@ pub enum RoundEnd {
     Released,
     /// No thread can step.
     Quiet,
-    /// The fuel is used up, and a thread is still ready.
+    /// The fuel is used up, and a thread is ready.
     Spent,
-    /// There was too little memory for the next turn, or for the lines of the release.
+    /// The memory for the next turn, or for what is released, isn't there.
     NoMemory,
 }
 
-/// Runs the book until no thread can step, the fuel is used up, printed values are due, or memory runs out. Values that are due
-/// are then released. `lines` is cleared first, and holds the lines of this release, or nothing.
+/// Runs the book until no thread can step, the fuel is used up, or printed values are due. These are then released. `lines` then
+/// has what was released, and nothing else.
 pub fn round(book: &mut Book, lines: &mut Vec<u8>) -> RoundEnd
     requires { IsUnlent book.old }
     ensures later { IsLater book.old book.new }

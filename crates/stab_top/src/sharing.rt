@@ -18,16 +18,16 @@ use std::thread::Threads;
 use worker_lease::Gate;
 use worker_rounds::{Shared, Stop, run_shared};
 
-/// What a run leaves: its book, and the status with which it ended or the reason why it was stopped.
+/// What is left of a run: its book, and the status of its end, or why it was stopped.
 #[derive(Drop)]
 pub struct Played {
     pub book: Book,
     pub end: Result<Status, Stop>,
 }
 
-/// Runs the book from its start to its end by this many workers, and writes the lines of printed values as soon as they are
-/// released, one `put` per line. One worker runs on the calling thread and calls no gate. Of several workers, each runs in a
-/// thread of its own, if one can be made; when none of them finds more to do, worker 1 plays the book on to its end.
+/// Runs the book from its start to its end by so many workers, and writes the lines of printed values as soon as they are released,
+/// one put a line. One worker runs on the calling thread, and calls no gate. Of several each runs in a thread of its own, where one
+/// can be made; when none of them finds more to do, worker 1 plays the book on to its end.
 pub fn run_book<R: Threads + Wait + Sync, K: Sink, G: Gate + Sync>(
     rt: &R,
     alloc: Global,
@@ -57,8 +57,8 @@ pub fn run_book<R: Threads + Wait + Sync, K: Sink, G: Gate + Sync>(
     }
 }
 
-/// Worker 1 plays the book on to its end.
-pub(crate) fn play_on<K: Sink>(alloc: Global, book: Book, sink: &mut K) -> Played
+// Worker 1 plays the book on to its end.
+fn play_on<K: Sink>(alloc: Global, book: Book, sink: &mut K) -> Played
     requires { IsUnlent book }
     ensures later { IsLater book result.book }
     ensures unlent { IsUnlent result.book }

@@ -1,9 +1,9 @@
-//! A sink that discards everything.
+//! A sink that keeps nothing.
 ghost use Rattle.std.specs.Prelude.{None};
 
 use stab_files::{Sink, SinkFail};
 
-/// Accepts each piece and discards it. No `put` fails.
+/// Takes each piece, and shows none. No put fails.
 #[derive(Drop)]
 pub struct Silent;
 

@@ -1,4 +1,4 @@
-//! The program's one call.
+//! The one call that the program makes.
 ghost use Rattle.std.specs.Prelude.{◌≡◌, ◌≤◌, map as each, length, string_bytes};
 ghost use Rattle.stab_code.specs.Limits.{max_script};
 ghost use Rattle.stab_words.specs.Command.{most_fuel, most_quantum};
@@ -14,9 +14,9 @@ use crate::loading::load;
 use crate::milling::run_mill;
 use crate::reading::{Given, read_probes_file, read_program_file, read_run, read_trace_file};
 use crate::report::{Report, Role, Status};
-use crate::running::{LastLine, Means, run_program, trace_program};
+use crate::running::{Means, run_program, trace_program};
+use crate::saving::save_file;
 use crate::typing::types_file;
-use crate::watching::watch_file;
 use crate::words::is_built;
 use stab_code::Program;
 use stab_files::{Files, Sink};
@@ -26,14 +26,12 @@ use std::sync::Wait;
 use std::thread::Threads;
 use worker_lease::Gate;
 
-/// Carries out the command that the words name, and reports how it ended. `run FILE` runs the program in the file and writes what
-/// it shows; `trace FILE` runs it and writes the trace; `mill SIZE` runs the mill of this size; `verify FILE TRACE` writes the
-/// verdict on a trace; `drill FILE SCRIPT` plays a schedule written by hand, and writes what its lines did and then what the
-/// program shows; `check FILE` writes how many functions and texts the program has; `types FILE` writes how many functions it
-/// has, if it is typed; `watch FILE` is `run FILE` while a board shows the run's journal, with a last line of what it shows. `run`,
-/// `trace`, `watch` and `mill` use as many workers as the words say. One worker runs on the calling thread and calls no gate, but
-/// not in `watch`. Of several workers, each runs in a thread of its own, if one can be made, and calls the gate before each
-/// commit. So the call may wait.
+/// Does what the words ask for, and reports how it ended. `run FILE` runs the program of the file and writes what it shows;
+/// `trace FILE` runs it and writes the trace; `mill SIZE` runs a program of this size; `verify FILE TRACE` writes the verdict on a
+/// trace; `drill FILE SCRIPT` plays a schedule that is written by hand, and writes what its lines did and what the program then
+/// shows; `check FILE` writes how many functions and texts the program has; `types FILE` writes how many functions it has where it
+/// is typed; `save FILE TRACE CUT` writes the image at a cut of a trace. A run, a trace and a mill are made by as many workers as the words say: one runs on the calling thread, and calls no
+/// gate; of several each runs in a thread of its own, where one can be made, and calls the gate before each commit. So it may wait.
 pub fn stab<R: Threads + Wait + Sync, F: Files, K: Sink, G: Gate + Sync>(
     rt: &R,
     alloc: Global,
@@ -53,7 +51,7 @@ pub fn stab<R: Threads + Wait + Sync, F: Files, K: Sink, G: Gate + Sync>(
     }
 }
 
-// Carries out a request, or refuses one that isn't built.
+// Does what is asked for, where it is built.
 fn answer_request<R: Threads + Wait + Sync, F: Files, K: Sink, G: Gate + Sync>(
     rt: &R,
     alloc: Global,
@@ -78,12 +76,12 @@ fn answer_request<R: Threads + Wait + Sync, F: Files, K: Sink, G: Gate + Sync>(
         Request::Drill(args) => drill_file(alloc, args, files, sink),
         Request::Check(file) => check_file(alloc, file, files, sink),
         Request::Types(file) => types_file(alloc, file, files, sink),
-        Request::Watch(args) => watch_file(rt, alloc, args, files, sink, gate),
+        Request::Save(args) => save_file(alloc, args, files, sink),
         _ => unreachable!(),
     }
 }
 
-// Runs the program in the file with its probe script, and writes what the run shows.
+// Runs the program of a file with a script, and writes what it shows.
 fn run_file<R: Threads + Wait + Sync, F: Files, K: Sink, G: Gate + Sync>(
     rt: &R,
     alloc: Global,
@@ -98,20 +96,12 @@ fn run_file<R: Threads + Wait + Sync, F: Files, K: Sink, G: Gate + Sync>(
     ensures kept { F.held files.new ≡ F.held files.old }
 {
     match read_run(alloc, args, files) {
-        Ok(given) => run_program(
-            rt,
-            alloc,
-            given,
-            means_of(args),
-            LastLine::Nothing,
-            gate,
-            sink,
-        ),
+        Ok(given) => run_program(rt, alloc, given, means_of(args), None, gate, sink),
         Err(report) => report,
     }
 }
 
-// Runs the program in the file with its probe script, and writes the trace.
+// Runs the program of a file with a script, and writes the trace.
 fn trace_file<R: Threads + Wait + Sync, F: Files, K: Sink, G: Gate + Sync>(
     rt: &R,
     alloc: Global,
@@ -131,8 +121,7 @@ fn trace_file<R: Threads + Wait + Sync, F: Files, K: Sink, G: Gate + Sync>(
     }
 }
 
-/// By how many workers the words ask to run, and with which fuel and quantum.
-pub(crate) fn means_of(args: &RunArgs) -> Means
+fn means_of(args: &RunArgs) -> Means
     ensures { (result.workers ≡ args.now.workers) × (result.fuel ≡ args.now.fuel) × (result.quantum ≡ args.now.quantum) }
 {
     Means {
@@ -142,7 +131,7 @@ pub(crate) fn means_of(args: &RunArgs) -> Means
     }
 }
 
-// Judges the trace in its file against the program in the file and the probe script.
+// Judges the trace of a file as one of the program of another and of a script.
 fn verify_file<F: Files, K: Sink>(
     alloc: Global,
     args: &VerifyArgs,
@@ -159,7 +148,7 @@ fn verify_file<F: Files, K: Sink>(
     }
 }
 
-// Judges the trace in its file against the program and the probe script.
+// Judges the trace of a file as one of the program and of a script.
 fn verify_program<F: Files, K: Sink>(
     alloc: Global,
     args: &VerifyArgs,
@@ -180,7 +169,7 @@ fn verify_program<F: Files, K: Sink>(
     }
 }
 
-// Judges the trace in the file against the program and the script.
+// Judges the trace of a file as one of the program and the script.
 fn judge_file<F: Files, K: Sink>(
     alloc: Global,
     trace: &Name,
@@ -200,7 +189,7 @@ fn judge_file<F: Files, K: Sink>(
     }
 }
 
-// Plays the drill script in its file on the program in the file and the probe script.
+// Plays the drill of a file on the program of another and a script.
 fn drill_file<F: Files, K: Sink>(
     alloc: Global,
     args: &DrillArgs,
@@ -219,7 +208,7 @@ fn drill_file<F: Files, K: Sink>(
     }
 }
 
-// Plays the drill script in its file on the program and the probe script.
+// Plays the drill of a file on the program and a script.
 fn drill_program<F: Files, K: Sink>(
     alloc: Global,
     args: &DrillArgs,
@@ -243,7 +232,7 @@ fn drill_program<F: Files, K: Sink>(
     }
 }
 
-// Plays the drill script in its file on what is given.
+// Plays the drill of a file on what is given.
 fn drill_given<F: Files, K: Sink>(
     alloc: Global,
     args: &DrillArgs,
@@ -264,7 +253,7 @@ fn drill_given<F: Files, K: Sink>(
     }
 }
 
-// Reads the program in the file, and writes how many functions and texts it has.
+// Reads the program of a file, and writes how many functions and texts it has.
 fn check_file<F: Files, K: Sink>(alloc: Global, file: &Name, files: &mut F, sink: &mut K) -> Report
     ensures says { CheckSays (call_of F.held F.faults files.old files.new
         (outcome_of K.told K.faults sink.old sink.new result)) file.now }

@@ -1,4 +1,4 @@
-//! Checks the types of the program in a file.
+//! Checks the types of the program of a file.
 ghost use Rattle.std.specs.Prelude.{◌≡◌, IfErr, IfOk, string_bytes};
 ghost use Rattle.stab_types.specs.Checked.{IsFaultOf};
 ghost use Rattle.stab_types.specs.Typed.{IsTyped};
@@ -16,8 +16,7 @@ use stab_words::Name;
 use std::alloc::Global;
 use std::sync::Arc;
 
-/// Reads the program in the file, and writes how many functions it has, if it is typed. If not, the report names its first
-/// function that isn't typed.
+/// Reads the program of a file, and writes how many functions it has where it is typed.
 pub fn types_file<F: Files, K: Sink>(
     alloc: Global,
     file: &Name,
@@ -34,7 +33,7 @@ pub fn types_file<F: Files, K: Sink>(
     }
 }
 
-// Writes how many functions the program has, if it is typed.
+// Writes how many functions the program has, where it is typed.
 fn type_program<K: Sink>(alloc: Global, program: Program, sink: &mut K) -> Report
     ensures { TypesEnds result.status program (outcome_of K.told K.faults sink.old sink.new result) }
 {

@@ -1,11 +1,11 @@
-//! Which requests are built.
+//! Which words are built.
 ghost use Rattle.std.specs.Prelude.{◌≡◌};
 ghost use Rattle.stab_top.specs.Words.{is_built};
 
 use stab_words::Request;
 
-/// Whether the request is built: `run`, `trace`, `watch`, `mill`, `verify`, `drill`, `check` or `types`. Any other gets the
-/// status NotBuilt.
+/// Whether what the words ask for is built: a check, one of types, a verdict, an image, the mill, a drill, or a run, of which the trace may be
+/// written. One worker runs, whatever their number.
 pub fn is_built(request: &Request) -> bool
     ensures { result ≡ is_built request.now }
 {
@@ -17,7 +17,7 @@ pub fn is_built(request: &Request) -> bool
         | Request::Drill(_)
         | Request::Check(_)
         | Request::Types(_)
-        | Request::Watch(_) => true,
+        | Request::Save(_) => true,
         _ => false,
     }
 }

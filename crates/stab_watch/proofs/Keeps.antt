@@ -25,7 +25,7 @@ opens = record {
       subst (Fits ((0 ∷ 0 ∷ 0 ∷ []) ∷ []) id) o.1 (record { seen = ([], refl); olds = tt; writer = λ is. (o.0, refl) });
 }
 
--- a pass that knows nothing
+-- a pass of which nothing is known
 fits_spent : (all : List (List ℕ)) (id : ℕ) → Fits all id spent
 fits_spent all id = record { seen = (all, refl); olds = tt; writer = λ is. absurd (false≢true is) }
 

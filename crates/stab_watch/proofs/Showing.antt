@@ -1,4 +1,4 @@
--- What is shown of events stays true of longer lists of events, and rises.
+-- What is shown of events stays true of longer ones, and rises.
 use Rattle.std.proofs.Common.{◌≡◌, ℕ, ◌≤◌, Bool, true, false, List, [], ◌∷◌, ◌++◌, length, refl, sym, ap, subst, ◌∙◌, arith, append_assoc, append-nil, cond, ◌||◌, ◌&&◌}
 use lib.Pointwise.{bytes_decides}
 use Rattle.std.proofs.lemmas.Bool.{and_parts}
@@ -6,7 +6,7 @@ use Rattle.std.specs.List.{AllByRecursion, sum_by}
 use Rattle.std.proofs.lemmas.List.Sums.{sum_by-append}
 use Rattle.stab_journal.specs.declared.event.Event.{Event}
 use Rattle.stab_journal.specs.Event.{weigh}
-use Rattle.stab_watch.specs.Counts.{is_undo, is_cut, counts, AtMost, StartsWith, EndsWith, WasShown, same_words, is_shown, all_shown, last_words}
+use Rattle.stab_watch.specs.Counts.{is_undo, is_cut, counts, AtMost, StartsWith, EndsWith, WasShown, Shows, same_words, is_shown, all_shown, last_words}
 use Rattle.stab_watch.specs.Board.{Loaded, stored}
 use Rattle.stab_watch.specs.Known.{known, both}
 use Rattle.stab_watch.specs.Passes.{HasShown, WriterParts, new_writer, showing, writer_of}
@@ -44,12 +44,7 @@ one_more : (events : List Event) (xs : List (List ℕ)) → AllByRecursion (WasS
 one_more events [] all = (record { front = events; starts = itself events; is = refl }, tt)
 one_more events (x ∷ xs) all = (all.0, one_more events xs all.1)
 
--- all that was shown was shown of these events, and last of all of them
-pub record Shows (events : List Event) (shown : List (List ℕ)) : Type 0 where
-  pub each : AllByRecursion (WasShown events) shown
-  pub last : EndsWith shown (counts events)
-
--- one more showing
+-- one showing more
 pub shows_more : (front whole : List Event) (seen : List (List ℕ)) → StartsWith whole front → Shows front seen → Shows whole (seen ++ counts whole ∷ [])
 shows_more front whole seen s shows = record { each = one_more whole seen (later front whole seen s shows.each); last = (seen, refl) }
 
@@ -133,14 +128,10 @@ has_shown whole w h =
 pub read_last : (seen : List (List ℕ)) (x : List ℕ) → EndsWith seen x → x ≡ last_words seen
 read_last seen x e = sym (ap last_words e.1 ∙ last_at e.0 x)
 
--- the last reading of a reader, once the writer has taken its pass in and loads
+-- the last reading of a reader whose pass was taken in, at a load by the writer
 pub gathered : (events : List Event) (w : WriterParts) (v u : Known) (seen : List (List ℕ)) (n : ℕ) (ns : List ℕ) (y : List ℕ) → v.writes ≡ true → v.seen ≡ w.shown → HasShown events w → Loaded (both v (known false seen [])) y u → n ∷ ns ≡ last_words seen → WasShown events (n ∷ ns)
 gathered events w v u seen n ns y writes is h l e =
     seen_shown events w.shown seen (n ∷ ns) (shows_of events w h) (subst (λ (k : List (List ℕ)). StartsWith k seen) (l.writer writes ∙ is) l.told.0) (ends n ns seen (sym e))
-
--- all that the reader had seen was shown first
-pub gathered_front : (w : WriterParts) (v u : Known) (seen : List (List ℕ)) (y : List ℕ) → v.writes ≡ true → v.seen ≡ w.shown → Loaded (both v (known false seen [])) y u → StartsWith w.shown seen
-gathered_front w v u seen y writes is l = subst (λ (k : List (List ℕ)). StartsWith k seen) (l.writer writes ∙ is) l.told.0
 
 -- the words of a store are the last that were shown
 pub stored_last : (v u : Known) (x y : List ℕ) → stored v x y u → y ≡ last_words u.seen

@@ -1,4 +1,4 @@
--- One more event is counted.
+-- One event more is counted.
 use Rattle.std.proofs.Common.{◌≡◌, ℕ, ◌+◌, ◌≤◌, Bool, true, false, cond, List, [], ◌∷◌, take, get_or, add-one, refl, sym, ap, ◌∙◌, suc, arith}
 use Rattle.std.specs.Prelude.{Some, slice_get}
 use Rattle.std.specs.List.{sum_by}
@@ -20,7 +20,7 @@ sum_suc f es i e h =
 at_suc : (es : List Event) (i q : ℕ) → q ≡ i + 1 → event_at es q ≡ slice_get es i
 at_suc es i q at = ap (event_at es) (at ∙ add-one i)
 
--- the sum with the next event
+-- a sum goes on by the event that comes next
 pub sum_more : (f : Event → ℕ) (es : List Event) (i : ℕ) (e : Event) → event_at es (i + 1) ≡ Some e → sum_by f (take (i + 1) es) ≡ sum_by f (take i es) + f e
 sum_more f es i e h = ap (λ k. sum_by f (take k es)) (add-one i) ∙ sum_suc f es i e (sym (at_suc es i (i + 1) refl) ∙ h)
 
@@ -28,7 +28,7 @@ upper : (b : Bool) (n : ℕ) → n ≡ cond b 1 0 → n ≤ 1
 upper true n h = omega arith
 upper false n h = omega arith
 
--- the counts with one more event
+-- the counts go on by one event
 pub counts_more : (es : List Event) (i undos cuts u k : ℕ) (a b : Bool) (e : Event) → event_at es (i + 1) ≡ Some e → a ≡ is_undo e.what → b ≡ is_cut e.what → u ≡ cond a 1 0 → k ≡ cond b 1 0
     → (undos ≤ i) × (cuts ≤ i) × (undos ≡ undos_in (take i es)) × (cuts ≡ cuts_in (take i es))
     → (undos + u ≤ i + 1) × (cuts + k ≤ i + 1) × (undos + u ≡ undos_in (take (i + 1) es)) × (cuts + k ≡ cuts_in (take (i + 1) es))

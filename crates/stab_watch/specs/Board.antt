@@ -1,4 +1,4 @@
--- The rule of the board, and what each kind of step says.
+-- The rule of the board, and what each kind of step tells.
 use Rattle.std.specs.Prelude.{◌≡◌, ℕ, true, List, [], ◌∷◌, ◌++◌}
 use Rattle.std.specs.List.{AllByRecursion}
 use mathlib.Core.Option.{some}
@@ -13,8 +13,7 @@ pub record Fits (all : List (List ℕ)) (id : ℕ) (v : Known) : Type 0 where
   pub olds : AllByRecursion (StartsWith all) v.olds
   pub writer : v.writes ≡ true → (id ≡ 0) × (v.seen ≡ all)
 
--- the words are the last ones shown, no words are greater than later ones, and each pass has seen a beginning of all that was
--- shown
+-- the words are the last that were shown, and each pass has seen the first of these
 pub record Shown (words : List ℕ) (views : List Known) : Type 0 where
   pub all : List (List ℕ)
   pub last : EndsWith all words
@@ -25,8 +24,7 @@ pub record Shown (words : List ℕ) (views : List Known) : Type 0 where
 abbrev pub stored : Known → List ℕ → List ℕ → Known → Type 0
 stored v x y w = w ≡ known true (v.seen ++ y ∷ []) v.olds
 
--- load: what the pass has seen then begins with what it and each joined pass had seen, and ends with the words; the writer sees
--- nothing new
+-- load: the pass has seen all that was shown, the words last; it begins with all that it had seen and that it was told of
 pub record Loaded (v : Known) (x : List ℕ) (w : Known) : Type 0 where
   pub writes : w.writes ≡ v.writes
   pub olds : w.olds ≡ v.olds

@@ -12,10 +12,10 @@ first = known true ((0 ∷ 0 ∷ 0 ∷ []) ∷ []) []
 abbrev pub spent : Known
 spent = known false [] []
 
--- a new reader knows what the pass from which it is split has seen
+-- a new reader knows what the pass has seen from which it is cut
 abbrev pub cut_off : Known → Known
 cut_off v = known false v.seen []
 
--- the pass also keeps what the other one had seen
+-- the pass keeps what the other had seen
 abbrev pub both : Known → Known → Known
 both v w = known v.writes v.seen (w.seen ∷ v.olds)

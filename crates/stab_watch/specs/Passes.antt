@@ -10,13 +10,13 @@ use Rattle.stab_watch.specs.declared.reading.Reading.{Reading}
 abbrev pub words_of : Reading → List ℕ
 words_of r = r.weight ∷ r.undos ∷ r.cuts ∷ []
 
--- the writer: the board that it writes, the words that it has shown, first to last, and how many events it showed last time
+-- the writer: the board that it writes, the words that it has shown, first to last, and how many events it showed last
 pub record WriterParts : Type 0 where
   pub board : TableId
   pub shown : List (List ℕ)
   pub len : ℕ
 
--- a reader: the board that it reads, and the words that it has seen shown, first to last
+-- a reader: the board that it reads, and the words that were shown as far as it has seen, first to last
 pub record ReaderParts : Type 0 where
   pub board : TableId
   pub seen : List (List ℕ)
@@ -31,17 +31,17 @@ reader_of board seen = record { board = board; seen = seen }
 abbrev pub new_writer : TableId → WriterParts
 new_writer board = writer_of board ((0 ∷ 0 ∷ 0 ∷ []) ∷ []) 0
 
--- the writer has shown these events last, and before that only beginnings of them
+-- it has shown these events last, and all that it showed before was shown of fronts of them
 pub record HasShown (events : List Event) (w : WriterParts) : Type 0 where
   pub shows : all_shown events w.shown ≡ true
   pub last : last_words w.shown ≡ counts events
   pub len_is : w.len ≡ length events
 
--- the writer after one more showing
+-- one showing more
 abbrev pub showing : WriterParts → List Event → WriterParts
 showing w events = writer_of w.board (w.shown ++ counts events ∷ []) (length events)
 
--- a reading: what was seen before comes first, the words that are read come last, and no words are greater than later ones
+-- a reading: all that was seen before comes first, the words that are read are last, and none is greater than a later one
 pub record Reads (before : List (List ℕ)) (x : List ℕ) (after : List (List ℕ)) : Type 0 where
   pub starts : StartsWith after before
   pub last : EndsWith after x

@@ -17,7 +17,7 @@ use std::sync::Wait;
 
 type Cell = RuledSeqCell<[u64; 3], Known, Rule, 3>;
 
-/// Three words that one pass writes and others read: the weight of a history, and the numbers of its undos and its cuts.
+/// Three words that one pass writes and others read: the weight of a history, its undos and its cuts.
 #[derive(Drop)]
 pub struct Board {
     pub(crate) cell: Cell,
@@ -48,7 +48,7 @@ impl Board {
         Ok((Board { cell }, WritePass { pass, len: 0, now }))
     }
 
-    /// A new reader, which has seen all that the writer has shown so far.
+    /// A reader that has seen what the writer has shown.
     pub fn reader(&self, writer: &mut WritePass) -> ReadPass
         requires own { writer.old.board ≡ self.now }
         ensures writer { writer.new ≡ writer.old }
@@ -74,7 +74,7 @@ impl Board {
         writer.now = now;
     }
 
-    /// What the writer has shown last. It is one load and takes no turn; it may wait for a store in progress.
+    /// What the writer has shown last. One load, without a turn; it may wait for a store that is under way.
     pub fn read<R: Wait>(&self, rt: &R, reader: &mut ReadPass) -> Reading
         requires own { reader.old.board ≡ self.now }
         ensures own { reader.new.board ≡ reader.old.board }
@@ -85,12 +85,11 @@ impl Board {
         reader.last
     }
 
-    /// What the reader has read last. It was shown of the writer's history at one moment, as all that the reader has seen. The reader ends.
+    /// What the reader has read last, which was shown of the writer's history at one moment. The reader ends.
     pub fn gather<R: Wait>(&self, rt: &R, writer: &mut WritePass, reader: ReadPass) -> Reading
         requires own { (writer.old.board ≡ self.now) × (reader.board ≡ self.now) }
         ensures writer { writer.new ≡ writer.old }
         ensures last { words_of result ≡ last_words reader.seen }
-        ensures front { StartsWith writer.old.shown reader.seen }
         ensures shown { (events : List Events) → HasShown events writer.old → WasShown events (words_of result) }
     {
         let ReadPass { mut pass, last } = reader;

@@ -1,4 +1,4 @@
-//! A board that shows how far a run is, and is read without a turn among its workers.
+//! A board that shows how far a run is, and is read without its workers' turn.
 #![tactic(auto)]
 
 mod board;

@@ -6,7 +6,7 @@ use std::marker::Model;
 
 pub(crate) type Place = Pass<[u64; 3], Known>;
 
-/// The right to write a board. Each board has one.
+/// The right to write a board. There is one of each board.
 #[derive(Drop)]
 pub struct WritePass {
     pub(crate) pass: Place,

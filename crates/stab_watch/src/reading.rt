@@ -7,7 +7,7 @@ ghost use Rattle.stab_watch.specs.Passes.{words_of};
 use stab_base::Seq;
 use stab_journal::{Event, History, Label, What};
 
-/// How far a run is: the weight of its history, and how many undos and cuts it has.
+/// How far a run is: what its history weighs, and how many undos and cuts it has.
 #[derive(Clone, Copy, PartialEq, Eq, Debug)]
 pub struct Reading {
     pub weight: u64,
@@ -15,21 +15,7 @@ pub struct Reading {
     pub cuts: u64,
 }
 
-impl Reading {
-    /// The reading of a history.
-    pub fn of(history: &History) -> Reading
-        ensures { words_of result ≡ counts history.now.events }
-    {
-        let none = Reading {
-            weight: 0,
-            undos: 0,
-            cuts: 0,
-        };
-        counted(history, 0, none)
-    }
-}
-
-// The reading of a history, given the reading `before` of its first `len` events.
+// The reading of a history, of whose first `len` events `before` was the reading.
 pub(crate) fn counted(history: &History, len: u64, before: Reading) -> Reading
     requires { (front : List Events) × StartsWith history.now.events front × (len ≡ length front) × (words_of before ≡ counts front) }
     ensures { words_of result ≡ counts history.now.events }

@@ -3,7 +3,7 @@ use crate::view::Known;
 use atomic_table::{Join, Split};
 use crossbeam_utils::rule::{Outcome, Protocol};
 
-/// The words are the last ones that the writer showed, and each pass has seen a beginning of all that it showed.
+/// The words are the last that the writer showed, and each pass has seen the first of these.
 pub struct Rule;
 
 impl Protocol<[u64; 3], Known> for Rule {
@@ -44,7 +44,7 @@ impl Split<Known> for Part {
     ghost right = { cut_off };
 }
 
-/// The whole view goes to a new pass, since one that has made calls can't be taken in by another.
+/// The whole view goes to a new pass.
 pub struct Move;
 
 impl Split<Known> for Move {
@@ -55,7 +55,7 @@ impl Split<Known> for Move {
     ghost right = { cut_off };
 }
 
-/// A pass takes in another, and keeps what it had seen.
+/// A pass takes another in.
 pub struct Take;
 
 impl Join<Known> for Take {

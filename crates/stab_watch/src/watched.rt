@@ -22,7 +22,7 @@ pub struct Watched<'a, K: Kept, R: Wait> {
 }
 
 impl<'a, K: Kept, R: Wait> Watched<'a, K, R> {
-    /// Watches a state whose history the board's writer has shown last.
+    /// The state, whose history the board's writer has shown last.
     pub fn new(rt: &'a R, kept: K, board: Arc<Board>, writer: WritePass) -> Self
         requires own { writer.board ≡ arc_value board }
         requires shown { HasShown (K.events_of kept) writer }
@@ -37,7 +37,7 @@ impl<'a, K: Kept, R: Wait> Watched<'a, K, R> {
         }
     }
 
-    /// Gives the state and the writer back.
+    /// The state and the writer, as they were kept.
     pub fn into_kept(self) -> (K, WritePass)
         ensures kept { result.0 ≡ self.entry.kept }
         ensures writer { result.1 ≡ self.entry.writer }

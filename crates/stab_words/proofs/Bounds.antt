@@ -1,4 +1,4 @@
--- A request made from values within the bounds is within the bounds.
+-- A request of what was given within the bounds is within the bounds.
 use Rattle.std.proofs.Common.{ℕ, Option, Some, None, arith}
 use Rattle.std.specs.Prelude.{IfSome, IfOk, unwrap_or}
 use Rattle.std.specs.Option.{option_map, option_and_then, ok_or}

@@ -1,4 +1,4 @@
--- Reading words one by one gives what they mean.
+-- Words that are read one by one ask for what they mean.
 use Rattle.std.proofs.Common.{◌≡◌, ℕ, suc, Bool, true, false, List, [], ◌∷◌, Option, Some, None, is_none, Result, Ok, Err, refl, sym, ap, ◌∙◌}
 use Rattle.std.specs.Prelude.{if◌then◌else◌}
 use Rattle.stab_words.specs.declared.command.Command.{Command}
@@ -91,7 +91,7 @@ module _ (c : Command) where
 pub read_is : (c : Command) (words : List (List ℕ)) → and_then (read_from c 1 words begun) (λ r. finished c r.given r.expects) ≡ and_then (read c 1 false words nothing) (request c)
 read_is c words = all_steps c words 1 begun
 
--- a result that equals what is meant
+-- an answer that is equal to what is meant
 pub gives : {A : Type 0} (answer meant : Result A WordFault) → answer ≡ meant → Gives (λ a. a) answer meant
 gives (Ok a) meant is = sym is
 gives (Err fault) meant is = λ _. sym is

@@ -15,12 +15,12 @@ use Rattle.stab_words.specs.declared.request.WordFault.TheVariants.{NoCommand, U
 use Rattle.stab_words.specs.Command.{command_named, option_named, places, takes, default_workers, default_fuel, default_quantum}
 use Rattle.stab_words.specs.Given.{nothing, is_given, is_filled, set, fill}
 
--- a fault of the first part is the result; otherwise the second part goes on with the value of the first
+-- where the first part is a fault, it is the answer, and else the second part goes on with what it gives
 abbrev pub and_then : {A B : Type 0} → Result A WordFault → (A → Result B WordFault) → Result B WordFault
 and_then (Ok a) next = next a
 and_then (Err fault) next = Err fault
 
--- the value if there is one, the fault otherwise
+-- what is there, or else the fault
 abbrev pub or_fault : {A : Type 0} → Option A → WordFault → Result A WordFault
 or_fault (Some a) fault = Ok a
 or_fault None fault = Err fault
@@ -40,7 +40,7 @@ has_dashes (b ∷ c ∷ bs) = if b == 45 then c == 45 else false
 abbrev pub name_of : List ℕ → List ℕ
 name_of word = before_first (λ b. b == 61) word
 
--- its value is what follows the `=`, if there is one
+-- its value is what follows the `=`, where there is one
 abbrev pub written_value : List ℕ → Option (List ℕ)
 written_value word =
     if nat_lt (position_or_len (λ b. b == 61) word) (length word) then Some (after_first (λ b. b == 61) word) else None
@@ -60,7 +60,7 @@ abbrev pub next_value : List (List ℕ) → Option (List ℕ)
 next_value [] = None
 next_value (word ∷ words) = if has_dash word then None else Some word
 
--- the value of an option: what follows its `=`, or the next word if there is no `=`
+-- the value of an option: what follows its `=`, or else the next word
 abbrev pub option_value : List ℕ → List (List ℕ) → Option (List ℕ)
 option_value word words = if is_none (written_value word) then next_value words else written_value word
 
@@ -73,12 +73,12 @@ abbrev pub optional : Command → ℕ → List ℕ → List (List ℕ) → Given
 optional c i word words given = and_then (option_of c i (name_of word) given) (λ option.
     and_then (or_fault (option_value word words) (NoValue i)) (λ value. valued option i value given))
 
--- after a word `--` each word is a plain word
+-- behind a word `--` each word is a plain word
 abbrev pub read_plain : Command → ℕ → List (List ℕ) → Given → Result Given WordFault
 read_plain c i [] given = Ok given
 read_plain c i (word ∷ words) given = and_then (plain c i word given) (read_plain c (suc i) words)
 
--- the words from the number i on, from the left; the first of them may be the value of the option before it
+-- the words from the number i on, from the left, where the first of them may be the value of the option before it
 abbrev pub read : Command → ℕ → Bool → List (List ℕ) → Given → Result Given WordFault
 read c i is_value [] given = Ok given
 read c i true (word ∷ words) given = read c (suc i) false words given
@@ -88,7 +88,7 @@ read c i false (word ∷ words) given =
     else (if has_dash word then Err (UnknownOption i)
     else and_then (plain c i word given) (read c (suc i) false words)))
 
--- the numbers that were given, or their defaults
+-- the numbers that were given, or what is meant without them
 abbrev pub workers_of : Given → ℕ
 workers_of g = unwrap_or g.workers default_workers
 
@@ -101,7 +101,7 @@ quantum_of g = unwrap_or g.quantum default_quantum
 abbrev pub run_args : List ℕ → Given → RunArgs
 run_args file g = record { file = file; probes = g.probes; workers = workers_of g; fuel = fuel_of g; quantum = quantum_of g }
 
--- the request of a command, if each of its places is filled
+-- the request of a command, where each of its places is filled
 abbrev pub request_of : Command → Given → Option Request
 request_of Run g = option_map (λ file. asks.Run (run_args file g)) g.file
 request_of Trace g = option_map (λ file. asks.Trace (run_args file g)) g.file
@@ -119,7 +119,7 @@ request_of Mill g = option_map (λ size.
 request_of Resume g = option_map (λ image.
     asks.Resume (record { image = image; fuel = fuel_of g; quantum = quantum_of g })) g.file
 
--- the request if each place is filled, MissingWord otherwise
+-- the request, where a word is in each place
 abbrev pub request : Command → Given → Result Request WordFault
 request c given = or_fault (request_of c given) MissingWord
 
@@ -129,7 +129,7 @@ asked [] = Err NoCommand
 asked (word ∷ words) =
     and_then (or_fault (command_named word) UnknownCommand) (λ c. and_then (read c 1 false words nothing) (request c))
 
--- the result is what is meant, unless memory ran out
+-- an answer is what is meant, unless memory was refused
 abbrev pub Gives : {A B : Type 0} → (A → B) → Result A WordFault → Result B WordFault → Type 0
 Gives seen (Ok a) meant = meant ≡ Ok (seen a)
 Gives seen (Err fault) meant = fault ≢ NoMemory → meant ≡ Err fault

@@ -63,7 +63,7 @@ takes Resume Quantum = true
 takes Resume _ = false
 takes Watch option = true
 
--- the largest value of each number; the smallest is 1
+-- a number is from 1 to this
 abbrev pub most_workers : ℕ
 most_workers = 64
 
@@ -76,7 +76,7 @@ most_quantum = 10000
 abbrev pub most_size : ℕ
 most_size = 10000
 
--- the defaults of the options
+-- what is meant where the option isn't given
 abbrev pub default_workers : ℕ
 default_workers = 4
 

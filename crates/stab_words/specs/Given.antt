@@ -12,7 +12,7 @@ use Rattle.stab_words.specs.Number.{number_in}
 abbrev pub nothing : Given
 nothing = record { file = None; second = None; number = None; probes = None; workers = None; fuel = None; quantum = None }
 
--- a file name isn't empty
+-- a name of a file isn't empty
 abbrev pub name_in : List ℕ → Option (List ℕ)
 name_in [] = None
 name_in (b ∷ bs) = Some (b ∷ bs)
@@ -30,14 +30,14 @@ is_filled File given = is_some given.file
 is_filled Second given = is_some given.second
 is_filled Number given = is_some given.number
 
--- with this value of the option, if it is allowed
+-- with this value of the option, where it is allowed
 abbrev pub set : Setting → List ℕ → Given → Option Given
 set Probes value given = option_map (λ name. record given { probes = Some name }) (name_in value)
 set Workers value given = option_map (λ n. record given { workers = Some n }) (number_in most_workers value)
 set Fuel value given = option_map (λ n. record given { fuel = Some n }) (number_in most_fuel value)
 set Quantum value given = option_map (λ n. record given { quantum = Some n }) (number_in most_quantum value)
 
--- with this word in the place, if it is allowed
+-- with this word in the place, where it is allowed
 abbrev pub fill : Place → List ℕ → Given → Option Given
 fill File word given = option_map (λ name. record given { file = Some name }) (name_in word)
 fill Second word given = option_map (λ name. record given { second = Some name }) (name_in word)

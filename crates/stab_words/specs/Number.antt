@@ -12,6 +12,6 @@ is_number most word =
     all_ascii_digits word && nat_le 1 (length word) && nat_le (length word) 10
     && nat_le 1 (value_of word) && nat_le (value_of word) most
 
--- the number in a word, if it is one
+-- the number that a word is, if it is one
 abbrev pub number_in : ℕ → List ℕ → Option ℕ
 number_in most word = if is_number most word then Some (value_of word) else None

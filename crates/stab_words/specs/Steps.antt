@@ -1,4 +1,4 @@
--- Words are read one by one. What they ask for is `asked`, which doesn't depend on this.
+-- How far words were read, word by word. What they ask for is `asked`, which knows nothing of this.
 use Rattle.std.specs.Prelude.{ℕ, suc, Bool, List, [], ◌∷◌, Option, Some, None, Result, Ok, Err, codes, if◌then◌else◌}
 use Rattle.std.specs.Str.{bytes_eq}
 use Rattle.stab_words.specs.declared.command.Command.{Command}
@@ -13,7 +13,7 @@ use Rattle.stab_words.specs.declared.request.WordFault.TheVariants.{UnknownOptio
 use Rattle.stab_words.specs.Asked.{and_then, has_dash, has_dashes, name_of, option_of, plain, request, valued, written_value}
 use Rattle.stab_words.specs.Given.{nothing}
 
--- the reading goes on with these values, and expects this of the next word
+-- the reading goes on with this, and expects that of the next word
 abbrev pub goes_on : Expects → Given → Result Reading WordFault
 goes_on expects given = Ok (record { given = given; expects = expects })
 

@@ -5,7 +5,7 @@ use Rattle.stab_words.specs.declared.request.Request.{Request}
 use Rattle.stab_words.specs.declared.request.Request.TheVariants.{Run, Trace, Verify, Drill, Check, Mill, Types, Save, Resume, Watch}
 use Rattle.stab_words.specs.Command.{most_workers, most_fuel, most_quantum, most_size}
 
--- a number from 1 to `most`
+-- a number from 1 to the greatest
 abbrev pub IsUpTo : ℕ → ℕ → Type 0
 IsUpTo most n = (1 ≤ n) × (n ≤ most)
 
@@ -16,7 +16,7 @@ pub record IsGiven (given : Given) : Type 0 where
   pub fuel : IfSome given.fuel (IsUpTo most_fuel)
   pub quantum : IfSome given.quantum (IsUpTo most_quantum)
 
--- the workers, the fuel and the quantum of a run are within the bounds
+-- how a run is made is within the bounds
 pub record IsRunWithin (workers fuel quantum : ℕ) : Type 0 where
   pub workers_within : IsUpTo most_workers workers
   pub fuel_within : IsUpTo most_fuel fuel

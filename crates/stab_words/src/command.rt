@@ -26,7 +26,7 @@ pub enum Setting {
     Quantum,
 }
 
-/// A place of a command: a positional argument, which a plain word fills.
+/// A place of a command, which a plain word fills.
 #[derive(Clone, Copy, PartialEq, Eq)]
 pub enum Place {
     /// The program, or the image to go on from.

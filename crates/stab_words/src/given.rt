@@ -11,7 +11,7 @@ use crate::number::number_in;
 use crate::request::WordFault;
 use std::alloc::Global;
 
-/// The largest numbers that options and the number's place may have. The smallest is 1.
+/// The greatest numbers of the options and of the place for one. The least is 1.
 const MAX_WORKERS: u64 = 64;
 
 const MAX_FUEL: u64 = 16_000_000;
@@ -72,7 +72,7 @@ impl Given {
         }
     }
 
-    /// Takes the word `at` as the value of the option. A value that isn't allowed is a BadValue.
+    /// Takes the word `at` as the value of the option.
     pub fn set(
         self,
         alloc: Global,
@@ -105,7 +105,7 @@ impl Given {
         })
     }
 
-    /// Puts the word `at` into the place. A word that isn't allowed there is a BadValue.
+    /// Puts the word `at` into the place.
     pub fn fill(
         self,
         alloc: Global,
@@ -137,7 +137,7 @@ impl Given {
     }
 }
 
-// The file name in the word `at`, which mustn't be empty.
+// The name of a file that the word `at` gives.
 fn file_name(alloc: Global, at: usize, text: &str) -> Result<Name, WordFault>
     ensures { Gives (λ name. name) result (or_fault (name_in text.now) (BadValue at)) }
 {

@@ -8,7 +8,7 @@ ghost use Rattle.stab_words.specs.Within.{IsUpTo};
 /// How many digits a number has at most. Leading zeros count.
 const MAX_DIGITS: usize = 10;
 
-/// The number in a word, if the word is a decimal number from 1 to `most`.
+/// The number that a word is, if it is one from 1 to `most`.
 pub fn number_in(most: u64, word: &str) -> Option<u64>
     ensures number { result ≡ number_in most word.now }
     ensures within { IfSome result (IsUpTo most) }

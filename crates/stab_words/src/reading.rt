@@ -39,7 +39,7 @@ struct Reading {
     expects: Expects,
 }
 
-/// The request that the words make, or their first fault from the left. The words are those after the program's name.
+/// What the words ask for, or the first fault from the left. The words are those after the program's name.
 pub fn read_words(alloc: Global, words: &[String]) -> Result<Request, WordFault>
     ensures asked { Gives (λ request. request) result (asked (each string_bytes words.now)) }
     ensures within { IfOk result IsWithin }
@@ -237,7 +237,7 @@ fn finished(command: Command, reading: Reading) -> Result<Request, WordFault>
     request_of(command, reading.given).ok_or(WordFault::MissingWord)
 }
 
-// The request of a command, if each of its places is filled.
+// The request of a command each of whose places is filled.
 fn request_of(command: Command, given: Given) -> Option<Request>
     ensures { result ≡ request_of command given }
 {

@@ -14,13 +14,13 @@ pub enum Request {
     Run(RunArgs),
     /// Run a program and write the trace.
     Trace(RunArgs),
-    /// Say whether a trace is that of a run of a program.
+    /// Say whether a trace is one of a run of a program.
     Verify(VerifyArgs),
     /// Play a script of turns.
     Drill(DrillArgs),
-    /// Read a program, and write its size.
+    /// Read a program.
     Check(Name),
-    /// Run the mill, a program that is made from a number.
+    /// Run a program that is made from a number.
     Mill(MillArgs),
     /// Check the written types of a program.
     Types(Name),
@@ -32,7 +32,7 @@ pub enum Request {
     Watch(RunArgs),
 }
 
-/// The arguments of `run`, `trace` and `watch`. The quantum is the most pure steps that one event stands for.
+/// What `run`, `trace` and `watch` are given. The quantum is the most pure steps that one event stands for.
 #[derive(Drop)]
 pub struct RunArgs {
     pub file: Name,
@@ -42,7 +42,7 @@ pub struct RunArgs {
     pub quantum: u32,
 }
 
-/// The arguments of `verify`.
+/// What `verify` is given.
 #[derive(Drop)]
 pub struct VerifyArgs {
     pub file: Name,
@@ -50,7 +50,7 @@ pub struct VerifyArgs {
     pub probes: Option<Name>,
 }
 
-/// The arguments of `drill`.
+/// What `drill` is given.
 #[derive(Drop)]
 pub struct DrillArgs {
     pub file: Name,
@@ -60,7 +60,7 @@ pub struct DrillArgs {
     pub quantum: u32,
 }
 
-/// The arguments of `mill`: how many sections its program has, and how it is run.
+/// What `mill` is given: how many sections its program has, and how it is run.
 #[derive(Drop)]
 pub struct MillArgs {
     pub size: u32,
@@ -69,7 +69,7 @@ pub struct MillArgs {
     pub quantum: u32,
 }
 
-/// The arguments of `save`. The state is the one at the cut with the number `at`, counted from 1.
+/// What `save` is given. The state is the one at the cut with the number `at`, the first being 1.
 #[derive(Drop)]
 pub struct SaveArgs {
     pub file: Name,
@@ -78,7 +78,7 @@ pub struct SaveArgs {
     pub probes: Option<Name>,
 }
 
-/// The arguments of `resume`.
+/// What `resume` is given.
 #[derive(Drop)]
 pub struct ResumeArgs {
     pub image: Name,
@@ -86,7 +86,7 @@ pub struct ResumeArgs {
     pub quantum: u32,
 }
 
-/// Why words are refused. The number is that of the word; the command is word 0.
+/// Why words are refused. A number is that of the word, the command being word 0.
 #[derive(Clone, Copy, PartialEq, Eq, Debug)]
 pub enum WordFault {
     /// There are no words.
@@ -101,7 +101,7 @@ pub enum WordFault {
     NoValue(usize),
     /// The value of the option, or the word itself, isn't allowed.
     BadValue(usize),
-    /// The command needs one more word.
+    /// The command takes one word more.
     MissingWord,
     /// The command takes no further word.
     ExtraWord(usize),
@@ -110,7 +110,7 @@ pub enum WordFault {
 }
 
 impl WordFault {
-    /// The name of the fault in the reason line.
+    /// The name by which a reason names the fault.
     pub fn name(self) -> &'static str
         ensures { result.now ≡ fault_name self }
     {

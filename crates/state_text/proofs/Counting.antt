@@ -1,5 +1,5 @@
 -- Threads counted one after the other.
-use Rattle.std.proofs.Common.{◌≡◌, ℕ, ◌+◌, ◌≤◌, true, false, cond, Bool, not, ◌&&◌, List, ◌∷◌, refl, ap, arith}
+use Rattle.std.proofs.Common.{◌≡◌, ℕ, ◌+◌, ◌≤◌, false, cond, Bool, not, ◌&&◌, List, [], ◌∷◌, refl, ap, ◌∙◌, arith}
 use Rattle.std.specs.Prelude.{Some, None, map as each, count_by}
 use Rattle.std.specs.FinMap as map
 use Rattle.std.specs.FinMap.{FinMap, entries}
@@ -62,9 +62,9 @@ module _ (p : ProgramParts) (m : FinMap nat_cmp Expr) where
   none_so_far none = record {
     left = entries m;
     is_left = all_left m none;
-    ended = omega arith;
-    faulted = omega arith;
-    waiting = omega arith;
+    ended = refl;
+    faulted = refl;
+    waiting = refl;
     few_ended = omega arith;
     few_faulted = omega arith;
     few_waiting = omega arith;

@@ -13,10 +13,10 @@ pub fn all_ended(state: &PlainState) -> bool
 {
     let mut last = 0;
     while let Some((t, e)) = state.thread_after(last) {
-        match e.look() {
-            Look::Done => last = t.0,
-            _ => return false,
+        if e.look() != Look::Done {
+            return false;
         }
+        last = t.0;
     }
     true
 }

@@ -1,5 +1,5 @@
 //! What a run shows that ends in a state.
-ghost use Rattle.std.specs.Prelude.{◌≡◌, ◌≤◌, ◌++◌, IfOk, None, OnOk, drop, length, map as each, take};
+ghost use Rattle.std.specs.Prelude.{◌≡◌, ◌≤◌, ◌++◌, IfOk, None, OnOk, length, map as each, take};
 ghost use Rattle.std.specs.FinMap as map;
 ghost use Rattle.std.specs.List.{flat_map};
 ghost use Rattle.stab_base.specs.Printed.{printed};
@@ -28,17 +28,10 @@ pub fn rest_text(
         ≡ value_lines state.now.program (take before state.now.state.output) ++ text.items) }
 {
     let mut text = Vec::new(alloc);
-    put_values(texts, behind(state.printed(), before), &mut text)?;
+    put_values(texts, &state.printed()[before..], &mut text)?;
     put_faults(alloc, state, &mut text)?;
     put_counts(alloc, state, &mut text)?;
     Ok(text)
-}
-
-fn behind(values: &[Value], before: usize) -> &[Value]
-    requires { before ≤ length values.now }
-    ensures { result.now ≡ drop before values.now }
-{
-    &values[before..]
 }
 
 // Each value on a line.

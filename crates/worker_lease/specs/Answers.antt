@@ -32,8 +32,7 @@ pub record IsAtRest (job : JobParts) (events : List Event) : Type 0 where
   pub stands : StandsFor job.program events (run_of events) state
   pub quiet : IsQuiet (language_of job.program) state
 
--- a control that is lent fits the program; at Quiet no thread can step, at Spent the fuel is used up, at Release values are due;
--- Idle says nothing
+-- a control that is lent fits the program; at Quiet no thread can step, at Spent the fuel is used up, at Release values are due
 abbrev pub TurnFits : JobParts → List Event → Turn → Type 0
 TurnFits job events (Work lease control) = Fits job.program control
 TurnFits job events Idle = Unit {0}
@@ -41,8 +40,7 @@ TurnFits job events Quiet = IsAtRest job events
 TurnFits job events Spent = job.fuel ≤ weight_of events
 TurnFits job events Release = 0 < due events
 
--- what a lease says is true; a commit made no release; what was released is the last event, or nothing was due; a lease that was given
--- back, and want of memory, say nothing
+-- a commit made no release
 abbrev pub Says : JobParts → List Event → DeskAnswer → Type 0
 Says job events (answer.Turn (Ok turn)) = TurnFits job events turn
 Says job events (answer.Turn (Err none)) = Unit {0}

@@ -1,4 +1,4 @@
--- What the book that a floor leaves shows, by what the first pass has seen.
+-- What the book shows that is left of a floor, by what the first pass has seen.
 use Rattle.std.proofs.Common.{◌≡◌, ◌⊎◌, inl, inr, ℕ, zero, suc, ◌+◌, ◌≤◌, true, cond, nat_eq, List, [], ◌∷◌, ◌++◌, length, take, refl, sym, ap, subst, ◌∙◌, append-nil, append_assoc, length-append, arith}
 use Rattle.std.specs.Prelude.{filter}
 use Rattle.std.specs.Cmp.{nat_eq_equiv}
@@ -77,7 +77,7 @@ releases rs = filter (λ (r : Recorded). is_release r.event.what) rs
 own_at_one : (q : ℕ) (e : Event) → e.worker ≡ 1 → own_at 1 q e ≡ record { seq = record { 0 = q }; event = e } ∷ []
 own_at_one q e is = ap (λ b. cond {A = List Recorded} b (record { seq = record { 0 = q }; event = e } ∷ []) []) (ap (λ n. nat_eq n 1) is ∙ nat_eq_equiv.refl 1)
 
--- an event of worker 1 comes after no release except those that were written
+-- an event of worker 1 stands behind no release but those that were written
 module _ (job : JobParts) (b : BookView) (shown : IsShown b) (same : b.job ≡ job) (by_one : AreByOne b.history.events) (old seen : List Event) (begun : IsBegun job old) (grows : IsPrefix old b.history.events) (mine : own 1 b.history.events ≡ own 1 seen)
     (last first : List Event) (k : ℕ) (seen_is : seen ≡ last ++ event 1 (Release k) ∷ []) (known : own_releases 1 last ≡ own_releases 1 old) (e : Event) (after : List Event) (split : b.history.events ≡ first ++ e ∷ after) (is_one : e.worker ≡ 1) where
   own_front : IsPrefix (own 1 first) (own 1 last)

@@ -1,26 +1,23 @@
 -- The first of some passes.
-use Rattle.std.proofs.Common.{◌≡◌, inl, inr, Bool, false, IsTrue, ℕ, ◌<◌, List, [], ◌∷◌, ◌++◌, length, map, refl, sym, ap, subst, ◌∙◌, arith}
+use Rattle.std.proofs.Common.{◌≡◌, ℕ, ◌<◌, List, [], ◌∷◌, ◌++◌, length, map, refl, sym, ap, subst, ◌∙◌, arith}
 use Rattle.std.specs.Prelude.{slice_index_or, slice_set}
-use Rattle.std.specs.List.{Any}
-use Rattle.std.proofs.lemmas.Bool.{false≢true}
 use mathlib.Core.List.{IsPrefix}
 use Rattle.stab_code.specs.JobParts.{JobParts}
 use Rattle.stab_journal.specs.declared.event.Event.{Event}
 use Rattle.turn_floor.specs.Parts.{AreAll, FloorParts, PassParts}
 use Rattle.turn_floor.proofs.Histories.{prefix_more}
 use Rattle.worker_lease.specs.declared.worker.WorkEnd.{WorkEnd}
-use Rattle.worker_lease.specs.declared.worker.WorkEnd.TheVariants as ends
 use Rattle.worker_lease.specs.Answers.{IsHistoryOf}
 use Rattle.worker_lease.specs.Releases.{own_releases, released_text}
 use Rattle.worker_lease.specs.Rounds.{AreRounds}
-use Rattle.worker_lease.specs.Working.{EndFits, IsBegun, IsRound}
+use Rattle.worker_lease.specs.Working.{IsBegun, IsRound}
 use Rattle.worker_lease.proofs.Released.{text_stays}
 use Rattle.worker_lease.proofs.Rounding.{LeftAs, all_set}
 use Rattle.worker_rounds.specs.declared.rounds.Next.{Next}
 use Rattle.worker_rounds.specs.declared.rounds.Next.TheVariants.{Again, Over, Stopped}
 use Rattle.worker_rounds.specs.declared.rounds.Stop.TheVariants.{SinkFault, NoMemory}
 use Rattle.sink_lines.specs.Device.{Device}
-use Rattle.worker_rounds.specs.Rounds.{HasWritten, IsUsedUp, NextSays, first_seen}
+use Rattle.worker_rounds.specs.Rounds.{HasWritten, NextSays, first_seen}
 use Rattle.worker_rounds.proofs.Written.{wrote_nothing}
 
 -- what a round leaves of the first pass: it released nothing
@@ -61,27 +58,10 @@ module _ {X : Type 0} (f : X → PassParts) (e : X → WorkEnd) where
       let same : own_releases 1 (f y).seen ≡ own_releases 1 (f x).seen = subst (λ w. own_releases w (f y).seen ≡ own_releases w (f x).seen) one r.later.releases in
       record { history = r.history; grows = r.later.grows; same = same; text = text_stays job (f x).seen (f y).seen begun r.history r.later.grows same }
 
--- what a test says that is false
-pub never : {P : Type 0} (b : Bool) → b ≡ false → (P → IsTrue b) → P → ⊥
-never b is so p = false≢true (sym is ∙ so p)
-
--- worker 1's round ended neither for a release nor for want of memory
-module _ {X : Type 0} (f : X → PassParts) (e : X → WorkEnd) where
-  pub used_up : (job : JobParts) (xs ys : List X) → AreRounds job f e xs ys → 0 < length xs → (Any (λ y. e y ≡ ends.NoMemory) ys → ⊥) → (Any (λ y. e y ≡ ends.Release) ys → ⊥) → IsUsedUp job (first_seen (map f ys))
-  used_up job [] ys rounds some fed calm = absurd (omega (arith, some))
-  used_up job (x ∷ xs) [] rounds some fed calm = let m = rounds.as_many in absurd (omega (arith, m))
-  used_up job (x ∷ xs) (y ∷ ys) rounds some fed calm = by (e y) refl (rounds.each 0 x (omega arith)).says
-    where
-      by : (end : WorkEnd) → e y ≡ end → EndFits end job (f y).seen → IsUsedUp job (f y).seen
-      by ends.Quiet is says = inl says
-      by ends.Spent is says = inr says
-      by ends.Release is says = absurd (calm (0, y, omega arith, refl, is))
-      by ends.NoMemory is says = absurd (fed (0, y, omega arith, refl, is))
-
--- what a release says after such a round
+-- what a release says behind such a round
 pub next_from : (n : Next) (job : JobParts) (old mid new : List Event) (sink after : Device (List ℕ)) → IsFirstRound job old mid → NextSays n job mid new sink after → NextSays n job old new sink after
 next_from Again job old mid new sink after round says = record { text = says.text; gains = says.gains; released = says.released ∙ ap (λ l. l ++ says.text) round.text }
-next_from Over job old mid new sink after round says = (record { text = says.0.text; gains = says.0.gains; released = says.0.released ∙ ap (λ l. l ++ says.0.text) round.text }, says.1)
+next_from Over job old mid new sink after round says = record { text = says.text; gains = says.gains; released = says.released ∙ ap (λ l. l ++ says.text) round.text }
 next_from (Stopped NoMemory) job old mid new sink after round says = record { text = says.text; gains = says.gains; released = says.released ∙ ap (λ l. l ++ says.text) round.text }
 next_from (Stopped SinkFault) job old mid new sink after round says = record {
   text = says.text;

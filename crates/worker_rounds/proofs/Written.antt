@@ -11,7 +11,7 @@ use Rattle.worker_rounds.specs.declared.rounds.Stop.{Stop}
 use Rattle.worker_rounds.specs.declared.rounds.Stop.TheVariants.{SinkFault, NoMemory}
 use Rattle.worker_rounds.specs.Rounds.{HasWritten, NextSays, RoundsSay}
 
--- one more round
+-- a round more
 pub gains_round : (job : JobParts) (old new : List Event) (sink between after : Device (List ℕ)) → Gains sink between (released_text job old) → HasWritten job old new between after → Gains sink after (released_text job new)
 gains_round job old new sink between after gains wrote = subst (Gains sink after) (sym wrote.released) (gains_on sink between after (released_text job old) wrote.text gains wrote.gains)
 

@@ -1,4 +1,4 @@
-pub mod Rounds
 pub mod Releases
-pub mod Left
+pub mod Rounds
+pub mod Closed
 pub mod Shared

@@ -1,6 +1,5 @@
--- What was written of a run when it stopped.
+-- What of a run was written when it stopped.
 use Rattle.std.specs.Prelude.{◌≡◌, ℕ, List, ◌∷◌, ◌++◌, take, Option, Some, None}
-use mathlib.Core.List.{IsPrefix}
 use Rattle.stab_base.specs.Gain.{SomePrefix}
 use Rattle.stab_code.specs.Program.{ProgramParts}
 use Rattle.stab_files.specs.Count.{Rose}
@@ -14,30 +13,25 @@ use Rattle.book_text.specs.Written.{released_lines}
 use Rattle.sink_lines.specs.Device.{Device, Gains}
 use Rattle.worker_rounds.specs.declared.rounds.Stop.{Stop}
 use Rattle.worker_rounds.specs.declared.rounds.Stop.TheVariants.{SinkFault, NoMemory}
-use Rattle.worker_rounds.specs.Rounds.{IsUsedUp}
 
--- the lines of the values that the first events released, out of the output of this state
+-- the lines of the values that the first events released, of what the run printed that ends in the state
 abbrev pub first_lines : ProgramParts → PlainState → List Event → List ℕ
 first_lines p state first = value_lines p (take (released first) state.output)
 
--- the piece begins with the lines of every release after which there is an event of worker 1
+-- the piece begins with the lines of every release behind which there is an event of worker 1
 abbrev pub HasReleases : BookView → PlainState → List ℕ → Type 0
 HasReleases book state piece =
     (first after : List Event) (e : Event) → book.history.events ≡ first ++ e ∷ after → e.worker ≡ 1
     → (more : List ℕ) × (piece ≡ first_lines book.job.program state first ++ more)
 
--- All lines that were released were written; or, if the sink failed, a prefix of them was, which has those of the releases above.
+-- The sink gained the lines that were released; or, where they couldn't be written, a prefix of them.
 abbrev pub StopSays : Stop → BookView → PlainState → Device (List ℕ) → Device (List ℕ) → Type 0
 StopSays SinkFault book state sink after =
     SomePrefix (λ front. Appends sink.told after.told front × HasReleases book state front) (released_lines book)
     × Rose sink.faults after.faults
 StopSays NoMemory book state sink after = Gains sink after (released_lines book)
 
--- at some moment nothing was left to do
-abbrev pub WasUsedUp : BookView → Type 0
-WasUsedUp book = (front : List Event) × IsPrefix front book.history.events × IsUsedUp book.job front
-
--- where the run wasn't stopped, it came to such a moment, and all that was released was written
+-- where the run wasn't stopped, all that was released was written
 abbrev pub EndSays : Option Stop → BookView → PlainState → Device (List ℕ) → Device (List ℕ) → Type 0
-EndSays None book state sink after = Gains sink after (released_lines book) × WasUsedUp book
+EndSays None book state sink after = Gains sink after (released_lines book)
 EndSays (Some stop) book state sink after = StopSays stop book state sink after

@@ -1,12 +1,10 @@
--- Rounds of several workers, by what the first pass has seen: when they end, and what they write.
-use Rattle.std.specs.Prelude.{◌≡◌, ◌⊎◌, ◌≤◌, ℕ, List, [], ◌∷◌, ◌++◌, Option, Some, None}
+-- What rounds of several workers write, by what the first pass has seen.
+use Rattle.std.specs.Prelude.{◌≡◌, ℕ, List, [], ◌∷◌, ◌++◌, Option, Some, None}
 use mathlib.Core.List.{IsPrefix}
 use Rattle.stab_code.specs.JobParts.{JobParts}
 use Rattle.stab_journal.specs.declared.event.Event.{Event}
 use Rattle.turn_floor.specs.Parts.{PassParts}
 use Rattle.sink_lines.specs.Device.{Device, Gains, GainsPrefix}
-use Rattle.stab_journal.specs.Event.{weight_of}
-use Rattle.worker_lease.specs.Answers.{IsAtRest}
 use Rattle.worker_lease.specs.Releases.{IsReleaseOf, own_releases, released_text}
 use Rattle.worker_lease.specs.Working.{IsBegun}
 use Rattle.worker_rounds.specs.declared.rounds.Next.{Next}
@@ -19,7 +17,7 @@ abbrev pub first_seen : List PassParts → List Event
 first_seen [] = []
 first_seen (p ∷ ps) = p.seen
 
--- the lines of what was released since `old` were written
+-- the sink gained the lines that were released since
 pub record HasWritten (job : JobParts) (old new : List Event) (sink after : Device (List ℕ)) : Type 0 where
   pub text : List ℕ
   pub gains : Gains sink after text
@@ -35,17 +33,13 @@ pub record IsCut (job : JobParts) (old new : List Event) (sink after : Device (L
   pub all : released_text job new ≡ released_text job old ++ text
   pub cut : GainsPrefix sink after text
 
--- nothing is left to do: no thread can step, or the fuel is used up
-abbrev pub IsUsedUp : JobParts → List Event → Type 0
-IsUsedUp job seen = IsAtRest job seen ⊎ (job.fuel ≤ weight_of seen)
-
 abbrev pub NextSays : Next → JobParts → List Event → List Event → Device (List ℕ) → Device (List ℕ) → Type 0
 NextSays Again job old new sink after = HasWritten job old new sink after
-NextSays Over job old new sink after = HasWritten job old new sink after × IsUsedUp job new
+NextSays Over job old new sink after = HasWritten job old new sink after
 NextSays (Stopped NoMemory) job old new sink after = HasWritten job old new sink after
 NextSays (Stopped SinkFault) job old new sink after = IsCut job old new sink after
 
--- the lines of all releases except the last were written, and a part of the last one's
+-- the lines of all releases but the last were written, and a part of the last one's
 pub record IsCutAfter (job : JobParts) (seen : List Event) (sink after : Device (List ℕ)) : Type 0 where
   pub old : List Event
   pub between : Device (List ℕ)
@@ -54,6 +48,6 @@ pub record IsCutAfter (job : JobParts) (seen : List Event) (sink after : Device 
   pub cut : IsCut job old seen between after
 
 abbrev pub RoundsSay : Option Stop → JobParts → List Event → Device (List ℕ) → Device (List ℕ) → Type 0
-RoundsSay None job seen sink after = Gains sink after (released_text job seen) × IsUsedUp job seen
+RoundsSay None job seen sink after = Gains sink after (released_text job seen)
 RoundsSay (Some NoMemory) job seen sink after = Gains sink after (released_text job seen)
 RoundsSay (Some SinkFault) job seen sink after = IsCutAfter job seen sink after

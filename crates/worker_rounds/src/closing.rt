@@ -1,21 +1,27 @@
 //! The book that several workers leave.
-ghost use Rattle.commit_book.specs.Book.{IsShown};
-ghost use Rattle.commit_book.specs.Counts.{in_state};
-ghost use Rattle.commit_book.specs.Turns.{IsRecalled};
-ghost use Rattle.std.specs.Prelude.{◌≡◌};
-ghost use Rattle.thread_slots.specs.declared.state.State.TheVariants.{Leased};
-ghost use Rattle.worker_lease.specs.Releases.{AreByOne};
+ghost use Rattle.std.specs.Prelude.{◌≡◌, ◌≤◌};
+ghost use Rattle.turn_floor.specs.Parts.{AreAll};
+ghost use Rattle.worker_lease.specs.Working.{IsBegun};
+ghost use Rattle.worker_rounds.specs.Closed.{IsClosed};
+ghost use Rattle.worker_rounds.specs.Rounds.{first_seen};
 
 use commit_book::Book;
+use std::sync::ledger::Ledger;
+use turn_floor::{Floor, Pass};
 use worker_lease::Desk;
 
-/// The book of a desk. Nobody has a lease.
-pub fn recalled(desk: Desk) -> Book
-    ensures recalled { IsRecalled desk result }
-    ensures shown { IsShown result }
-    ensures free { in_state Leased result ≡ 0 }
-    ensures by_one { AreByOne result.history.events }
+/// The book, once all passes are given back. Nobody has a lease.
+pub(crate) fn finish<C: Ledger, S: Ledger>(
+    floor: Floor<Desk, C, S>,
+    passes: Vec<Pass<Desk, C, S>>,
+) -> Book
+    requires all { AreAll floor passes.items }
+    requires parts { (C.parts ≡ floor.start.workers) × (S.parts ≡ floor.start.workers) }
+    requires begun { IsBegun floor.start.job (first_seen passes.items) }
+    requires some { 1 ≤ floor.start.workers }
+    ensures { IsClosed floor.start (first_seen passes.items) result }
 {
+    let (desk, _tally) = floor.close(passes);
     let mut book = desk.into_book();
     book.recall();
     book

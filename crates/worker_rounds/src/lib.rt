@@ -1,10 +1,9 @@
-//! A run by several workers: rounds of threads, the releases between them, and the lines that these write.
+//! A run by several workers: rounds, each in threads, and the lines of what is released between them.
 #![tactic(auto)]
 
 mod closing;
 mod rounds;
 mod shared;
 
-pub use closing::recalled;
 pub use rounds::{Stop, play_rounds};
-pub use shared::{Left, Shared, run_shared, run_state};
+pub use shared::{Shared, run_shared};

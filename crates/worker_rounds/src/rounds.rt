@@ -20,9 +20,9 @@ use worker_lease::{Cell, Gate, HasJob, OnDesk, WorkEnd, release, run_round};
 /// Why a run stopped before its end.
 #[derive(Clone, Copy, PartialEq, Eq, Debug)]
 pub enum Stop {
-    /// Writing the lines of a release failed.
+    /// The lines of what was released couldn't be written.
     SinkFault,
-    /// The memory for the next turn, for what is released, or for the floor and its passes isn't there.
+    /// The memory for the next turn, or for what is released, isn't there.
     NoMemory,
 }
 
@@ -34,8 +34,8 @@ pub(crate) enum Next {
     Stopped(Stop),
 }
 
-/// Plays rounds until no worker ends one for a release, or memory runs out, or the lines of a release can't be written. The lines
-/// are written as they are released, one `put` per line. Returns why it was stopped, if it was. It may wait.
+/// Rounds until no worker ends for a release, or one wants memory, or the lines of a release can't be written. The lines are
+/// written as they are released, one put a line. It may wait.
 pub fn play_rounds<
     R: Threads + Wait + Sync,
     D: OnDesk + Send + Drop,
@@ -72,7 +72,7 @@ pub fn play_rounds<
     unreachable!()
 }
 
-// One round, and the release for which it ended, if it did.
+// A round, and the release that it ended for.
 fn play_round<
     R: Threads + Wait + Sync,
     D: OnDesk + Send + Drop,
@@ -109,14 +109,14 @@ fn play_round<
     write_due(rt, alloc, floor, &mut cells[0].pass, sink)
 }
 
-// Whether one of the workers ended its round with this end.
+// Whether one of the workers ended its round so.
 fn has_ended<D: OnDesk, C: Ledger, S: Ledger>(cells: &[Cell<D, C, S>], end: WorkEnd) -> bool
     ensures { IsTrue result ↔ Any (λ c. c.end ≡ end) cells.now }
 {
     cells.iter().any(|cell| cell.end == end)
 }
 
-// Releases what is due through the first worker's pass, and writes the lines.
+// Releases what is due through the first worker's pass, and writes its lines.
 fn write_due<R: Wait, D: OnDesk, C: Ledger, S: Ledger, K: Sink>(
     rt: &R,
     alloc: Global,

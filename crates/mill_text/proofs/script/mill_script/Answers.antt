@@ -3,7 +3,7 @@ use Rattle.std.proofs.lemmas.List.FromFn.{map-range_with_len_more}
 use Rattle.mill_text.specs.Mill.{mill_script, probe_number}
 use Rattle.mill_text.proofs.script.mill_script.Goals as goal
 
--- one more number
+-- one number more
 mill_script-more : (n : ℕ) → mill_script (n + 1) ≡ mill_script n ++ probe_number (n + 1) ∷ []
 mill_script-more n = map-range_with_len_more probe_number 1 n (n + 1) (omega arith)
 

@@ -1,4 +1,4 @@
--- The three pieces, with the number after the first two, are the text.
+-- The three pieces, with the number behind the first two, are the text.
 use Rattle.std.proofs.Common.{codes, decimal}
 use Rattle.std.proofs.lemmas.Result.{err_from_is_err_and, on_err_weaker, on_ok_weaker}
 use Rattle.mill_text.specs.Mill.{functions}

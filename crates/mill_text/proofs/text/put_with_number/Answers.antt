@@ -1,4 +1,4 @@
--- What was appended before memory ran out is a prefix of the piece and the number.
+-- What was appended before memory gave out is a prefix of the piece and the number.
 use Rattle.std.proofs.Common.{◌≡◌, decimal}
 use Rattle.std.proofs.lemmas.Result.{err_from_is_err_and, on_err_weaker}
 use Rattle.stab_base.proofs.GainLemmas.{GainsPrefix-append, GainsPrefix-after}

@@ -10,5 +10,5 @@ returns-in-Ok g c =
       c.in-Ok.given.program,
       c.in-Ok.ensures.program,
       subst (λ script. RunEnds (AsReleased (milled_by c.args.args.now.size)) c.args.args.now.workers outcome.report.status (job_of c.in-Ok.given.program script c.args.args.now.fuel c.args.args.now.quantum) outcome)
-          c.in-Ok.ensures.script c.run_program.ensures.ends,
+          c.in-Ok.ensures.script c.run_program.ensures,
     )

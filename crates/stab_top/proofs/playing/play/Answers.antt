@@ -29,7 +29,7 @@ loop-sink-preserved g c =
           inv.3 c.round.new.lines.items c.in-Released.ensures.lines written,
     )
 
--- what one more run leaves
+-- what one run more leaves
 pub returns-in-Err-Failed-clause-later : goal.returns-in-Err-Failed-clause-later
 returns-in-Err-Failed-clause-later g c = later_again c.args.book.now c.loop-sink.book c.round.new.book c.loop-sink.invariant.1 c.in-Released.ensures.later
 

@@ -1,4 +1,4 @@
--- The words pushed so far and those still to come are the arguments.
+-- What was pushed and what is still to come are the arguments.
 use Rattle.std.proofs.Common.{◌≡◌, ◌++◌}
 use Rattle.std.specs.Vec.Iter.{into_iter_items, into_iter_len}
 use Rattle.stab_top.proofs.program.all.Given as goal

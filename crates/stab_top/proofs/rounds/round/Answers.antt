@@ -15,7 +15,7 @@ use Rattle.stab_top.proofs.rounds.round.Goals as goal
 nothing : (old new : List ℕ) (lines : List ℕ) → new ≡ old → lines ≡ [] → new ≡ old ++ lines
 nothing old new lines same none = same ∙ sym (ap (λ l. old ++ l) none ∙ append-nil old)
 
--- what was due at the end of the run was released, or memory ran out
+-- what was due at the end of the run was released, or memory was wanted
 after_run : (old last new : BookView) (end : RoundEnd) → IsLater old last → IsRun ends.Due old last → IsUnlent last → 0 < due last.history.events → ReleaseSays end last new → RoundSays end old new
 after_run old last new Released later run unlent some says =
     (record { last = last; run = run; unlent = unlent; released = says.0 }, nearer old last new later run some says.0)

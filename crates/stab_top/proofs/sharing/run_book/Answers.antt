@@ -9,6 +9,9 @@ use Rattle.stab_top.proofs.sharing.run_book.Goals as goal
 pub play_on-requires : goal.play_on-requires
 play_on-requires g c = start_unlent c.args.book c.requires.starts
 
+pub run_shared-book-requires-clause-free : goal.run_shared-book-requires-clause-free
+run_shared-book-requires-clause-free g c = (start_unlent c.args.book c.requires.starts).free
+
 -- ---- one worker
 
 pub returns-then-workers-eq1-clause-over : goal.returns-then-workers-eq1-clause-over

@@ -1,5 +1,5 @@
 use Rattle.std.proofs.Common.{refl, sym, ◌∙◌}
-use Rattle.stab_words.specs.declared.request.Request.TheVariants.{Run, Trace, Mill, Verify, Drill, Check, Types, Watch}
+use Rattle.stab_words.specs.declared.request.Request.TheVariants.{Run, Trace, Mill, Verify, Drill, Check, Types, Save}
 use Rattle.stab_top.proofs.Wording.{said_built}
 use Rattle.stab_top.proofs.top.answer_request.Goals as goal
 
@@ -31,6 +31,6 @@ pub returns-in-Types-clause-says : goal.returns-in-Types-clause-says
 returns-in-Types-clause-says g c =
     said_built c.args.request.now (Types c.in-Types.file) _ c.in-Types.is (sym c.is_built.ensures ∙ c.if-not-is_built.false) c.types_file.ensures.says
 
-pub returns-in-Watch-clause-says : goal.returns-in-Watch-clause-says
-returns-in-Watch-clause-says g c =
-    said_built c.args.request.now (Watch c.in-Watch.args) _ c.in-Watch.is (sym c.is_built.ensures ∙ c.if-not-is_built.false) c.watch_file.ensures.says
+pub returns-in-Save-clause-says : goal.returns-in-Save-clause-says
+returns-in-Save-clause-says g c =
+    said_built c.args.request.now (Save c.in-Save.args) _ c.in-Save.is (sym c.is_built.ensures ∙ c.if-not-is_built.false) c.save_file.ensures.says

@@ -3,7 +3,7 @@ use Rattle.std.specs.Prelude.{slice_index_or}
 use Rattle.sink_lines.specs.Device.{device}
 use Rattle.worker_lease.specs.Answers.{IsHistoryOf}
 use Rattle.worker_rounds.specs.Rounds.{NextSays, first_seen}
-use Rattle.worker_rounds.proofs.First.{all_first, first_floor, first_is, first_round, first_set, first_worker, never, next_from, used_up, wrote_none}
+use Rattle.worker_rounds.proofs.First.{all_first, first_floor, first_is, first_round, first_set, first_worker, next_from, wrote_none}
 use Rattle.worker_rounds.proofs.rounds.play_round.Goals as goal
 
 pub returns-then-has_ended-clause-history : goal.returns-then-has_ended-clause-history
@@ -20,11 +20,9 @@ returns-then-not-has_ended-clause-history g c =
     (first_round (λ c. c.pass) (λ c. c.end) c.args.floor.now.start.job c.args.floor.now c.args.cells.now c.run_round.new.cells c.requires.all c.run_round.ensures.rounds c.requires.some c.requires.begun).history
 
 pub returns-then-not-has_ended-clause-says : goal.returns-then-not-has_ended-clause-says
-returns-then-not-has_ended-clause-says g c = (
-  wrote_none c.args.floor.now.start.job _ _ (device g.K.Sink.told g.K.Sink.faults c.args.sink.now)
-      (first_round (λ c. c.pass) (λ c. c.end) c.args.floor.now.start.job c.args.floor.now c.args.cells.now c.run_round.new.cells c.requires.all c.run_round.ensures.rounds c.requires.some c.requires.begun),
-  used_up (λ c. c.pass) (λ c. c.end) c.args.floor.now.start.job c.args.cells.now c.run_round.new.cells c.run_round.ensures.rounds c.requires.some (never _ c.if-has_ended.false c.has_ended.ensures.1) (never _ c.if-not-has_ended.true c.has_ended-2.ensures.1),
-)
+returns-then-not-has_ended-clause-says g c =
+    wrote_none c.args.floor.now.start.job _ _ (device g.K.Sink.told g.K.Sink.faults c.args.sink.now)
+    (first_round (λ c. c.pass) (λ c. c.end) c.args.floor.now.start.job c.args.floor.now c.args.cells.now c.run_round.new.cells c.requires.all c.run_round.ensures.rounds c.requires.some c.requires.begun)
 
 pub write_due-requires-clause-own : goal.write_due-requires-clause-own
 write_due-requires-clause-own g c =

@@ -1,12 +1,12 @@
 use Rattle.std.proofs.Common.{◌≡◌, false, [], sym, ◌∙◌, ap, subst, rules}
 use Rattle.crossbeam_utils.specs.Seq.{cell_view}
 use Rattle.stab_watch.specs.Board.{Loaded}
-use Rattle.stab_watch.specs.Counts.{StartsWith, last_words}
+use Rattle.stab_watch.specs.Counts.{last_words}
 use Rattle.stab_watch.specs.Known.{known, both}
 use Rattle.stab_watch.specs.Passes.{writer_of}
 use Rattle.stab_watch.specs.declared.view.Known.{Known}
 use Rattle.stab_watch.proofs.Keeps.{loads, moves, takes}
-use Rattle.stab_watch.proofs.Showing.{gathered, gathered_front}
+use Rattle.stab_watch.proofs.Showing.{gathered}
 use Rattle.stab_watch.proofs.board.Board.gather.Goals as goal
 
 pub split_pass-moved-requires : goal.split_pass-moved-requires
@@ -48,12 +48,3 @@ returns-clause-shown g c = λ events has.
     let joined : cell_view c.join_pass.new.pass ≡ both v (known false seen []) = c.join_pass.ensures.1 ∙ ap (both v) c.split_pass-moved.ensures.given.1 in
     let l : Loaded (both v (known false seen [])) c.load_as.result u = subst (λ (k : Known). Loaded k c.load_as.result u) joined c.load_as.ensures.rule in
     gathered events _ v u seen _ _ c.load_as.result c.writer.invariant.0 (ap (λ w. w.shown) c.writer.view_is) has l c.reader.invariant
-
-pub returns-clause-front : goal.returns-clause-front
-returns-clause-front g c =
-    let v = cell_view c.writer.inside.pass in
-    let seen = (cell_view c.reader.inside.pass).seen in
-    let u = cell_view c.load_as.new.pass in
-    let joined : cell_view c.join_pass.new.pass ≡ both v (known false seen []) = c.join_pass.ensures.1 ∙ ap (both v) c.split_pass-moved.ensures.given.1 in
-    let l : Loaded (both v (known false seen [])) c.load_as.result u = subst (λ (k : Known). Loaded k c.load_as.result u) joined c.load_as.ensures.rule in
-    subst (λ r. StartsWith c.args.writer.now.shown r.seen) c.reader.view_is (gathered_front c.args.writer.now v u seen c.load_as.result c.writer.invariant.0 (ap (λ w. w.shown) c.writer.view_is) l)
