@@ -4,4 +4,6 @@
 #[cfg(test)]
 mod gates;
 #[cfg(test)]
+mod stab_gate;
+#[cfg(test)]
 mod tests;

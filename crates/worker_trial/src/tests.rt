@@ -8,6 +8,7 @@ use commit_book::Book;
 use stab_code::Job;
 use stab_files::MemSink;
 use stab_text::read_program;
+use stab_watch::Reading;
 use std::alloc::Global;
 use std::marker::Brand;
 use std::sync::ledger::{Blank, Ledger};
@@ -15,6 +16,7 @@ use std::sync::{Arc, Wait};
 use std::test::Fail;
 use std::thread::Threads;
 use turn_floor::Floor;
+use watched_rounds::run_watched;
 use worker_lease::{Desk, cells_of, passes_of, run_round, turn};
 use worker_rounds::{Shared, run_shared};
 
@@ -86,7 +88,7 @@ fn two_by_name<R: Threads + Wait + Sync>(
 fn gate_two(rt: HostRuntime) -> Result<(), Fail> {
     let gate = GateTwo::new();
     let book = two_by_name(&rt, rt.alloc(), &gate)?;
-    let (first, second, gave_up) = gate.told();
+    let (first, second, gave_up) = gate.visits.told();
     assert_eq!(rt; gave_up, 0);
     assert!(rt; first >= 1);
     assert!(rt; second >= 2);
@@ -94,29 +96,39 @@ fn gate_two(rt: HostRuntime) -> Result<(), Fail> {
     Ok(())
 }
 
-// What so many workers leave of a text, and what they wrote.
-fn shared<R: Threads + Wait + Sync>(
+// Whether so many workers come to the end of a text, write these lines, and leave so many threads that ended, none that is leased or
+// ready, and so many values that were released.
+fn comes_to<R: Threads + Wait + Sync>(
     rt: &R,
     alloc: Global,
     text: &str,
     workers: u32,
-) -> Result<(Shared, Vec<u8>), Fail>
+    lines: &[u8],
+    ended: u64,
+    released: u64,
+) -> Result<bool, Fail>
     requires { IsWorker workers }
 {
     let book = book_of(alloc, text, 1_000_000, 100)?;
     let mut sink = MemSink::new(alloc, 1_000, Vec::new(alloc))?;
     let left = run_shared(rt, alloc, book, workers, &OpenGate, &mut sink);
-    Ok((left, sink.bytes().to_vec(alloc)?))
+    Ok(sink.bytes() == lines && is_left(&left, ended, released))
+}
+
+fn is_left(left: &Shared, ended: u64, released: u64) -> bool {
+    let counts = left.book.counts();
+    left.stop.is_none()
+        && counts.ended == ended
+        && counts.leased == 0
+        && counts.ready == 0
+        && left.book.released() == released
 }
 
 #[test]
 fn releases(rt: HostRuntime) -> Result<(), Fail> {
     for workers in [1, 2, 4, 8] {
-        let (left, lines) = shared(&rt, rt.alloc(), CUTS, workers)?;
-        assert_eq!(rt; left.stop, None);
-        assert_eq!(rt; lines.as_slice(), b"1\n2\n".as_slice());
-        assert_eq!(rt; left.book.released(), 2);
-        assert_eq!(rt; left.book.counts().ended, 1);
+        let comes = comes_to(&rt, rt.alloc(), CUTS, workers, b"1\n2\n", 1, 2)?;
+        assert!(rt; comes);
     }
     Ok(())
 }
@@ -124,11 +136,32 @@ fn releases(rt: HostRuntime) -> Result<(), Fail> {
 #[test]
 fn pairs(rt: HostRuntime) -> Result<(), Fail> {
     for workers in [1, 2, 4, 8, 64] {
-        let (left, lines) = shared(&rt, rt.alloc(), PAIRS, workers)?;
-        assert_eq!(rt; left.stop, None);
-        assert_eq!(rt; lines.len(), 0);
-        let counts = left.book.counts();
-        assert_eq!(rt; (counts.ended, counts.leased, counts.ready), (8, 0, 0));
+        let comes = comes_to(&rt, rt.alloc(), PAIRS, workers, b"", 8, 0)?;
+        assert!(rt; comes);
+    }
+    Ok(())
+}
+
+// The reading of what is left of a run that a board shows.
+fn reading_after<R: Threads + Wait + Sync>(
+    rt: &R,
+    alloc: Global,
+    workers: u32,
+) -> Result<Reading, Fail>
+    requires { IsWorker workers }
+{
+    let book = book_of(alloc, CUTS, 1_000_000, 100)?;
+    let mut sink = MemSink::new(alloc, 1_000, Vec::new(alloc))?;
+    let left = run_watched(rt, alloc, book, workers, &OpenGate, &mut sink);
+    Ok(Reading::of(left.book.history()))
+}
+
+// The weight, the undos and the cuts are those of the eleven events of this text.
+#[test]
+fn watched(rt: HostRuntime) -> Result<(), Fail> {
+    for workers in [1, 2, 4] {
+        let reading = reading_after(&rt, rt.alloc(), workers)?;
+        assert!(rt; reading.weight == 11 && reading.undos == 0 && reading.cuts == 2);
     }
     Ok(())
 }
