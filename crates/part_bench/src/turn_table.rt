@@ -2,6 +2,7 @@
 ghost use Rattle.std.specs.Prelude.{◌≡◌};
 ghost use Rattle.stab_journal.specs.Event.{IsWorker};
 
+use crate::boards::{self, read_alone};
 use crate::table::out_of_memory;
 use crate::turns::{Made, Plan, run, run_bare};
 use std::io;
@@ -23,6 +24,9 @@ const STEPS: [u32; 2] = [120, 2_880];
 /// How many times as much work as in a turn stands beside it.
 const BESIDE: u32 = 3;
 
+/// How many readings are timed.
+const READINGS: u32 = 1_000_000;
+
 fn blank(workers: u32) -> Blank
     ensures { result.parts ≡ workers }
 {
@@ -34,6 +38,20 @@ fn made<R: AllocGlobal + Threads + Wait + Clock + Sync>(rt: &R, plan: Plan) -> i
 {
     let (commits, stale) = (blank(plan.workers), blank(plan.workers));
     run::<Brand, Brand, R>(rt, rt.alloc(), commits, stale, plan).map_err(out_of_memory)
+}
+
+// With a board, while so many readers read it.
+fn made_shown<R: AllocGlobal + Threads + Wait + Clock + Sync>(
+    rt: &R,
+    plan: Plan,
+    readers: u32,
+) -> io::Result<Made>
+    requires { IsWorker plan.workers }
+{
+    let (commits, stale) = (blank(plan.workers), blank(plan.workers));
+    boards::run::<Brand, Brand, R>(rt, rt.alloc(), commits, stale, plan, readers).map_err(
+        out_of_memory,
+    )
 }
 
 // A run of so many workers, which share the timed turns.
@@ -64,6 +82,16 @@ pub fn print_counts<R: AllocGlobal + Threads + Wait + Clock + Print + Sync>(
             },
         )?;
         println!(rt; "workers {workers} commits {}", made.commits)?;
+    }
+    for readers in [0, 2] {
+        let plan = Plan {
+            workers: 1,
+            turns: 1_000,
+            inside: 10,
+            beside: 30,
+        };
+        let made = made_shown(rt, plan, readers)?;
+        println!(rt; "shown to {readers} commits {}", made.commits)?;
     }
     Ok(())
 }
@@ -99,6 +127,35 @@ pub fn print_times<R: AllocGlobal + Threads + Wait + Clock + Print + Sync>(
             bare % 10
         )?;
     }
+    print_shown(rt)
+}
+
+// The same of one worker whose history a board shows, and of a reading.
+fn print_shown<R: AllocGlobal + Threads + Wait + Clock + Print + Sync>(rt: &R) -> io::Result<()> {
+    let free = shown_tenths(rt, plan(1, 0, 0), 0)?;
+    let reading = reading_tenths(rt)?;
+    println!(rt;
+        "a free turn that is shown: {}.{} ns, a reading {}.{}",
+        free / 10,
+        free % 10,
+        reading / 10,
+        reading % 10
+    )?;
+    for inside in STEPS {
+        let plan = plan(1, inside, inside * BESIDE);
+        let alone = shown_tenths(rt, plan, 0)?;
+        let one = shown_tenths(rt, plan, 1)?;
+        let three = shown_tenths(rt, plan, 3)?;
+        println!(rt;
+            "{inside} steps in a turn that is shown: {}.{}, to one reader {}.{}, to three {}.{} ns",
+            alone / 10,
+            alone % 10,
+            one / 10,
+            one % 10,
+            three / 10,
+            three % 10
+        )?;
+    }
     Ok(())
 }
 
@@ -120,4 +177,28 @@ fn bare_tenths<R: AllocGlobal + Clock>(rt: &R, inside: u32, beside: u32) -> io::
         least = least.min(nanos);
     }
     Ok(least.saturating_mul(10) / u64::from(TURNS))
+}
+
+// The tenths of a nanosecond that a shown turn takes, the least of some runs.
+fn shown_tenths<R: AllocGlobal + Threads + Wait + Clock + Sync>(
+    rt: &R,
+    plan: Plan,
+    readers: u32,
+) -> io::Result<u64>
+    requires { IsWorker plan.workers }
+{
+    let mut least = u64::MAX;
+    for _ in 0..TIMED {
+        least = least.min(made_shown(rt, plan, readers)?.nanos);
+    }
+    Ok(least.saturating_mul(10) / u64::from(TURNS))
+}
+
+fn reading_tenths<R: AllocGlobal + Wait + Clock>(rt: &R) -> io::Result<u64> {
+    let mut least = u64::MAX;
+    for _ in 0..TIMED {
+        let nanos = read_alone(rt, rt.alloc(), READINGS).map_err(out_of_memory)?;
+        least = least.min(nanos);
+    }
+    Ok(least.saturating_mul(10) / u64::from(READINGS))
 }
