@@ -1,7 +1,0 @@
-//! Trials of workers that run a book in threads of their own.
-#![tactic(auto)]
-
-#[cfg(test)]
-mod gates;
-#[cfg(test)]
-mod tests;
