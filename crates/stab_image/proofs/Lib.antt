@@ -8,3 +8,9 @@ pub mod Putting
 pub mod Behind
 pub mod BelowNext
 pub mod Bare
+pub mod TextOf
+pub mod LinesOf
+pub mod Again
+pub mod ReadLaws
+pub mod Sounds
+pub mod ReadSteps

@@ -6,3 +6,5 @@ pub mod Found
 pub mod Numbered
 pub mod ImageText
 pub mod Resumed
+pub mod Written
+pub mod Read

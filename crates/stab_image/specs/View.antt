@@ -8,6 +8,7 @@ use Rattle.stab_code.specs.Limits.{max_script}
 use Rattle.stab_text.specs.Text.{IsTextOf}
 use Rattle.journal_laws.specs.Known.{IsExprIn, IsKnown}
 use Rattle.image_laws.specs.Image.{Image, generation_at}
+use Rattle.image_lines.specs.HeadText.{IsLength}
 use Rattle.image_run.specs.Next.{AreBelowNext}
 use Rattle.stab_image.specs.declared.image.Image.TheInside.{Inside}
 use Rattle.image_text.specs.Rising.{IsRising}
@@ -28,10 +29,12 @@ image_of a = record {
   generations = from_entries a.generations.items;
 }
 
--- the text is that of the program, which is the state's, each number is in its range, each channel and reference that occurs in the
--- state is there, those and the threads are below the next ones, and each thread has its generation, in the order of their numbers
+-- the text is that of the program, which is the state's, and as short as one may be, each number is in its range, each channel and
+-- reference that occurs in the state is there, those and the threads are below the next ones, and each thread has its generation, in the
+-- order of their numbers
 pub record IsSound (a : Inside) : Type 0 where
   pub text : IsTextOf a.text.items (arc_value a.program)
+  pub short : IsLength (length a.text.items)
   pub program : a.state.program ≡ arc_value a.program
   pub script : length a.script.items ≤ max_script
   pub used : a.used ≤ max_number

@@ -10,6 +10,7 @@ ghost use Rattle.plain_language.specs.Plain.{standing};
 ghost use Rattle.plain_language.specs.Standing.{event};
 ghost use Rattle.trace_verify.specs.Verdict.{IsOfRun};
 ghost use Rattle.image_laws.specs.Image.{StandsAt};
+ghost use Rattle.image_lines.specs.HeadText.{IsLength};
 ghost use Rattle.image_text.specs.Rising.{IsRising};
 ghost use Rattle.stab_image.specs.Found.{AreFound};
 ghost use Rattle.stab_image.specs.Limits.{max_number};
@@ -33,6 +34,7 @@ pub fn image_at(
     q: Seq,
 ) -> Result<Image, NoMemory>
     requires text { IsTextOf text.now job.now.program }
+    requires short { IsLength (length text.now) }
     requires of_run { IsOfRun job.now.program job.now.script history.now }
     requires small { q.0 ≤ max_number }
     requires cut { (w : ℕ) × (t : Threads) × (event_at history.now.events q.0 ≡ Some (event w (Step (Cut t)))) }

@@ -2,13 +2,17 @@
 #![tactic(auto)]
 
 mod at;
+mod fault;
 mod image;
 mod named;
 mod put;
+mod read;
 mod resuming;
 
 pub use at::image_at;
+pub use fault::ImageFault;
 pub use image::Image;
 pub use image_run::Resumed;
 pub use put::put_image;
+pub use read::read_image;
 pub use resuming::resume;

@@ -5,6 +5,7 @@ use Rattle.stab_code.specs.Limits.{max_script}
 use Rattle.stab_text.specs.Text.{IsTextOf}
 use Rattle.plain_language.specs.Plain.{standing}
 use Rattle.trace_verify.specs.Generations.{times}
+use Rattle.image_lines.specs.HeadText.{IsLength}
 use Rattle.stab_image.specs.Limits.{max_number}
 use Rattle.stab_image.specs.Numbered.{AreBelow}
 use Rattle.stab_image.proofs.BelowNext.{found_few, put_back_few, state_below}
@@ -37,6 +38,7 @@ invariant_of-result c =
     record {
       text = subst (λ (bytes : List ℕ). IsTextOf bytes (arc_value c.in_ok-try_clone.field-0)) (sym c.in_ok-from_slice.ensures.items)
           (subst (IsTextOf c.args.text.now) (sym (c.in_ok-try_clone.ensures ∙ c.program.ensures.value)) c.requires.text);
+      short = subst (λ (bytes : List ℕ). IsLength (length bytes)) (sym c.in_ok-from_slice.ensures.items) c.requires.short;
       program = led.program ∙ sym (c.in_ok-try_clone.ensures ∙ c.program.ensures.value);
       script = subst (λ (ns : List ℤ). length ns ≤ max_script) (sym (c.in_ok-from_slice-2.ensures.items ∙ c.script.ensures.value)) c.script.ensures.limits.script_within;
       used = few_used p script es q c.in_ok-led.led (is_there es q _ c.requires.cut.2) c.requires.small led;
