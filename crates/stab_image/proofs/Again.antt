@@ -1,8 +1,8 @@
 -- The image that the lines of an image make is that image.
-use Rattle.std.proofs.Common.{◌≡◌, ℕ, suc, zero, ◌+◌, ◌-◌, ◌<◌, ◌≤◌, Bool, true, false, cond, List, [], ◌∷◌, ◌++◌, refl, sym, ap, subst, ◌∙◌, arith}
+use Rattle.std.proofs.Common.{◌≡◌, ℕ, suc, zero, ◌+◌, ◌-◌, ◌<◌, ◌≤◌, Bool, true, false, cond, List, [], ◌∷◌, ◌++◌, refl, sym, ap, ◌∙◌, arith}
 use Rattle.std.specs.Prelude.{Some, None, Option, ◌||◌, is_some, map as each, nat_eq, unwrap_or}
 use Rattle.std.specs.List.{cons_option, filter_map, list_any}
-use Rattle.std.specs.Ordering.{eq_by_cmp, nat_cmp}
+use Rattle.std.specs.Ordering.{nat_cmp}
 use Rattle.std.specs.Cmp.{unsigned_tied}
 use Rattle.std.specs.FinMap as map
 use Rattle.std.specs.FinMap.{FinMap, entries, find, from_entries, get-entries, get-from_entries, nat_cmp-IsAntisymmetric, same_map}
@@ -16,14 +16,12 @@ use Rattle.stab_base.specs.Datum.{Datum}
 use Rattle.stab_base.specs.declared.numbers.ChanId.{ChanId}
 use Rattle.stab_base.specs.declared.numbers.RefId.{RefId}
 use Rattle.stab_base.specs.declared.numbers.ThreadId.{ThreadId}
-use Rattle.stab_code.specs.Program.{ProgramParts}
 use Rattle.plain_language.specs.Expression.{Expr}
 use Rattle.plain_language.specs.Plain.{PlainState}
 use Rattle.image_laws.specs.Image.{Image, generation_at}
 use Rattle.image_text.specs.Rising.{those}
-use Rattle.image_lines.specs.Counts.{Counts}
 use Rattle.image_lines.specs.declared.line.Line.{Line}
-use Rattle.image_state.specs.Parts.{Parts, channel_of, generation_of, output_of, parts_of, reference_of, thread_of}
+use Rattle.image_state.specs.Parts.{channel_of, generation_of, output_of, parts_of, reference_of, thread_of}
 use Rattle.image_state.specs.Sound.{state_from}
 use Rattle.image_state.proofs.Listed.{from_entries-entries}
 use Rattle.stab_image.specs.Read.{image_with}

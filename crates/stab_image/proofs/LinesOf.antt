@@ -1,39 +1,37 @@
 -- The lines of the image that lines in order make are these lines.
-use Rattle.std.proofs.Common.{◌≡◌, ℕ, suc, ◌+◌, ◌-◌, ◌<◌, ◌≤◌, Bool, true, false, cond, List, [], ◌∷◌, ◌++◌, refl, sym, ap, subst, ◌∙◌, arith}
-use Rattle.std.specs.Prelude.{Some, None, Option, IfSome, ◌||◌, map as each, nat_eq, unwrap_or}
-use Rattle.std.specs.List.{AllByRecursion, cons_option, filter_map, list_any}
+use Rattle.std.proofs.Common.{◌≡◌, ℕ, suc, ◌-◌, ◌≤◌, cond, List, [], ◌∷◌, ◌++◌, refl, sym, ap, subst, ◌∙◌, arith}
+use Rattle.std.specs.Prelude.{Some, None, Option, IfSome, map as each, nat_eq, unwrap_or}
+use Rattle.std.specs.List.{AllByRecursion, filter_map, list_any}
 use Rattle.std.specs.Ordering.{nat_cmp}
 use Rattle.std.specs.Cmp.{unsigned_tied}
 use Rattle.std.specs.FinMap as map
-use Rattle.std.specs.FinMap.{FinMap, entries, find, from_entries, get-from_entries}
+use Rattle.std.specs.FinMap.{FinMap, entries, find, get-from_entries}
 use Rattle.std.specs.FinSet as set
 use Rattle.std.specs.FinSet.{contains-from_list_nat}
-use Rattle.std.proofs.lemmas.Bool.{eq-eqb, eqb-true, false≢true, ne_eqb}
+use Rattle.std.proofs.lemmas.Bool.{eq-eqb, ne_eqb}
 use Rattle.std.proofs.lemmas.Cmp.{nat_cmp_total}
 use Rattle.stab_base.specs.Datum.{Datum}
 use Rattle.stab_base.specs.declared.numbers.ChanId.{ChanId}
 use Rattle.stab_base.specs.declared.numbers.RefId.{RefId}
 use Rattle.stab_code.specs.Program.{ProgramParts}
-use Rattle.plain_language.specs.Expression.{Expr}
-use Rattle.image_laws.specs.Image.{Image, generation_at}
+use Rattle.image_laws.specs.Image.{Image}
 use Rattle.image_text.specs.Rising.{IsRising, those}
 use Rattle.image_lines.specs.Counts.{Counts}
 use Rattle.image_lines.specs.declared.line.Line.{Line}
 use Rattle.image_lines.specs.declared.line.Line.TheVariants.{Chan, Ref, Out, Thread, End}
 use Rattle.image_lines.specs.LineText.{IsLine}
-use Rattle.image_state.specs.Named.{is_channel}
 use Rattle.image_state.specs.Order.{AreOrdered}
-use Rattle.image_state.specs.Parts.{channel_of, generation_of, output_of, parts_of, reference_of, thread_of}
+use Rattle.image_state.specs.Parts.{channel_of, generation_of, output_of, parts_of, reference_of}
 use Rattle.image_state.specs.Sound.{AreSound}
 use Rattle.image_state.specs.State.{AreOfState, bounds}
-use Rattle.image_state.proofs.Entries.{channel_entry, channels_among, channels_keyed, generations_keyed, reference_entry, references_are, references_keyed, thread_entry, threads_are, threads_keyed}
+use Rattle.image_state.proofs.Entries.{channel_entry, channels_keyed, generations_keyed, reference_entry, references_are, references_keyed, thread_entry, threads_are, threads_keyed}
 use Rattle.image_state.proofs.Fitting.{are_lines, fit_ordered}
-use Rattle.image_state.proofs.Grouped.{by_kinds, chan_line, grouped, joined, out_line, ref_line, row_line, row_of}
+use Rattle.image_state.proofs.Grouped.{by_kinds, chan_line, out_line, ref_line, row_line, row_of}
 use Rattle.image_state.proofs.Listed.{RiseFrom, entries-rising, those_are}
 use Rattle.image_state.proofs.Rises.{rising}
 use Rattle.image_state.proofs.Sounding.{parts_are_sound}
 use Rattle.stab_image.specs.Read.{image_with}
-use Rattle.stab_image.specs.Written.{channel_line, lines_of, next_of, output_line, reference_line, thread_line}
+use Rattle.stab_image.specs.Written.{channel_line, lines_of, output_line, reference_line, thread_line}
 
 -- numbers that rise
 rise_from : (n : ℕ) (es : List (ℕ × ChanId)) → IsRising n es → RiseFrom (suc n) (each (λ (e : ℕ × ChanId). e.0) es)

@@ -1,34 +1,31 @@
 -- What is read as an image is the text of one, and the text of an image is read as that image.
-use Rattle.std.proofs.Common.{◌≡◌, ℕ, ◌+◌, ◌-◌, ◌≤◌, List, [], ◌++◌, length, Result, Ok, Err, refl, sym, ap, subst, ◌∙◌, inl, inr}
-use Rattle.std.specs.Prelude.{◌⊎◌}
-use Rattle.std.specs.List.{AllByRecursion}
+use Rattle.std.proofs.Common.{◌≡◌, ℕ, ◌-◌, List, length, Result, Ok, Err, refl, sym, ap, subst, ◌∙◌, inl, inr}
 use Rattle.stab_code.specs.Program.{ProgramParts}
-use Rattle.stab_text.specs.Text.{HasFault, IsTextOf}
+use Rattle.stab_text.specs.Text.{IsTextOf}
 use Rattle.stab_text.proofs.Reading.{not_both, one_program}
 use Rattle.image_laws.specs.Image.{Image}
 use Rattle.image_lines.specs.declared.body.TextFault.{TextFault}
-use Rattle.image_lines.specs.declared.head.Next.{Next}
 use Rattle.image_lines.specs.declared.line.Line.{Line}
 use Rattle.image_lines.specs.BodyText.{body_text}
 use Rattle.image_lines.specs.Counts.{Counts, counts_in}
-use Rattle.image_lines.specs.CountsText.{AreCounts, IsCounted, IsFound, counts_text}
+use Rattle.image_lines.specs.CountsText.{AreCounts, counts_text}
 use Rattle.image_lines.specs.HeadText.{IsLength}
 use Rattle.image_lines.specs.Opening.{program_in}
 use Rattle.image_lines.specs.OpeningText.{opening}
 use Rattle.image_lines.proofs.CountsLaws.{counts_back, counts_was}
 use Rattle.image_lines.proofs.OpeningLaws.{program_back, program_was}
-use Rattle.image_state.specs.Parts.{Parts, parts_of}
-use Rattle.image_state.specs.State.{AreOfState, IsStateOf, state_in}
+use Rattle.image_state.specs.Parts.{parts_of}
+use Rattle.image_state.specs.State.{AreOfState, state_in}
 use Rattle.image_state.proofs.Sounding.{parts_are_sound}
 use Rattle.image_state.proofs.StateLaws.{state_back, state_was}
 use Rattle.stab_image.specs.declared.fault.ImageFault.{ImageFault}
 use Rattle.stab_image.specs.declared.fault.ImageFault.TheVariants.{BadProgram}
 use Rattle.stab_image.specs.ImageText.{text_of_image}
-use Rattle.stab_image.specs.Read.{Answer, IsRead, IsReadBehind, IsReadFrom, OfNone, OfProgram, counts_read, fault_of, image_with, state_read, with_counts, with_state}
+use Rattle.stab_image.specs.Read.{Answer, IsRead, IsReadBehind, IsReadFrom, OfProgram, counts_read, fault_of, image_with, with_counts, with_state}
 use Rattle.stab_image.specs.Written.{IsImageText, IsRight, lines_of, next_of}
 use Rattle.stab_image.proofs.Again.{image_again}
 use Rattle.stab_image.proofs.LinesOf.{same_lines}
-use Rattle.stab_image.proofs.TextOf.{body_of_image, counts_of_image, text_is}
+use Rattle.stab_image.proofs.TextOf.{counts_of_image, text_is}
 
 no_image : {P : Type 0} (k : ImageFault) (i : Image) → ◌≡◌ {A = Answer} (Ok i) (Err k) → P
 no_image k i h = absurd (let no : ◌≡◌ {A = Answer} (Ok i) (Err k) = h in cc)

@@ -1,5 +1,5 @@
 -- How an image is read, step by step.
-use Rattle.std.proofs.Common.{◌≡◌, ℕ, ◌+◌, ◌-◌, ◌<◌, ◌≤◌, ◌^◌, List, ◌++◌, length, Result, Ok, Err, refl, sym, ap, subst, ◌∙◌, inl, inr, arith}
+use Rattle.std.proofs.Common.{◌≡◌, ℕ, ◌+◌, ◌-◌, ◌<◌, ◌≤◌, ◌^◌, List, length, Result, Ok, Err, refl, sym, ap, subst, ◌∙◌, inl, inr, arith}
 use Rattle.std.specs.Prelude.{◌⊎◌, MatchResult}
 use Rattle.std.specs.Result.{result_map_both}
 use Rattle.std.proofs.lemmas.List.{length-append}
@@ -11,7 +11,6 @@ use Rattle.image_text.specs.ImageText.{program_text}
 use Rattle.image_lines.specs.declared.body.TextFault.{TextFault}
 use Rattle.image_lines.specs.Counts.{Counts, counts_in}
 use Rattle.image_lines.specs.CountsText.{AreCounts}
-use Rattle.image_lines.specs.HeadText.{IsLength}
 use Rattle.image_lines.specs.Opening.{program_in}
 use Rattle.image_lines.proofs.CountsLaws.{counts_was}
 use Rattle.image_lines.proofs.OpeningLaws.{program_was}
@@ -19,7 +18,7 @@ use Rattle.image_state.specs.Parts.{Parts}
 use Rattle.image_state.specs.State.{state_in}
 use Rattle.stab_image.specs.declared.fault.ImageFault.{ImageFault}
 use Rattle.stab_image.specs.declared.fault.ImageFault.TheVariants.{BadProgram, NoMemory}
-use Rattle.stab_image.specs.Read.{Answer, IsRead, IsReadBehind, IsReadFrom, OfNone, OfProgram, counts_read, fault_of, image_with, state_read, with_counts, with_state}
+use Rattle.stab_image.specs.Read.{Answer, IsRead, IsReadBehind, IsReadFrom, counts_read, fault_of, image_with, state_read, with_counts, with_state}
 use Rattle.stab_image.specs.Written.{IsImageText}
 use Rattle.stab_image.proofs.ReadLaws.{image_back, image_was}
 

@@ -1,6 +1,5 @@
-use Rattle.std.proofs.Common.{◌≡◌, Ok, Err}
 use Rattle.image_lines.specs.Counts.{counts_in, counts_of}
-use Rattle.stab_image.proofs.ReadSteps.{by_counts, counts_place, counts_right, given, no_counts, refused}
+use Rattle.stab_image.proofs.ReadSteps.{counts_place, counts_right, given}
 use Rattle.stab_image.proofs.read.counts_read.Goals as goal
 
 pub state_read-requires-clause-counts : goal.state_read-requires-clause-counts

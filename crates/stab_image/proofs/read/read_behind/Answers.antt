@@ -1,4 +1,4 @@
-use Rattle.stab_image.proofs.ReadSteps.{of_none, of_program}
+use Rattle.stab_image.proofs.ReadSteps.{of_program}
 use Rattle.stab_image.proofs.read.read_behind.Goals as goal
 
 pub returns-in_ok-counts_read-in-Ok : goal.returns-in_ok-counts_read-in-Ok
