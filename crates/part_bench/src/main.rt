@@ -1,5 +1,6 @@
 //! What no run of the program shows: how long the containers and the graph of a run take with many entries, the lexer with long texts,
-//! a program of many nodes, and turns of a floor, by one worker alone, and by one, two and four with work beside.
+//! a program of many nodes, turns of a floor, by one worker alone, and by one, two and four with work beside, and turns that a board
+//! shows.
 //!
 //! Without a word it prints the times of all but the turns, and with `turns` those of the turns. With `counts` it prints, for few
 //! entries, how many calls found what they were for, and how many calls committed in some turns; with `bytes` and the name of a
@@ -7,6 +8,7 @@
 #![tactic(auto)]
 
 mod adder;
+mod boards;
 mod events;
 mod graphs;
 mod offers;

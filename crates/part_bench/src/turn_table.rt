@@ -2,6 +2,7 @@
 ghost use Rattle.std.specs.Prelude.{◌≡◌};
 ghost use Rattle.stab_journal.specs.Event.{IsWorker};
 
+use crate::boards::{self, Readers, Shown, read_alone};
 use crate::table::out_of_memory;
 use crate::turns::{Made, Plan, run, run_bare};
 use std::io;
@@ -20,8 +21,14 @@ const TIMED: u32 = 100;
 /// The steps of a short turn, and of a long one.
 const STEPS: [u32; 2] = [120, 2_880];
 
+/// The steps of turns that are shown: of a free one, and the same.
+const SHOWN: [u32; 3] = [0, 120, 2_880];
+
 /// How many times as much work as in a turn stands beside it.
 const BESIDE: u32 = 3;
+
+/// How many readings are timed.
+const READINGS: u32 = 1_000_000;
 
 fn blank(workers: u32) -> Blank
     ensures { result.parts ≡ workers }
@@ -34,6 +41,20 @@ fn made<R: AllocGlobal + Threads + Wait + Clock + Sync>(rt: &R, plan: Plan) -> i
 {
     let (commits, stale) = (blank(plan.workers), blank(plan.workers));
     run::<Brand, Brand, R>(rt, rt.alloc(), commits, stale, plan).map_err(out_of_memory)
+}
+
+// With a board, while readers read it.
+fn made_shown<R: AllocGlobal + Threads + Wait + Clock + Sync>(
+    rt: &R,
+    plan: Plan,
+    readers: Readers,
+) -> io::Result<Shown>
+    requires { IsWorker plan.workers }
+{
+    let (commits, stale) = (blank(plan.workers), blank(plan.workers));
+    boards::run::<Brand, Brand, R>(rt, rt.alloc(), commits, stale, plan, readers).map_err(
+        out_of_memory,
+    )
 }
 
 // A run of so many workers, which share the timed turns.
@@ -64,6 +85,17 @@ pub fn print_counts<R: AllocGlobal + Threads + Wait + Clock + Print + Sync>(
             },
         )?;
         println!(rt; "workers {workers} commits {}", made.commits)?;
+    }
+    for count in [0, 2] {
+        let plan = Plan {
+            workers: 1,
+            turns: 1_000,
+            inside: 10,
+            beside: 30,
+        };
+        let readers = Readers { count, between: 10 };
+        let shown = made_shown(rt, plan, readers)?;
+        println!(rt; "shown to {count} commits {}", shown.made.commits)?;
     }
     Ok(())
 }
@@ -99,6 +131,29 @@ pub fn print_times<R: AllocGlobal + Threads + Wait + Clock + Print + Sync>(
             bare % 10
         )?;
     }
+    print_shown(rt)
+}
+
+// The same of one worker whose history a board shows, without readers, with those that always read, and with those that make as many
+// steps between two readings as the worker between two turns. Behind each time stands how often all readers read in a turn.
+fn print_shown<R: AllocGlobal + Threads + Wait + Clock + Print + Sync>(rt: &R) -> io::Result<()> {
+    let reading = reading_tenths(rt)?;
+    println!(rt; "a reading: {}.{} ns", reading / 10, reading % 10)?;
+    for inside in SHOWN {
+        let beside = inside * BESIDE;
+        let all = inside + beside;
+        for (count, between) in [(0, 0), (1, 0), (3, 0), (1, all), (3, all)] {
+            let readers = Readers { count, between };
+            let (tenths, readings) = shown_tenths(rt, plan(1, inside, beside), readers)?;
+            println!(rt;
+                "{inside} steps in a turn that is shown, {count} readers with {between} between: {}.{} ns, {}.{} readings",
+                tenths / 10,
+                tenths % 10,
+                readings / 10,
+                readings % 10
+            )?;
+        }
+    }
     Ok(())
 }
 
@@ -120,4 +175,37 @@ fn bare_tenths<R: AllocGlobal + Clock>(rt: &R, inside: u32, beside: u32) -> io::
         least = least.min(nanos);
     }
     Ok(least.saturating_mul(10) / u64::from(TURNS))
+}
+
+// The tenths of a nanosecond that a shown turn takes, in the fastest of some runs, and of how many readings there are in it.
+fn shown_tenths<R: AllocGlobal + Threads + Wait + Clock + Sync>(
+    rt: &R,
+    plan: Plan,
+    readers: Readers,
+) -> io::Result<(u64, u64)>
+    requires { IsWorker plan.workers }
+{
+    let mut least = u64::MAX;
+    let mut readings = 0u64;
+    for _ in 0..TIMED {
+        let shown = made_shown(rt, plan, readers)?;
+        if shown.made.nanos < least {
+            least = shown.made.nanos;
+            readings = shown.readings;
+        }
+    }
+    let turns = u64::from(TURNS);
+    Ok((
+        least.saturating_mul(10) / turns,
+        readings.saturating_mul(10) / turns,
+    ))
+}
+
+fn reading_tenths<R: AllocGlobal + Wait + Clock>(rt: &R) -> io::Result<u64> {
+    let mut least = u64::MAX;
+    for _ in 0..TIMED {
+        let nanos = read_alone(rt, rt.alloc(), READINGS).map_err(out_of_memory)?;
+        least = least.min(nanos);
+    }
+    Ok(least.saturating_mul(10) / u64::from(READINGS))
 }

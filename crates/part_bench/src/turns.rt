@@ -1,5 +1,5 @@
 //! Workers that make steps of arithmetic in turns, each in a thread of its own.
-ghost use Rattle.std.specs.Prelude.{◌≡◌, ℕ, map, IfOk};
+ghost use Rattle.std.specs.Prelude.{◌≡◌, ℕ, [], map, IfOk};
 ghost use Rattle.stab_code.specs.JobParts.{JobParts};
 ghost use Rattle.stab_journal.specs.Event.{IsWorker};
 ghost use Rattle.turn_floor.specs.Parts.{AreAll};
@@ -10,9 +10,9 @@ use std::alloc::Global;
 use std::rt::Clock;
 use std::sync::Wait;
 use std::sync::ledger::{Blank, Ledger};
-use std::thread;
 use std::thread::Threads;
 use std::time::Instant;
+use std::{io, thread};
 use turn_floor::{Floor, Kept, Pass, Told};
 
 /// What the workers of a run do.
@@ -110,8 +110,30 @@ pub fn run<C: Ledger + Send + Sync, S: Ledger + Send + Sync, R: Threads + Wait +
     requires commits { (commits.name ≡ C.name) × (commits.parts ≡ C.parts) × (commits.parts ≡ plan.workers) }
     requires stale { (stale.name ≡ S.name) × (stale.parts ≡ S.parts) × (stale.parts ≡ plan.workers) }
 {
-    let state = Adder::new(alloc)?;
-    let Ok((floor, passes)) = Floor::<Adder, C, S>::new(alloc, state, plan.workers, commits, stale)
+    run_on::<Adder, C, S, R>(rt, alloc, Adder::new(alloc)?, commits, stale, plan)
+}
+
+/// Times the turns of the workers of a new floor over this state.
+pub fn run_on<
+    K: Kept<Ask = u32, Answer = Told> + Send + Drop,
+    C: Ledger + Send + Sync,
+    S: Ledger + Send + Sync,
+    R: Threads + Wait + Clock + Sync,
+>(
+    rt: &R,
+    alloc: Global,
+    state: K,
+    commits: Blank,
+    stale: Blank,
+    plan: Plan,
+) -> Result<Made, NoMemory>
+    requires workers { IsWorker plan.workers }
+    requires empty { K.events_of state ≡ [] }
+    requires fits { (job : JobParts) (number : ℕ) (ask : ℕ) → K.asks job number ask }
+    requires commits { (commits.name ≡ C.name) × (commits.parts ≡ C.parts) × (commits.parts ≡ plan.workers) }
+    requires stale { (stale.name ≡ S.name) × (stale.parts ≡ S.parts) × (stale.parts ≡ plan.workers) }
+{
+    let Ok((floor, passes)) = Floor::<K, C, S>::new(alloc, state, plan.workers, commits, stale)
     else {
         return Err(NoMemory);
     };
@@ -119,14 +141,19 @@ pub fn run<C: Ledger + Send + Sync, S: Ledger + Send + Sync, R: Threads + Wait +
     let workers = work_all(rt, &floor, passes, plan)?;
     let to = Instant::now(rt);
     let (_state, tally) = floor.close(passes_of(alloc, workers)?);
+    Ok(Made {
+        commits: tally.commits,
+        nanos: nanos_between(from, to),
+    })
+}
+
+/// The nanoseconds between two looks at the clock; the greatest number where it can't be read.
+pub fn nanos_between(from: io::Result<Instant>, to: io::Result<Instant>) -> u64 {
     let nanos = match (from, to) {
         (Ok(from), Ok(to)) => to.saturating_duration_since(from).as_nanos(),
         _ => u128::MAX,
     };
-    Ok(Made {
-        commits: tally.commits,
-        nanos: u64::try_from(nanos).unwrap_or(u64::MAX),
-    })
+    u64::try_from(nanos).unwrap_or(u64::MAX)
 }
 
 /// The nanoseconds that so many calls without a floor take, with the work beside.
@@ -139,14 +166,6 @@ pub fn run_bare<R: Clock>(rt: &R, alloc: Global, plan: Plan) -> Result<u64, NoMe
         sum = work(plan.beside, sum);
     }
     let to = Instant::now(rt);
-    let nanos = match (from, to) {
-        (Ok(from), Ok(to)) => to.saturating_duration_since(from).as_nanos(),
-        _ => u128::MAX,
-    };
     // The sums are used, so that the work can't be left out.
-    Ok(
-        u64::try_from(nanos)
-            .unwrap_or(u64::MAX)
-            .max((sum ^ state.sum) % 2),
-    )
+    Ok(nanos_between(from, to).max((sum ^ state.sum) % 2))
 }

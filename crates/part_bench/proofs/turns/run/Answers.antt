@@ -3,5 +3,5 @@ use Rattle.std.proofs.Crossing.{crosses}
 use Rattle.part_bench.proofs.Crossing.{adder-send}
 use Rattle.part_bench.proofs.turns.run.Goals as goal
 
-pub work_all-requires-send-K : goal.work_all-requires-send-K
-work_all-requires-send-K g c κs within = search (adder-send, sendable, crosses) depth 40
+pub run_on-requires-send-K : goal.run_on-requires-send-K
+run_on-requires-send-K g c κs within = search (adder-send, sendable, crosses) depth 40
