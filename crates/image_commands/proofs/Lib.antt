@@ -1,0 +1,4 @@
+pub mod Counting
+pub mod ShortTraces
+pub mod Judged
+pub mod Front
