@@ -10,23 +10,25 @@ _stab() {
     fi
     case ${COMP_WORDS[1]} in
     run | trace | watch) options=$'--probes\n--workers\n--fuel\n--quantum' ;;
-    verify) options='--probes' ;;
+    verify | save) options='--probes' ;;
+    resume) options=$'--fuel\n--quantum' ending=image ;;
     drill) options=$'--probes\n--fuel\n--quantum' ;;
     mill) options=$'--workers\n--fuel\n--quantum' ;;
     esac
-    # Behind the program comes a trace or a script.
+    # Behind the program comes a trace or a script, behind an image nothing.
     case ${COMP_WORDS[*]:2:COMP_CWORD - 2} in
     *.stab*)
         case ${COMP_WORDS[1]} in
-        verify) ending=trace ;;
+        verify | save) ending=trace ;;
         drill) ending=script ;;
         *) ending=none ;;
         esac
         ;;
+    *.image*) ending=none ;;
     esac
     COMPREPLY=()
     if [[ $COMP_CWORD -eq 1 ]]; then
-        COMPREPLY=($(compgen -W $'run\ncheck\ntypes\ntrace\nwatch\nverify\ndrill\nmill' -- "$word"))
+        COMPREPLY=($(compgen -W $'run\ncheck\ntypes\ntrace\nwatch\nverify\ndrill\nsave\nresume\nmill' -- "$word"))
     elif [[ $before == --probes ]]; then
         COMPREPLY=($(compgen -f -- "$word"))
     elif [[ $word == -* ]]; then

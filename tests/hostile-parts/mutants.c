@@ -14,7 +14,7 @@ enum { SECONDS = 10, ANSWERS = 64 };
 
 static const char *const names[] = {
     "Done", "Held", "BadWords", "BadText", "NoFile", "TooBig", "FileFault", "SinkFault", "Spent", "NoMemory",
-    "BadProbes", "BadTrace", "BadScript", "No", "NotBuilt", "Untyped", "NoCut", "BadImage"};
+    "BadProbes", "BadTrace", "BadScript", "No", "", "Untyped", "NoCut", "BadImage"};
 
 static struct { char name[64]; long count; } answers[ANSWERS];
 static char program_file[4096], probes_file[4096], mutant_file[64];

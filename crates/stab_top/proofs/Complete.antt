@@ -33,16 +33,16 @@ use Rattle.trace_text.specs.Text.{entries}
 use Rattle.stab_top.specs.declared.report.Role.{Role}
 use Rattle.stab_top.specs.declared.report.Role.TheVariants as roles
 use Rattle.stab_top.specs.declared.report.Status.{Status}
-use Rattle.stab_top.specs.declared.report.Status.TheVariants.{Done, Held, BadWords, BadText, NoFile, TooBig, FileFault, SinkFault, Spent, NoMemory, BadProbes, BadTrace, BadScript, No, NotBuilt, Untyped}
-use Rattle.stab_top.specs.Words.{is_built}
+use Rattle.stab_top.specs.declared.report.Status.TheVariants.{Done, Held, BadWords, BadText, NoFile, TooBig, FileFault, SinkFault, Spent, NoMemory, BadProbes, BadTrace, BadScript, No, Untyped, NoCut, BadImage}
 use Rattle.sink_lines.specs.Device.{Device}
 use Rattle.stab_top.specs.Ending.{AsReleased, AtTheEnd, CheckEnds, IsJudged, IsTold, RunEnds, VerdictEnds, Writing, milled_by, shown_by}
 use Rattle.stab_top.specs.Drilling.{DrillEnds, PlayEnds}
 use Rattle.stab_top.specs.Milling.{MillEnds}
 use Rattle.stab_top.specs.Loading.{Finds, LoadRefused, Loads, max_bytes}
 use Rattle.stab_top.specs.Reading.{Blames, Form, ReadRefused, probes_form, program_form, trace_form}
+use Rattle.stab_top.specs.Saving.{source_form}
 use Rattle.stab_top.specs.Typing.{TypesEnds}
-use Rattle.stab_top.specs.Call.{BuiltSays, Call, CheckSays, CountedFault, DrillSays, LastSays, OrdersSay, ReadSays, RequestSays, RunSaysBy, Says, ScriptSays, TraceSays, VerifySays, WordsSay, status_of}
+use Rattle.stab_top.specs.Call.{Call, CheckSays, CountedFault, CutSays, DrillSays, LastSays, OrdersSay, ReadSays, RequestSays, RunSaysBy, Says, ScriptSays, TraceSays, VerifySays, WordsSay, status_of}
 use Rattle.stab_top.specs.Complete.{Checked, IsHeld, IsHeldFor, IsRefused, IsScriptFor, Ran, WasDrilled, WasJudged, WasStuck}
 
 -- what is found, if the files say what they hold
@@ -78,8 +78,9 @@ load_refused role BadProbes c name bytes is says = elim says [ ]
 load_refused role BadTrace c name bytes is says = elim says [ ]
 load_refused role BadScript c name bytes is says = elim says [ ]
 load_refused role No c name bytes is says = elim says [ ]
-load_refused role NotBuilt c name bytes is says = elim says [ ]
 load_refused role Untyped c name bytes is says = elim says [ ]
+load_refused role NoCut c name bytes is says = elim says [ ]
+load_refused role BadImage c name bytes is says = elim says [ ]
 
 -- what was loaded is what is held
 loaded_is : (role : Role) (c : Call) (name bytes loaded : List ℕ) (faults : ℕ) → IsHeld role c name bytes → Loads role c.files name faults loaded → loaded ≡ bytes
@@ -171,8 +172,9 @@ ran text_by workers BadProbes c job says = elim says.writes.rest [ ]
 ran text_by workers BadTrace c job says = elim says.writes.rest [ ]
 ran text_by workers BadScript c job says = elim says.writes.rest [ ]
 ran text_by workers No c job says = elim says.writes.rest [ ]
-ran text_by workers NotBuilt c job says = elim says.writes.rest [ ]
 ran text_by workers Untyped c job says = elim says.writes.rest [ ]
+ran text_by workers NoCut c job says = elim says.writes.rest [ ]
+ran text_by workers BadImage c job says = elim says.writes.rest [ ]
 
 traced : (workers : ℕ) (status : Status) (c : Call) (job : JobParts) → RunEnds AtTheEnd workers status job c.outcome → Ran status ⊎ CountedFault c
 traced workers Done c job says = inl tt
@@ -189,8 +191,9 @@ traced workers BadProbes c job says = elim says.writes.rest [ ]
 traced workers BadTrace c job says = elim says.writes.rest [ ]
 traced workers BadScript c job says = elim says.writes.rest [ ]
 traced workers No c job says = elim says.writes.rest [ ]
-traced workers NotBuilt c job says = elim says.writes.rest [ ]
 traced workers Untyped c job says = elim says.writes.rest [ ]
+traced workers NoCut c job says = elim says.writes.rest [ ]
+traced workers BadImage c job says = elim says.writes.rest [ ]
 
 checked : (status : Status) (c : Call) (program : ProgramParts) → CheckEnds status program c.outcome → Checked status ⊎ CountedFault c
 checked Done c program says = inl tt
@@ -207,8 +210,9 @@ checked BadProbes c program says = elim says [ ]
 checked BadTrace c program says = elim says [ ]
 checked BadScript c program says = elim says [ ]
 checked No c program says = elim says [ ]
-checked NotBuilt c program says = elim says [ ]
 checked Untyped c program says = elim says [ ]
+checked NoCut c program says = elim says [ ]
+checked BadImage c program says = elim says [ ]
 
 run_came : (writes : Writing) (workers : ℕ) → ((status : Status) (c : Call) (job : JobParts) → RunEnds writes workers status job c.outcome → Ran status ⊎ CountedFault c) → (c : Call) (job : JobParts) → Failed (status_of c) c ⊎ RunEnds writes workers (status_of c) job c.outcome
     → Ran (status_of c) ⊎ CountedFault c
@@ -219,11 +223,9 @@ check_came : (c : Call) (program : ProgramParts) → Failed (status_of c) c ⊎ 
 check_came c program (inl failed) = failed_checked c failed
 check_came c program (inr ends) = checked (status_of c) c program ends
 
--- what is said of a request that is built
-pub request_said : (words : List (List ℕ)) (c : Call) (request : Request) → Says words c → asked words ≡ Ok request → is_built request ≡ true → BuiltSays c request
-request_said words c request says is built =
-    let here : RequestSays (is_built request) c request = subst (λ (r : Result Request WordFault). WordsSay r c) is says in
-    subst (λ b. RequestSays b c request) built here
+-- what is said of a request
+pub request_said : (words : List (List ℕ)) (c : Call) (request : Request) → Says words c → asked words ≡ Ok request → RequestSays c request
+request_said words c request says is = subst (λ (r : Result Request WordFault). WordsSay r c) is says
 
 module _ (writes : Writing) (c : Call) (args : RunArgs) (bytes : List ℕ) (program : ProgramParts) (held : IsHeld roles.Program c args.file bytes) (text : IsTextOf bytes program) where
   behind : (name : List ℕ) (script : List ℤ) (probe_bytes : List ℕ) → IsHeld roles.Probes c name probe_bytes → probes.reading probe_bytes ≡ Ok script
@@ -254,31 +256,31 @@ module _ (writes : Writing) (c : Call) (args : RunArgs) (bytes : List ℕ) (prog
 pub good_program_runs : (words : List (List ℕ)) (c : Call) (args : RunArgs) (bytes : List ℕ) (program : ProgramParts) (script : List ℤ) → Says words c → asked words ≡ Ok (Run args) →
     IsHeld roles.Program c args.file bytes → IsTextOf bytes program → IsScriptFor c args.probes script → Ran (status_of c) ⊎ CountedFault c
 good_program_runs words c args bytes program script says is held text for_script =
-    run_came (AsReleased shown_by) args.workers (ran shown_by args.workers) c (job_of program script args.fuel args.quantum) (run_said (AsReleased shown_by) c args bytes program held text args.probes script for_script (request_said words c (Run args) says is refl))
+    run_came (AsReleased shown_by) args.workers (ran shown_by args.workers) c (job_of program script args.fuel args.quantum) (run_said (AsReleased shown_by) c args bytes program held text args.probes script for_script (request_said words c (Run args) says is))
 
 pub good_program_is_traced : (words : List (List ℕ)) (c : Call) (args : RunArgs) (bytes : List ℕ) (program : ProgramParts) (script : List ℤ) → Says words c → asked words ≡ Ok (Trace args) →
     IsHeld roles.Program c args.file bytes → IsTextOf bytes program → IsScriptFor c args.probes script → Ran (status_of c) ⊎ CountedFault c
 good_program_is_traced words c args bytes program script says is held text for_script =
-    run_came AtTheEnd args.workers (traced args.workers) c (job_of program script args.fuel args.quantum) (run_said AtTheEnd c args bytes program held text args.probes script for_script (request_said words c (Trace args) says is refl))
+    run_came AtTheEnd args.workers (traced args.workers) c (job_of program script args.fuel args.quantum) (run_said AtTheEnd c args bytes program held text args.probes script for_script (request_said words c (Trace args) says is))
 
 pub good_program_is_watched : (words : List (List ℕ)) (c : Call) (args : RunArgs) (bytes : List ℕ) (program : ProgramParts) (script : List ℤ) → Says words c → asked words ≡ Ok (Watch args) →
     IsHeld roles.Program c args.file bytes → IsTextOf bytes program → IsScriptFor c args.probes script → Ran (status_of c) ⊎ CountedFault c
 good_program_is_watched words c args bytes program script says is held text for_script =
     let by_most = record args { workers = most_workers } in
-    run_came (AsReleased watched_by) most_workers (ran watched_by most_workers) c (job_of program script args.fuel args.quantum) (run_said (AsReleased watched_by) c by_most bytes program held text args.probes script for_script (request_said words c (Watch args) says is refl).0)
+    run_came (AsReleased watched_by) most_workers (ran watched_by most_workers) c (job_of program script args.fuel args.quantum) (run_said (AsReleased watched_by) c by_most bytes program held text args.probes script for_script (request_said words c (Watch args) says is).0)
 
 pub run_with_bad_probes : (words : List (List ℕ)) (c : Call) (args : RunArgs) (text name bytes : List ℕ) (program : ProgramParts) (fault : ProbesFault) → Says words c → (asked words ≡ Ok (Run args)) ⊎ (asked words ≡ Ok (Trace args)) ⊎ (asked words ≡ Ok (Watch args)) →
     IsHeld roles.Program c args.file text → IsTextOf text program → args.probes ≡ Some name → IsHeld roles.Probes c name bytes → probes_form.HasFault bytes fault → IsRefused probes_form c fault ⊎ CountedFault c
 run_with_bad_probes words c args text name bytes program fault says (inl is) held of named there has =
-    bad_probes_said (AsReleased shown_by) c args text program held of args.probes name bytes fault named there has (request_said words c (Run args) says is refl)
+    bad_probes_said (AsReleased shown_by) c args text program held of args.probes name bytes fault named there has (request_said words c (Run args) says is)
 run_with_bad_probes words c args text name bytes program fault says (inr (inl is)) held of named there has =
-    bad_probes_said AtTheEnd c args text program held of args.probes name bytes fault named there has (request_said words c (Trace args) says is refl)
+    bad_probes_said AtTheEnd c args text program held of args.probes name bytes fault named there has (request_said words c (Trace args) says is)
 run_with_bad_probes words c args text name bytes program fault says (inr (inr is)) held of named there has =
-    bad_probes_said (AsReleased watched_by) c (record args { workers = most_workers }) text program held of args.probes name bytes fault named there has (request_said words c (Watch args) says is refl).0
+    bad_probes_said (AsReleased watched_by) c (record args { workers = most_workers }) text program held of args.probes name bytes fault named there has (request_said words c (Watch args) says is).0
 
 -- the mill, if its text is that of a program
 pub mill_runs : (words : List (List ℕ)) (c : Call) (args : MillArgs) (program : ProgramParts) → Says words c → asked words ≡ Ok (Mill args) → IsTextOf (mill_text args.size) program → Ran (status_of c) ⊎ CountedFault c
-mill_runs words c args program says is text = by (request_said words c (Mill args) says is refl).1
+mill_runs words c args program says is text = by (request_said words c (Mill args) says is).1
   where
     by : MillEnds (status_of c) args c.outcome → Ran (status_of c) ⊎ CountedFault c
     by (inl (inl have, rests)) = absurd (not_both (mill_text args.size) program have.fault text have.has)
@@ -288,7 +290,7 @@ mill_runs words c args program says is text = by (request_said words c (Mill arg
 pub good_program_checks : (words : List (List ℕ)) (c : Call) (file bytes : List ℕ) (program : ProgramParts) → Says words c → asked words ≡ Ok (Check file) →
     IsHeld roles.Program c file bytes → IsTextOf bytes program → Checked (status_of c) ⊎ CountedFault c
 good_program_checks words c file bytes program says is held text =
-    let check : CheckSays c file = request_said words c (Check file) says is refl in
+    let check : CheckSays c file = request_said words c (Check file) says is in
     check_came c program (program_said c file bytes program held text c.files_after (λ p. CheckEnds (status_of c) p c.outcome) check)
 
 -- ---- verdicts
@@ -333,7 +335,7 @@ behind_program c named script Said is (inr says) = of_script c named script Said
 trace_said : (words : List (List ℕ)) (c : Call) (args : VerifyArgs) (text : List ℕ) (program : ProgramParts) (script : List ℤ) → Says words c → asked words ≡ Ok (Verify args)
     → IsHeld roles.Program c args.file text → IsTextOf text program → IsScriptFor c args.probes script → Failed (status_of c) c ⊎ TraceSays c args.trace program script
 trace_said words c args text program script says is held of for_script =
-    let verify : VerifySays c args = request_said words c (Verify args) says is refl in
+    let verify : VerifySays c args = request_said words c (Verify args) says is in
     behind_program c args.probes script (λ s. TraceSays c args.trace program s) for_script (program_said c args.file text program held of c.files.faults (λ p. ScriptSays c args.probes (λ s. TraceSays c args.trace p s)) verify)
 
 pub trace_is_judged : (words : List (List ℕ)) (c : Call) (args : VerifyArgs) (text bytes : List ℕ) (program : ProgramParts) (script : List ℤ) (history : Journal) → Says words c → asked words ≡ Ok (Verify args)
@@ -355,7 +357,7 @@ probes_refused c named Said name bytes fault is held has (inr says) =
 pub bad_probes_refused : (words : List (List ℕ)) (c : Call) (args : VerifyArgs) (text name bytes : List ℕ) (program : ProgramParts) (fault : ProbesFault) → Says words c → asked words ≡ Ok (Verify args)
     → IsHeld roles.Program c args.file text → IsTextOf text program → args.probes ≡ Some name → IsHeld roles.Probes c name bytes → probes_form.HasFault bytes fault → IsRefused probes_form c fault ⊎ CountedFault c
 bad_probes_refused words c args text name bytes program fault says is held of named probes has =
-    let verify : VerifySays c args = request_said words c (Verify args) says is refl in
+    let verify : VerifySays c args = request_said words c (Verify args) says is in
     probes_refused c args.probes (λ s. TraceSays c args.trace program s) name bytes fault named probes has (program_said c args.file text program held of c.files.faults (λ p. ScriptSays c args.probes (λ s. TraceSays c args.trace p s)) verify)
 
 -- ---- drills
@@ -364,13 +366,13 @@ bad_probes_refused words c args text name bytes program fault says is held of na
 orders_said : (words : List (List ℕ)) (c : Call) (args : DrillArgs) (text : List ℕ) (program : ProgramParts) (script : List ℤ) → Says words c → asked words ≡ Ok (Drill args)
     → IsHeld roles.Program c args.file text → IsTextOf text program → IsScriptFor c args.probes script → Failed (status_of c) c ⊎ OrdersSay c args program script
 orders_said words c args text program script says is held of for_script =
-    let drill : DrillSays c args = request_said words c (Drill args) says is refl in
+    let drill : DrillSays c args = request_said words c (Drill args) says is in
     behind_program c args.probes script (λ s. OrdersSay c args program s) for_script (program_said c args.file text program held of c.files.faults (λ p. ScriptSays c args.probes (λ s. OrdersSay c args p s)) drill)
 
 pub bad_probes_undrilled : (words : List (List ℕ)) (c : Call) (args : DrillArgs) (text name bytes : List ℕ) (program : ProgramParts) (fault : ProbesFault) → Says words c → asked words ≡ Ok (Drill args)
     → IsHeld roles.Program c args.file text → IsTextOf text program → args.probes ≡ Some name → IsHeld roles.Probes c name bytes → probes_form.HasFault bytes fault → IsRefused probes_form c fault ⊎ CountedFault c
 bad_probes_undrilled words c args text name bytes program fault says is held of named probes has =
-    let drill : DrillSays c args = request_said words c (Drill args) says is refl in
+    let drill : DrillSays c args = request_said words c (Drill args) says is in
     probes_refused c args.probes (λ s. OrdersSay c args program s) name bytes fault named probes has (program_said c args.file text program held of c.files.faults (λ p. ScriptSays c args.probes (λ s. OrdersSay c args p s)) drill)
 
 module _ (c : Call) (job : JobParts) where
@@ -389,8 +391,9 @@ module _ (c : Call) (job : JobParts) where
   played script BadProbes is ends = elim ends [ ]
   played script BadTrace is ends = elim ends [ ]
   played script No is ends = elim ends [ ]
-  played script NotBuilt is ends = elim ends [ ]
   played script Untyped is ends = elim ends [ ]
+  played script NoCut is ends = elim ends [ ]
+  played script BadImage is ends = elim ends [ ]
 
   failed_drilled : (script : List Line) → Failed (status_of c) c → WasDrilled c job script ⊎ CountedFault c
   failed_drilled script (inl none) = inl (inr (inr none))
@@ -455,7 +458,7 @@ run_with_fault : (writes : Writing) (c : Call) (args : RunArgs) (named : Option 
 run_with_fault writes c args None bytes fault says is has = text_with_fault c args.file bytes fault c.files_after (λ p. RunEnds writes args.workers (status_of c) (job_of p [] args.fuel args.quantum) c.outcome) is has says
 run_with_fault writes c args (Some name) bytes fault says is has = text_with_fault c args.file bytes fault c.files.faults (λ p. LastSays probes_form c name (λ s. RunEnds writes args.workers (status_of c) (job_of p s args.fuel args.quantum) c.outcome)) is has says
 
-request_with_fault : (c : Call) (request : Request) (bytes : List ℕ) (fault : TextFault) → BuiltSays c request → IsHeldFor c request bytes → HasFault bytes fault → IsRefused program_form c fault ⊎ CountedFault c
+request_with_fault : (c : Call) (request : Request) (bytes : List ℕ) (fault : TextFault) → RequestSays c request → IsHeldFor c request bytes → HasFault bytes fault → IsRefused program_form c fault ⊎ CountedFault c
 request_with_fault c (Run args) bytes fault says is has = run_with_fault (AsReleased shown_by) c args args.probes bytes fault says is has
 request_with_fault c (Trace args) bytes fault says is has = run_with_fault AtTheEnd c args args.probes bytes fault says is has
 request_with_fault c (Verify args) bytes fault says is has = text_with_fault c args.file bytes fault c.files.faults (λ p. ScriptSays c args.probes (λ s. TraceSays c args.trace p s)) is has says
@@ -463,11 +466,13 @@ request_with_fault c (Check file) bytes fault says is has = text_with_fault c fi
 request_with_fault c (Drill args) bytes fault says is has = text_with_fault c args.file bytes fault c.files.faults (λ p. ScriptSays c args.probes (λ s. OrdersSay c args p s)) is has says
 request_with_fault c (Mill args) bytes fault says is has = elim is [ ]
 request_with_fault c (Types file) bytes fault says is has = text_with_fault c file bytes fault c.files_after (λ p. TypesEnds (status_of c) p c.outcome) is has says
-request_with_fault c (Save args) bytes fault says is has = elim is [ ]
+request_with_fault c (Save args) bytes fault says is has =
+    fault_refused source_form c args.file bytes is fault (λ s text. not_both bytes s.program fault text.1 has) (λ other same. one_fault bytes other fault same has) c.files.faults
+    (λ s. ScriptSays c args.probes (λ script. CutSays c args s script)) says
 request_with_fault c (Resume args) bytes fault says is has = elim is [ ]
 request_with_fault c (Watch args) bytes fault says is has = run_with_fault (AsReleased watched_by) c (record args { workers = most_workers }) args.probes bytes fault says.0 is has
 
-pub bad_text_refused : (words : List (List ℕ)) (c : Call) (request : Request) (bytes : List ℕ) (fault : TextFault) → Says words c → asked words ≡ Ok request → is_built request ≡ true →
+pub bad_text_refused : (words : List (List ℕ)) (c : Call) (request : Request) (bytes : List ℕ) (fault : TextFault) → Says words c → asked words ≡ Ok request →
     IsHeldFor c request bytes → HasFault bytes fault → IsRefused program_form c fault ⊎ CountedFault c
-bad_text_refused words c request bytes fault says is built held has =
-    request_with_fault c request bytes fault (request_said words c request says is built) held has
+bad_text_refused words c request bytes fault says is held has =
+    request_with_fault c request bytes fault (request_said words c request says is) held has

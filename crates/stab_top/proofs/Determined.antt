@@ -22,7 +22,7 @@ use Rattle.stab_words.specs.declared.request.DrillArgs.{DrillArgs}
 use Rattle.stab_words.specs.declared.request.Request.TheVariants.{Drill}
 use Rattle.stab_top.specs.declared.report.Role.TheVariants as roles
 use Rattle.stab_top.specs.declared.report.Status.{Status}
-use Rattle.stab_top.specs.declared.report.Status.TheVariants.{Done, Held, BadWords, BadText, NoFile, TooBig, FileFault, SinkFault, Spent, NoMemory, BadProbes, BadTrace, BadScript, No, NotBuilt, Untyped}
+use Rattle.stab_top.specs.declared.report.Status.TheVariants.{Done, Held, BadWords, BadText, NoFile, TooBig, FileFault, SinkFault, Spent, NoMemory, BadProbes, BadTrace, BadScript, No, Untyped, NoCut, BadImage}
 use Rattle.stab_top.specs.Call.{Call, Says, status_of}
 use Rattle.stab_top.specs.Complete.{ComesTo, IsHeld, IsScriptFor, IsTextOfDrill, StopsWith}
 use Rattle.stab_top.specs.Drilling.{IsPlayedOut, PlayEnds, drill_text}
@@ -69,8 +69,9 @@ module _ (c : Call) (job : JobParts) (script : List Line) where
     comes_to BadProbes ends = elim ends [ ]
     comes_to BadTrace ends = elim ends [ ]
     comes_to No ends = elim ends [ ]
-    comes_to NotBuilt ends = elim ends [ ]
     comes_to Untyped ends = elim ends [ ]
+    comes_to NoCut ends = elim ends [ ]
+    comes_to BadImage ends = elim ends [ ]
 
     failed_comes : Failed (status_of c) c → ComesTo (status_of c) c lines book
     failed_comes (inl none) = subst (λ s. ComesTo s c lines book) (sym none) tt
@@ -116,8 +117,9 @@ module _ (c : Call) (job : JobParts) (script : List Line) where
     stops_with BadProbes ends = elim ends [ ]
     stops_with BadTrace ends = elim ends [ ]
     stops_with No ends = elim ends [ ]
-    stops_with NotBuilt ends = elim ends [ ]
     stops_with Untyped ends = elim ends [ ]
+    stops_with NoCut ends = elim ends [ ]
+    stops_with BadImage ends = elim ends [ ]
 
     failed_stops : Failed (status_of c) c → StopsWith (status_of c) c fault
     failed_stops (inl none) = subst (λ s. StopsWith s c fault) (sym none) tt

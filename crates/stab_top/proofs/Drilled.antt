@@ -9,7 +9,7 @@ use Rattle.schedule_drill.specs.declared.fault.DrillFault.TheVariants as faults
 use Rattle.schedule_drill.specs.Drilled.{IsDrilled, IsNew, IsRefused, StopsAt}
 use Rattle.schedule_drill.specs.Played.{Stand}
 use Rattle.stab_top.specs.declared.report.Status.{Status}
-use Rattle.stab_top.specs.declared.report.Status.TheVariants.{Done, Held, BadWords, BadText, NoFile, TooBig, FileFault, SinkFault, Spent, NoMemory, BadProbes, BadTrace, BadScript, No, NotBuilt, Untyped}
+use Rattle.stab_top.specs.declared.report.Status.TheVariants.{Done, Held, BadWords, BadText, NoFile, TooBig, FileFault, SinkFault, Spent, NoMemory, BadProbes, BadTrace, BadScript, No, Untyped, NoCut, BadImage}
 use Rattle.sink_lines.specs.Device.{Gains, GainsPrefix}
 use Rattle.stab_top.specs.Drilling.{IsPlayedOut, IsStuck, PlayEnds, Reports, WriteEnds, unplayed_blame, unplayed_status}
 use Rattle.stab_top.specs.Ending.{Outcome, Refuses}
@@ -52,8 +52,9 @@ module _ (job : JobParts) (script : List Line) (o : Outcome) where
     play_ends BadTrace w = elim w [ ]
     play_ends BadScript w = elim w [ ]
     play_ends No w = elim w [ ]
-    play_ends NotBuilt w = elim w [ ]
     play_ends Untyped w = elim w [ ]
+    play_ends NoCut w = elim w [ ]
+    play_ends BadImage w = elim w [ ]
 
   abbrev stuck_at : (fault : DrillFault) (first : Stand) → IsNew job first → StopsAt first script fault → Refuses o (blames_script fault) → IsStuck job script o
   stuck_at fault first new stops refuses = record { first = first; new = new; fault = fault; stops = stops; refuses = refuses }

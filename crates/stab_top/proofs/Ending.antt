@@ -22,7 +22,7 @@ use Rattle.trace_text.specs.Text.{trace}
 use Rattle.worker_rounds.specs.declared.rounds.Stop.TheVariants as stops
 use Rattle.worker_rounds.specs.Releases.{HasReleases, StopSays}
 use Rattle.stab_top.specs.declared.report.Status.{Status}
-use Rattle.stab_top.specs.declared.report.Status.TheVariants.{Done, Held, BadWords, BadText, NoFile, TooBig, FileFault, SinkFault, Spent, NoMemory, BadProbes, BadTrace, BadScript, No, NotBuilt, Untyped}
+use Rattle.stab_top.specs.declared.report.Status.TheVariants.{Done, Held, BadWords, BadText, NoFile, TooBig, FileFault, SinkFault, Spent, NoMemory, BadProbes, BadTrace, BadScript, No, Untyped, NoCut, BadImage}
 use Rattle.sink_lines.specs.Device.{Device, Gains, GainsPrefix, Rests}
 use Rattle.sink_lines.proofs.Gained.{gains_on}
 use Rattle.stab_top.specs.Ending.{AsReleased, AtTheEnd, Ends, IsOver, IsRunOf, IsWritten, Outcome, Refuses, RestSays, RunEnds, WritesReleases, Writing, mill_line, milled_by, shown_by}
@@ -52,8 +52,9 @@ module _ (writes : Writing) (workers : ℕ) where
   ended BadTrace job o e = e
   ended BadScript job o e = e
   ended No job o e = e
-  ended NotBuilt job o e = e
   ended Untyped job o e = e
+  ended NoCut job o e = e
+  ended BadImage job o e = e
 
   -- the report has the book
   pub with_book : (status said : Status) (job : JobParts) (o : Outcome) (book : BookView) (state : PlainState) → status ≡ said → o.report.book ≡ Some book → blame_of o.report ≡ no_blame → IsRunOf workers job book state → writes workers said book state o → RunEnds writes workers status job o
@@ -82,8 +83,9 @@ module _ (text_by : BookView → PlainState → List ℕ) (workers : ℕ) (book 
   whole_by BadTrace w = w
   whole_by BadScript w = w
   whole_by No w = w
-  whole_by NotBuilt w = w
   whole_by Untyped w = w
+  whole_by NoCut w = w
+  whole_by BadImage w = w
 
 module _ (workers : ℕ) (book : BookView) (state : PlainState) (o : Outcome) where
   pub trace_whole : (status : Status) → IsWritten workers status book state (trace book.history) o → AtTheEnd workers status book state o
@@ -101,8 +103,9 @@ module _ (workers : ℕ) (book : BookView) (state : PlainState) (o : Outcome) wh
   trace_whole BadTrace w = w
   trace_whole BadScript w = w
   trace_whole No w = w
-  trace_whole NotBuilt w = w
   trace_whole Untyped w = w
+  trace_whole NoCut w = w
+  trace_whole BadImage w = w
 
 -- a run that ended with a status is over
 pub over_of : (workers : ℕ) (status : Status) (job : JobParts) (book : BookView) (has : HasRun workers status job book) → IsOver workers book has.state
@@ -120,8 +123,9 @@ over_of workers BadProbes job book has = elim has.rest [ ]
 over_of workers BadTrace job book has = elim has.rest [ ]
 over_of workers BadScript job book has = elim has.rest [ ]
 over_of workers No job book has = elim has.rest [ ]
-over_of workers NotBuilt job book has = elim has.rest [ ]
 over_of workers Untyped job book has = elim has.rest [ ]
+over_of workers NoCut job book has = elim has.rest [ ]
+over_of workers BadImage job book has = elim has.rest [ ]
 
 -- ---- the text of a run, and what of it is written when it is over
 

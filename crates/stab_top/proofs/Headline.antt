@@ -24,9 +24,8 @@ use Rattle.schedule_drill.specs.Solo.{IsDrilledByOne}
 use Rattle.schedule_drill.proofs.OneWorker.{drilled_by_one}
 use Rattle.stab_top.specs.declared.report.Report.{Report}
 use Rattle.stab_top.specs.declared.report.Status.{Status}
-use Rattle.stab_top.specs.declared.report.Status.TheVariants.{Done, Held, BadWords, BadText, NoFile, TooBig, FileFault, SinkFault, Spent, NoMemory, BadProbes, BadTrace, BadScript, No, NotBuilt, Untyped}
-use Rattle.stab_top.specs.Words.{is_built}
-use Rattle.stab_top.specs.Call.{BuiltSays, Call, DrillSays, LastSays, MillSays, OrdersSay, ReadSays, RunSaysBy, Says, ScriptSays, status_of}
+use Rattle.stab_top.specs.declared.report.Status.TheVariants.{Done, Held, BadWords, BadText, NoFile, TooBig, FileFault, SinkFault, Spent, NoMemory, BadProbes, BadTrace, BadScript, No, Untyped, NoCut, BadImage}
+use Rattle.stab_top.specs.Call.{RequestSays, Call, DrillSays, LastSays, MillSays, OrdersSay, ReadSays, RunSaysBy, Says, ScriptSays, status_of}
 use Rattle.sink_lines.specs.Device.{Device, Gains}
 use Rattle.stab_top.specs.Ending.{AsReleased, AtTheEnd, Ends, IsRunOf, IsWritten, Outcome, RestSays, RunEnds, Writing, milled_by, shown_by}
 use Rattle.stab_top.specs.Drilling.{IsPlayedOut, PlayEnds}
@@ -102,8 +101,9 @@ module _ (o : Outcome) (b : BookView) (there : o.report.book ≡ Some b) where
     run_book BadTrace e = ends_book BadTrace e
     run_book BadScript e = ends_book BadScript e
     run_book No e = ends_book No e
-    run_book NotBuilt e = ends_book NotBuilt e
     run_book Untyped e = ends_book Untyped e
+    run_book NoCut e = ends_book NoCut e
+    run_book BadImage e = ends_book BadImage e
 
   -- the book of a script that was played
   module _ (job : JobParts) (script : List Line) where
@@ -125,8 +125,9 @@ module _ (o : Outcome) (b : BookView) (there : o.report.book ≡ Some b) where
     play_book BadProbes e = elim e [ ]
     play_book BadTrace e = elim e [ ]
     play_book No e = elim e [ ]
-    play_book NotBuilt e = elim e [ ]
     play_book Untyped e = elim e [ ]
+    play_book NoCut e = elim e [ ]
+    play_book BadImage e = elim e [ ]
 
 module _ (c : Call) (b : BookView) (there : c.outcome.report.book ≡ Some b) where
   read_book : {Content Fault : Type 0} (form : Form Content Fault) (file : List ℕ) (faults : ℕ) (Said : Content → Type 0) → ((content : Content) → Said content → IsOfTheLanguage b) → ReadSays form c file faults Said → IsOfTheLanguage b
@@ -160,7 +161,7 @@ module _ (c : Call) (b : BookView) (there : c.outcome.report.book ≡ Some b) wh
       read_book program_form args.file c.files.faults (λ p. ScriptSays c args.probes (λ s. OrdersSay c args p s))
       (λ p said. behind_probes args.probes (λ s. OrdersSay c args p s) (λ s orders. orders_book args p s orders) said) says
 
-  built_book : (request : Request) → AsksForRun request → BuiltSays c request → IsOfTheLanguage b
+  built_book : (request : Request) → AsksForRun request → RequestSays c request → IsOfTheLanguage b
   built_book (Run args) asks says = file_book (AsReleased shown_by) args args.probes says
   built_book (Trace args) asks says = file_book AtTheEnd args args.probes says
   built_book (Mill args) asks says = mill_book args says
@@ -172,21 +173,9 @@ module _ (c : Call) (b : BookView) (there : c.outcome.report.book ≡ Some b) wh
   built_book (Resume args) asks says = elim asks [ ]
   built_book (Watch args) asks says = file_book (AsReleased watched_by) (record args { workers = most_workers }) args.probes says.0
 
-is_asked : (request : Request) → AsksForRun request → is_built request ≡ true
-is_asked (Run args) asks = refl
-is_asked (Trace args) asks = refl
-is_asked (Mill args) asks = refl
-is_asked (Verify args) asks = elim asks [ ]
-is_asked (Check file) asks = elim asks [ ]
-is_asked (Drill args) asks = refl
-is_asked (Types file) asks = elim asks [ ]
-is_asked (Save args) asks = elim asks [ ]
-is_asked (Resume args) asks = elim asks [ ]
-is_asked (Watch args) asks = refl
-
 -- each reported book of a run is of the language
 pub book_of_language : (words : List (List ℕ)) (c : Call) (request : Request) (b : BookView) → Says words c → asked words ≡ Ok request → AsksForRun request → c.outcome.report.book ≡ Some b → IsOfTheLanguage b
-book_of_language words c request b says is asks there = built_book c b there request asks (request_said words c request says is (is_asked request asks))
+book_of_language words c request b says is asks there = built_book c b there request asks (request_said words c request says is)
 
 -- ---- a run that is over
 
@@ -234,8 +223,9 @@ module _ (text_by : BookView → PlainState → List ℕ) (c : Call) (args : Run
   ended_run BadTrace is over e = elim over [ ]
   ended_run BadScript is over e = elim over [ ]
   ended_run No is over e = elim over [ ]
-  ended_run NotBuilt is over e = elim over [ ]
   ended_run Untyped is over e = elim over [ ]
+  ended_run NoCut is over e = elim over [ ]
+  ended_run BadImage is over e = elim over [ ]
 
 load_no_end : (role : Role) (status : Status) (files : Device (List Entry)) (name : List ℕ) (faults : ℕ) → LoadRefused status role files name faults → IsEnd status → ⊥
 load_no_end role Done files name faults refused over = refused
@@ -252,8 +242,9 @@ load_no_end role BadProbes files name faults refused over = over
 load_no_end role BadTrace files name faults refused over = over
 load_no_end role BadScript files name faults refused over = over
 load_no_end role No files name faults refused over = over
-load_no_end role NotBuilt files name faults refused over = over
 load_no_end role Untyped files name faults refused over = over
+load_no_end role NoCut files name faults refused over = over
+load_no_end role BadImage files name faults refused over = over
 
 module _ {Content Fault : Type 0} (form : Form Content Fault) (bad : IsEnd form.bad → ⊥) (report : Report) (over : IsEnd report.status) where
   bytes_no_end : (bytes : List ℕ) → BytesRefused form report bytes → ⊥
@@ -284,7 +275,7 @@ module _ (text_by : BookView → PlainState → List ℕ) (c : Call) (args : Run
 
 -- what a run that is over shows
 pub run_shows : (words : List (List ℕ)) (c : Call) (args : RunArgs) → Says words c → asked words ≡ Ok (Run args) → IsEnd (status_of c) → ShowsRunOf shown_by c args
-run_shows words c args says is over = file_ended shown_by c args over args.probes refl (request_said words c (Run args) says is refl)
+run_shows words c args says is over = file_ended shown_by c args over args.probes refl (request_said words c (Run args) says is)
 
 pub watch_shows : (words : List (List ℕ)) (c : Call) (args : RunArgs) → Says words c → asked words ≡ Ok (Watch args) → IsEnd (status_of c) → ShowsRunOf watched_by c (record args { workers = most_workers })
-watch_shows words c args says is over = file_ended watched_by c (record args { workers = most_workers }) over args.probes refl (request_said words c (Watch args) says is refl).0
+watch_shows words c args says is over = file_ended watched_by c (record args { workers = most_workers }) over args.probes refl (request_said words c (Watch args) says is).0

@@ -16,3 +16,6 @@ pub mod Given
 pub mod Mill
 pub mod Headline
 pub mod TypesFound
+pub mod SourceRead
+pub mod ImageRead
+pub mod GoneOn

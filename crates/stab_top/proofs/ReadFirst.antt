@@ -1,7 +1,7 @@
 -- A file that is read before others.
 use Rattle.std.proofs.Common.{◌≡◌, inr, ℕ, ℤ, List, Option, Some, refl, ap, sym, subst, ◌∙◌}
 use Rattle.stab_files.specs.Entry.{Entry}
-use Rattle.stab_top.specs.Call.{Call, ScriptSays}
+use Rattle.stab_top.specs.Call.{Call, NextSays, ScriptSays}
 use Rattle.sink_lines.specs.Device.{Device}
 use Rattle.stab_top.specs.Ending.{Outcome}
 use Rattle.stab_top.specs.Reading.{Form, Holds, probes_form}
@@ -28,3 +28,11 @@ script_read outcome after files between named file Said script is told holds say
     let same : between ≡ files = same_files files between told holds.loads.no_fault in
     subst (λ p. ScriptSays (finding outcome after files) p (Said (finding outcome after files))) (sym is)
     (inr (script, first probes_form files file between.faults script holds, subst (λ f. Said (finding outcome after f) script) same says))
+
+-- a file was read, and then this is said of what was done with its content
+pub next_read : {Content Fault : Type 0} (form : Form Content Fault) (outcome : Outcome) (after : ℕ) (files between : Device (List Entry)) (file : List ℕ) (Said : Call → Content → Type 0) (content : Content) →
+    between.told ≡ files.told → Holds form files file between.faults content → Said (finding outcome after between) content →
+    NextSays form (finding outcome after files) file (Said (finding outcome after files))
+next_read form outcome after files between file Said content told holds says =
+    let same : between ≡ files = same_files files between told holds.loads.no_fault in
+    inr (content, first form files file between.faults content holds, subst (λ f. Said (finding outcome after f) content) same says)

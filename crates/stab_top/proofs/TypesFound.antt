@@ -15,7 +15,7 @@ use Rattle.stab_words.specs.Asked.{asked}
 use Rattle.stab_words.specs.declared.request.Request.TheVariants.{Types}
 use Rattle.stab_top.specs.declared.report.Role.TheVariants as roles
 use Rattle.stab_top.specs.declared.report.Status.{Status}
-use Rattle.stab_top.specs.declared.report.Status.TheVariants.{Done, Held, BadWords, BadText, NoFile, TooBig, FileFault, SinkFault, Spent, NoMemory, BadProbes, BadTrace, BadScript, No, NotBuilt, Untyped}
+use Rattle.stab_top.specs.declared.report.Status.TheVariants.{Done, Held, BadWords, BadText, NoFile, TooBig, FileFault, SinkFault, Spent, NoMemory, BadProbes, BadTrace, BadScript, No, Untyped, NoCut, BadImage}
 use Rattle.stab_top.specs.Call.{Call, CountedFault, Says, TypesSays, status_of}
 use Rattle.stab_top.specs.Complete.{IsHeld, TypesFound}
 use Rattle.stab_top.specs.Typing.{TypesEnds}
@@ -36,8 +36,9 @@ types_found BadProbes c program says = elim says [ ]
 types_found BadTrace c program says = elim says [ ]
 types_found BadScript c program says = elim says [ ]
 types_found No c program says = elim says [ ]
-types_found NotBuilt c program says = elim says [ ]
 types_found Untyped c program says = inl (says.0, says.1)
+types_found NoCut c program says = elim says [ ]
+types_found BadImage c program says = elim says [ ]
 
 failed_found : (c : Call) (program : ProgramParts) → Failed (status_of c) c → TypesFound (status_of c) program ⊎ CountedFault c
 failed_found c program (inl none) = inl (subst (λ s. TypesFound s program) (sym none) tt)
@@ -50,7 +51,7 @@ came c program (inr ends) = types_found (status_of c) c program ends
 pub types_told : (words : List (List ℕ)) (c : Call) (file bytes : List ℕ) (program : ProgramParts) → Says words c → asked words ≡ Ok (Types file) → IsHeld roles.Program c file bytes → IsTextOf bytes program →
     TypesFound (status_of c) program ⊎ CountedFault c
 types_told words c file bytes program says is held text =
-    let types : TypesSays c file = request_said words c (Types file) says is refl in
+    let types : TypesSays c file = request_said words c (Types file) says is in
     came c program (program_said c file bytes program held text c.files_after (λ p. TypesEnds (status_of c) p c.outcome) types)
 
 failed_done : (c : Call) → status_of c ≡ Done → Failed (status_of c) c → ⊥
@@ -65,7 +66,7 @@ done_typed c program done (inr ends) = (subst (λ s. TypesEnds s program c.outco
 pub told_typed : (words : List (List ℕ)) (c : Call) (file bytes : List ℕ) (program : ProgramParts) → Says words c → asked words ≡ Ok (Types file) → status_of c ≡ Done → IsHeld roles.Program c file bytes → IsTextOf bytes program →
     IsTyped program
 told_typed words c file bytes program says is done held text =
-    let types : TypesSays c file = request_said words c (Types file) says is refl in
+    let types : TypesSays c file = request_said words c (Types file) says is in
     done_typed c program done (program_said c file bytes program held text c.files_after (λ p. TypesEnds (status_of c) p c.outcome) types)
 
 -- each program that a text has can be run

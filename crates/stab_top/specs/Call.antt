@@ -1,32 +1,36 @@
 -- What each status says of a call: of its files, its sink and its report.
-use Rattle.std.specs.Prelude.{◌≡◌, ℕ, ℤ, Bool, true, false, List, [], Option, Some, None, Result, Ok, Err, IfSome, ◌⊎◌}
+use Rattle.std.specs.Prelude.{◌≡◌, ℕ, ℤ, List, [], Option, Some, None, Result, Ok, Err, IfSome, ◌⊎◌}
 use Rattle.stab_code.specs.JobParts.{job_of}
 use Rattle.stab_code.specs.Program.{ProgramParts}
 use Rattle.stab_files.specs.Count.{Rose}
 use Rattle.stab_files.specs.Entry.{Entry}
 use Rattle.stab_words.specs.declared.request.Request.{Request}
-use Rattle.stab_words.specs.declared.request.Request.TheVariants.{Check, Drill, Mill, Run, Trace, Types, Verify, Watch}
+use Rattle.stab_words.specs.declared.request.Request.TheVariants.{Check, Drill, Mill, Resume, Run, Save, Trace, Types, Verify, Watch}
 use Rattle.stab_words.specs.declared.request.DrillArgs.{DrillArgs}
 use Rattle.stab_words.specs.declared.request.MillArgs.{MillArgs}
+use Rattle.stab_words.specs.declared.request.ResumeArgs.{ResumeArgs}
 use Rattle.stab_words.specs.declared.request.RunArgs.{RunArgs}
+use Rattle.stab_words.specs.declared.request.SaveArgs.{SaveArgs}
 use Rattle.stab_words.specs.declared.request.VerifyArgs.{VerifyArgs}
 use Rattle.stab_words.specs.declared.request.WordFault.{WordFault}
 use Rattle.stab_words.specs.Asked.{asked}
 use Rattle.stab_words.specs.Command.{most_workers}
 use Rattle.turn_floor.specs.Served.{AreOf}
 use Rattle.stab_top.specs.declared.report.Status.{Status}
-use Rattle.stab_top.specs.declared.report.Status.TheVariants.{BadWords, NoMemory, NotBuilt}
+use Rattle.stab_top.specs.declared.report.Status.TheVariants.{BadWords, NoMemory}
 use Rattle.stab_top.specs.Ending.{AsReleased, AtTheEnd, CheckEnds, Outcome, Refuses, RunEnds, VerdictEnds, Writing, shown_by}
 use Rattle.stab_top.specs.Milling.{MillEnds}
 use Rattle.stab_top.specs.Drilling.{DrillEnds}
 use Rattle.stab_top.specs.Typing.{TypesEnds}
+use Rattle.stab_top.specs.declared.saving.Source.{Source}
+use Rattle.stab_top.specs.Saving.{SaveEnds, source_form}
+use Rattle.stab_top.specs.Resuming.{ResumeEnds, image_form}
 use Rattle.stab_top.specs.Loading.{FileSays, blamed}
 use Rattle.stab_top.specs.declared.report.Role.TheVariants.{Script}
 use Rattle.sink_lines.specs.Device.{Device, Rests, device}
 use Rattle.stab_top.specs.Reading.{Form, Holds, ReadRefused, probes_form, program_form, trace_form}
 use Rattle.stab_top.specs.Reason.{Blame, blames_file, blames_words, no_blame}
 use Rattle.stab_top.specs.Watching.{watched_by}
-use Rattle.stab_top.specs.Words.{is_built}
 
 -- a call: the files before it, their fault count after it, and its outcome
 pub record Call : Type 0 where
@@ -52,12 +56,6 @@ abbrev pub FaultSays : Status → Call → WordFault → Type 0
 FaultSays BadWords c cause = Untouched c (blames_words cause)
 FaultSays NoMemory c cause = Untouched c no_blame
 FaultSays _ c cause = ⊥
-
--- what each status says of a request that isn't built: it was refused, or memory ran out
-abbrev pub NotBuiltSays : Status → Call → Type 0
-NotBuiltSays NotBuilt c = Untouched c no_blame
-NotBuiltSays NoMemory c = Untouched c no_blame
-NotBuiltSays _ c = ⊥
 
 module _ {Content Fault : Type 0} (form : Form Content Fault) where
   -- The file was refused and nothing written; or it holds a content of which `Said` is true, with this fault count after it was
@@ -120,6 +118,21 @@ abbrev pub VerifySays : Call → VerifyArgs → Type 0
 VerifySays c args =
     NextSays program_form c args.file (λ program. ScriptSays c args.probes (λ script. TraceSays c args.trace program script))
 
+-- the trace of a file, of which the image at a cut was to be saved
+abbrev pub CutSays : Call → SaveArgs → Source → List ℤ → Type 0
+CutSays c args source script =
+    LastSays trace_form c args.trace (λ history.
+    SaveEnds (status_of c) source.text.items source.program script history args.at c.outcome)
+
+-- the program is read first, then the script, then the trace
+abbrev pub SaveSays : Call → SaveArgs → Type 0
+SaveSays c args =
+    NextSays source_form c args.file (λ source. ScriptSays c args.probes (λ script. CutSays c args source script))
+
+-- the image in the file, from which the run was to go on
+abbrev pub ResumeSays : Call → ResumeArgs → Type 0
+ResumeSays c args = LastSays image_form c args.image (λ image. ResumeEnds (status_of c) image args.fuel c.outcome)
+
 -- the file of the drill script was refused, which is blamed; or its bytes were to be played on a new book of the job
 abbrev pub OrdersSay : Call → DrillArgs → ProgramParts → List ℤ → Type 0
 OrdersSay c args program script =
@@ -133,26 +146,22 @@ DrillSays c args =
     NextSays program_form c args.file (λ program. ScriptSays c args.probes (λ script. OrdersSay c args program script))
 
 -- what each command says of its call
-abbrev pub BuiltSays : Call → Request → Type 0
-BuiltSays c (Run args) = RunSays (AsReleased shown_by) c args
-BuiltSays c (Trace args) = RunSays AtTheEnd c args
-BuiltSays c (Mill args) = MillSays c args
-BuiltSays c (Verify args) = VerifySays c args
-BuiltSays c (Drill args) = DrillSays c args
-BuiltSays c (Check file) = CheckSays c file
-BuiltSays c (Types file) = TypesSays c file
-BuiltSays c (Watch args) = WatchSays c args
-BuiltSays c _ = ⊥
-
--- what is said of a request, by whether it is built
-abbrev pub RequestSays : Bool → Call → Request → Type 0
-RequestSays true c request = BuiltSays c request
-RequestSays false c request = NotBuiltSays (status_of c) c
+abbrev pub RequestSays : Call → Request → Type 0
+RequestSays c (Run args) = RunSays (AsReleased shown_by) c args
+RequestSays c (Trace args) = RunSays AtTheEnd c args
+RequestSays c (Mill args) = MillSays c args
+RequestSays c (Verify args) = VerifySays c args
+RequestSays c (Drill args) = DrillSays c args
+RequestSays c (Check file) = CheckSays c file
+RequestSays c (Types file) = TypesSays c file
+RequestSays c (Watch args) = WatchSays c args
+RequestSays c (Save args) = SaveSays c args
+RequestSays c (Resume args) = ResumeSays c args
 
 -- what is said of a call, by what its words mean: a fault or a request
 abbrev pub WordsSay : Result Request WordFault → Call → Type 0
 WordsSay (Err cause) c = FaultSays (status_of c) c cause
-WordsSay (Ok request) c = RequestSays (is_built request) c request
+WordsSay (Ok request) c = RequestSays c request
 
 -- what a call with these words says by its status
 abbrev pub Says : List (List ℕ) → Call → Type 0

@@ -13,7 +13,7 @@ use Rattle.stab_journal.specs.Journal.{Journal}
 use Rattle.stab_journal.specs.Surviving.{run_of}
 use Rattle.stab_types.specs.Typed.{IsFirstUntyped, IsTyped}
 use Rattle.stab_words.specs.declared.request.Request.{Request}
-use Rattle.stab_words.specs.declared.request.Request.TheVariants.{Check, Drill, Run, Trace as WritesTrace, Types, Verify, Watch}
+use Rattle.stab_words.specs.declared.request.Request.TheVariants.{Check, Drill, Run, Save, Trace as WritesTrace, Types, Verify, Watch}
 use Rattle.trace_verify.specs.declared.verdict.Verdict.{Verdict}
 use Rattle.trace_verify.specs.Verdict.{IsVerdict}
 use Rattle.stab_top.specs.declared.report.Status.{Status}
@@ -44,6 +44,7 @@ IsHeldFor c (Drill args) bytes = IsHeld Program c args.file bytes
 IsHeldFor c (Check file) bytes = IsHeld Program c file bytes
 IsHeldFor c (Types file) bytes = IsHeld Program c file bytes
 IsHeldFor c (Watch args) bytes = IsHeld Program c args.file bytes
+IsHeldFor c (Save args) bytes = IsHeld Program c args.file bytes
 IsHeldFor c _ bytes = ⊥
 
 -- the script is the one in the probe file of this name, or empty if there is no name

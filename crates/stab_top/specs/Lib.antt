@@ -1,5 +1,4 @@
 pub mod Reason
-pub mod Words
 pub mod Watching
 pub mod Loading
 pub mod Reading
@@ -9,6 +8,8 @@ pub mod Playing
 pub mod Milling
 pub mod Drilling
 pub mod Typing
+pub mod Saving
+pub mod Resuming
 pub mod Call
 pub mod Command
 pub mod Complete

@@ -5,7 +5,7 @@ use Rattle.stab_files.specs.Entry.{Entry, contents_of}
 use Rattle.stab_top.specs.declared.report.Status.{Status}
 use Rattle.stab_top.specs.declared.report.Status.TheVariants.{NoFile, TooBig, FileFault, NoMemory}
 use Rattle.stab_top.specs.declared.report.Role.{Role}
-use Rattle.stab_top.specs.declared.report.Role.TheVariants.{Program, Probes, Trace, Script}
+use Rattle.stab_top.specs.declared.report.Role.TheVariants.{Program, Probes, Trace, Script, Image}
 use Rattle.sink_lines.specs.Device.{Device}
 
 -- the largest size of a file, in bytes
@@ -14,6 +14,7 @@ max_bytes Program = 1048576
 max_bytes Probes = 1048576
 max_bytes Trace = 67108864
 max_bytes Script = 1048576
+max_bytes Image = 67108864
 
 -- if the files say what they hold, the fact is true of what they hold under the name
 abbrev pub Finds : Device (List Entry) → List ℕ → (Option (List ℕ) → Type 0) → Type 0

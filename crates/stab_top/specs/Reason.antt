@@ -2,10 +2,13 @@
 use Rattle.std.specs.Prelude.{ℕ, List, [], ◌∷◌, ◌++◌, Option, Some, None, codes, decimal}
 use Rattle.stab_text.specs.declared.fault.TextFault.{TextFault}
 use Rattle.stab_text.specs.FaultText as text
+use Rattle.image_run.specs.declared.going.Resumed.{Resumed}
 use Rattle.probe_text.specs.declared.fault.ProbesFault.{ProbesFault}
 use Rattle.probe_text.specs.declared.fault.ProbesFault.TheVariants as probes
 use Rattle.schedule_drill.specs.declared.fault.DrillFault.{DrillFault}
 use Rattle.schedule_drill.specs.declared.fault.DrillFault.TheVariants as scripts
+use Rattle.stab_image.specs.declared.fault.ImageFault.{ImageFault}
+use Rattle.stab_image.specs.declared.fault.ImageFault.TheVariants as images
 use Rattle.stab_types.specs.declared.typed.TypeFault.{TypeFault}
 use Rattle.stab_types.specs.declared.typed.TypeFault.TheVariants as types
 use Rattle.trace_text.specs.declared.fault.TraceFault.{TraceFault}
@@ -18,9 +21,9 @@ use Rattle.stab_words.specs.declared.request.WordFault.{WordFault}
 use Rattle.stab_words.specs.FaultText as words
 use Rattle.stab_top.specs.declared.report.Report.{Report}
 use Rattle.stab_top.specs.declared.report.Status.{Status}
-use Rattle.stab_top.specs.declared.report.Status.TheVariants.{Done, Held, BadWords, BadText, NoFile, TooBig, FileFault, SinkFault, Spent, NoMemory, BadProbes, BadTrace, BadScript, No, NotBuilt, Untyped}
+use Rattle.stab_top.specs.declared.report.Status.TheVariants.{Done, Held, BadWords, BadText, NoFile, TooBig, FileFault, SinkFault, Spent, NoMemory, BadProbes, BadTrace, BadScript, No, Untyped, NoCut, BadImage}
 use Rattle.stab_top.specs.declared.report.Role.{Role}
-use Rattle.stab_top.specs.declared.report.Role.TheVariants.{Program, Probes, Trace, Script}
+use Rattle.stab_top.specs.declared.report.Role.TheVariants.{Program, Probes, Trace, Script, Image}
 
 -- the exit status
 abbrev pub status_number : Status → ℕ
@@ -38,8 +41,9 @@ status_number BadProbes = 10
 status_number BadTrace = 11
 status_number BadScript = 12
 status_number No = 13
-status_number NotBuilt = 14
 status_number Untyped = 15
+status_number NoCut = 16
+status_number BadImage = 17
 
 -- the name of a status
 abbrev pub status_name : Status → List ℕ
@@ -57,8 +61,9 @@ status_name BadProbes = codes "BadProbes"
 status_name BadTrace = codes "BadTrace"
 status_name BadScript = codes "BadScript"
 status_name No = codes "No"
-status_name NotBuilt = codes "NotBuilt"
 status_name Untyped = codes "Untyped"
+status_name NoCut = codes "NoCut"
+status_name BadImage = codes "BadImage"
 
 -- the word for a file's role
 abbrev pub role_name : Role → List ℕ
@@ -66,9 +71,10 @@ role_name Program = codes "program"
 role_name Probes = codes "probes"
 role_name Trace = codes "trace"
 role_name Script = codes "script"
+role_name Image = codes "image"
 
 -- what a report names besides its status: the fault of the words, the file, the fault of the program's text, of the probe file,
--- of the trace, of the script or of the types, and the verdict
+-- of the trace, of the script, of the types or of the image, the verdict, and what was made of an image
 pub record Blame : Type 0 where
   pub words : Option WordFault
   pub file : Option Role
@@ -78,9 +84,22 @@ pub record Blame : Type 0 where
   pub script : Option DrillFault
   pub types : Option TypeFault
   pub verdict : Option Verdict
+  pub image : Option ImageFault
+  pub resumed : Option Resumed
 
 abbrev pub no_blame : Blame
-no_blame = record { words = None; file = None; text = None; probes = None; trace = None; script = None; types = None; verdict = None }
+no_blame = record {
+  words = None;
+  file = None;
+  text = None;
+  probes = None;
+  trace = None;
+  script = None;
+  types = None;
+  verdict = None;
+  image = None;
+  resumed = None;
+}
 
 abbrev pub blames_words : WordFault → Blame
 blames_words fault = record no_blame { words = Some fault }
@@ -106,6 +125,12 @@ blames_types fault = record no_blame { types = Some fault }
 abbrev pub names_verdict : Verdict → Blame
 names_verdict verdict = record no_blame { verdict = Some verdict }
 
+abbrev pub blames_image : ImageFault → Blame
+blames_image fault = record no_blame { image = Some fault }
+
+abbrev pub names_resumed : Resumed → Blame
+names_resumed resumed = record no_blame { resumed = Some resumed }
+
 abbrev pub blame_of : Report → Blame
 blame_of report = record {
   words = report.words_fault;
@@ -116,6 +141,8 @@ blame_of report = record {
   script = report.script_fault;
   types = report.type_fault;
   verdict = report.verdict;
+  image = report.image_fault;
+  resumed = report.resumed;
 }
 
 -- a word of the line, after a space
@@ -159,6 +186,15 @@ script_words (Some (scripts.NoSuchLease at)) = codes " NoSuchLease" ++ number_wo
 script_words (Some (scripts.HeldTwice at)) = codes " HeldTwice" ++ number_word (Some at)
 script_words (Some scripts.NoMemory) = codes " NoMemory"
 
+abbrev pub image_words : Option ImageFault → List ℕ
+image_words None = []
+image_words (Some (images.BadLine at)) = codes " BadLine" ++ number_word (Some at)
+image_words (Some (images.BadNumber at)) = codes " BadNumber" ++ number_word (Some at)
+image_words (Some images.BadProgram) = codes " BadProgram"
+image_words (Some (images.BadState at)) = codes " BadState" ++ number_word (Some at)
+image_words (Some images.NoEnd) = codes " NoEnd"
+image_words (Some images.NoMemory) = codes " NoMemory"
+
 -- the number of the first function that isn't typed
 abbrev pub type_words : Option TypeFault → List ℕ
 type_words None = []
@@ -184,11 +220,12 @@ abbrev pub verdict_words : Option Verdict → List ℕ
 verdict_words None = []
 verdict_words (Some verdict) = failing_words verdict
 
--- the words for all parts of the cause
+-- the words for all parts of the cause; what was made of an image has none
 abbrev pub blame_words : Blame → List ℕ
 blame_words blame =
     role_word blame.file ++ (fault_words blame.words ++ (text_words blame.text
-    ++ (probes_words blame.probes ++ (trace_words blame.trace ++ (script_words blame.script ++ (type_words blame.types ++ verdict_words blame.verdict))))))
+    ++ (probes_words blame.probes ++ (trace_words blame.trace ++ (script_words blame.script ++ (type_words blame.types
+    ++ (verdict_words blame.verdict ++ image_words blame.image)))))))
 
 -- the line with the status and its cause
 abbrev pub reason_line : Status → Blame → List ℕ

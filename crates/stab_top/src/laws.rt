@@ -38,7 +38,6 @@ ghost use Rattle.stab_words.specs.declared.request.VerifyArgs.{VerifyArgs};
 ghost use Rattle.trace_text.specs.declared.fault.TraceFault.{TraceFault};
 ghost use Rattle.trace_text.specs.Text.{trace};
 ghost use Rattle.stab_top.specs.Call.{Call, CountedFault, Says, status_of};
-ghost use Rattle.stab_top.specs.Words.{is_built};
 ghost use Rattle.stab_top.specs.Complete.{Checked, ComesTo, IsHeld, IsHeldFor, IsRefused, IsScriptFor, Ran, StopsWith, TypesFound, WasDrilled, WasJudged, WasStuck};
 ghost use Rattle.stab_top.specs.Ending.{IsRunOf, shown_by};
 ghost use Rattle.stab_top.specs.Watching.{watched_by};
@@ -209,11 +208,11 @@ pub fn runs_have_one_history()
         IsWholeSolo a.job a.history.events → BeginsWith a.history.events b.history.events }
 {}
 
-/// If the words ask for what is built, and the files say that they hold bytes with this fault under the program's name within the
+/// If the words ask for a command on a program, and the files say that they hold bytes with this fault under the program's name within the
 /// limit, then the call was refused for this fault, or memory ran out, or a fault was counted.
 pub fn bad_texts_are_refused()
     ensures { (words : List (List ℕ)) (c : Call) (request : Request) (bytes : List ℕ) (fault : TextFault) → Says words c →
-        asked words ≡ Ok request → is_built request ≡ true → IsHeldFor c request bytes → HasFault bytes fault →
+        asked words ≡ Ok request → IsHeldFor c request bytes → HasFault bytes fault →
         IsRefused program_form c fault ⊎ CountedFault c }
 {}
 

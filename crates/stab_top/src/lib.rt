@@ -12,14 +12,15 @@ mod program;
 mod reading;
 mod reason_line;
 mod report;
+mod resuming;
 mod rounds;
 mod running;
+mod saving;
 mod sharing;
 mod silent;
 mod top;
 mod typing;
 mod watching;
-mod words;
 
 pub use laws::{
     bad_lines_stop_drills, bad_probes_are_refused, bad_probes_stop_drills, bad_probes_stop_runs,

@@ -1,11 +1,12 @@
 //! The reason line: why a call didn't end as Done.
 ghost use Rattle.std.specs.Prelude.{◌≡◌, ◌++◌, IfOk, OnOk, OnErr, string_bytes};
-ghost use Rattle.stab_top.specs.Reason.{blame_of, blame_words, failing_words, fault_words, number_word, probes_words, reason_text, role_word, script_words, text_words, trace_words, type_words, verdict_words, why_name};
+ghost use Rattle.stab_top.specs.Reason.{blame_of, blame_words, failing_words, fault_words, image_words, number_word, probes_words, reason_text, role_word, script_words, text_words, trace_words, type_words, verdict_words, why_name};
 
 use crate::report::{Report, Role, Status};
 use probe_text::ProbesFault;
 use schedule_drill::DrillFault;
 use stab_base::NoMemory;
+use stab_image::ImageFault;
 use stab_text::TextFault;
 use stab_types::TypeFault;
 use stab_words::WordFault;
@@ -41,7 +42,8 @@ fn blame_words(alloc: Global, report: &Report) -> Result<String, NoMemory>
     let script = script_words(alloc, report.script_fault)?;
     let types = type_words(alloc, report.type_fault)?;
     let verdict = verdict_words(alloc, report.verdict)?;
-    Ok(format!(in alloc; "{role}{fault}{text}{probes}{trace}{script}{types}{verdict}")?)
+    let image = image_words(alloc, report.image_fault)?;
+    Ok(format!(in alloc; "{role}{fault}{text}{probes}{trace}{script}{types}{verdict}{image}")?)
 }
 
 // The word for the file, after a space.
@@ -130,6 +132,21 @@ fn script_words(alloc: Global, fault: Option<DrillFault>) -> Result<String, NoMe
         Some(DrillFault::NoSuchLease(at)) => Ok(format!(in alloc; " NoSuchLease {at}")?),
         Some(DrillFault::HeldTwice(at)) => Ok(format!(in alloc; " HeldTwice {at}")?),
         Some(DrillFault::NoMemory) => Ok(String::from_str(alloc, " NoMemory")?),
+    }
+}
+
+// The name of the fault and its place, each after a space.
+fn image_words(alloc: Global, fault: Option<ImageFault>) -> Result<String, NoMemory>
+    ensures { IfOk result (λ words. string_bytes words ≡ image_words fault) }
+{
+    match fault {
+        None => Ok(String::new(alloc)),
+        Some(ImageFault::BadLine(at)) => Ok(format!(in alloc; " BadLine {at}")?),
+        Some(ImageFault::BadNumber(at)) => Ok(format!(in alloc; " BadNumber {at}")?),
+        Some(ImageFault::BadProgram) => Ok(String::from_str(alloc, " BadProgram")?),
+        Some(ImageFault::BadState(at)) => Ok(format!(in alloc; " BadState {at}")?),
+        Some(ImageFault::NoEnd) => Ok(String::from_str(alloc, " NoEnd")?),
+        Some(ImageFault::NoMemory) => Ok(String::from_str(alloc, " NoMemory")?),
     }
 }
 

@@ -3,13 +3,14 @@ ghost use Rattle.std.specs.Prelude.{◌≡◌, Some, None};
 ghost use Rattle.stab_types.specs.declared.typed.TypeFault.TheVariants.{Untyped as UntypedFault};
 ghost use Rattle.stab_top.specs.Loading.{max_bytes};
 ghost use Rattle.stab_top.specs.Reading.{Blames};
-ghost use Rattle.stab_top.specs.Reason.{blame_of, blames_file, blames_probes, blames_script, blames_text, blames_trace, blames_types, blames_words, names_verdict, no_blame, role_name, status_name, status_number};
-ghost use Rattle.stab_top.specs.declared.report.Status.TheVariants.{BadProbes as BadProbesStatus, BadScript as BadScriptStatus, BadText as BadTextStatus, BadTrace as BadTraceStatus, BadWords as BadWordsStatus, Untyped as UntypedStatus};
+ghost use Rattle.stab_top.specs.Reason.{blame_of, blames_file, blames_image, blames_probes, blames_script, blames_text, blames_trace, blames_types, blames_words, names_resumed, names_verdict, no_blame, role_name, status_name, status_number};
+ghost use Rattle.stab_top.specs.declared.report.Status.TheVariants.{BadImage as BadImageStatus, BadProbes as BadProbesStatus, BadScript as BadScriptStatus, BadText as BadTextStatus, BadTrace as BadTraceStatus, BadWords as BadWordsStatus, Untyped as UntypedStatus};
 
 use commit_book::Book;
 use probe_text::ProbesFault;
 use schedule_drill::DrillFault;
 use stab_base::FnId;
+use stab_image::{ImageFault, Resumed};
 use stab_text::TextFault;
 use stab_types::TypeFault;
 use stab_words::WordFault;
@@ -20,7 +21,8 @@ use trace_verify::Verdict;
 #[derive(Clone, Copy, PartialEq, Eq, Debug)]
 pub enum Status {
     /// The run came to rest, and every thread ended without a fault. For `check`, its line was written; for `types`, the program
-    /// is typed; for `drill`, the script was played to its end; for `verify`, the trace is that of a run of the program.
+    /// is typed; for `drill`, the script was played to its end; for `verify`, the trace is that of a run of the program; for
+    /// `save`, the image was written.
     Done,
     /// The run came to rest, and some thread failed or waits.
     Held,
@@ -48,10 +50,12 @@ pub enum Status {
     BadScript,
     /// The trace isn't that of a run of the program.
     No,
-    /// The words ask for a command that isn't built yet.
-    NotBuilt,
     /// A function of the program isn't typed.
-    Untyped,
+    Untyped = 15,
+    /// The trace is one of a run of the program, which has fewer cuts.
+    NoCut,
+    /// The image's file is malformed.
+    BadImage,
 }
 
 impl Status {
@@ -81,8 +85,9 @@ impl Status {
             Status::BadTrace => "BadTrace",
             Status::BadScript => "BadScript",
             Status::No => "No",
-            Status::NotBuilt => "NotBuilt",
             Status::Untyped => "Untyped",
+            Status::NoCut => "NoCut",
+            Status::BadImage => "BadImage",
         }
     }
 }
@@ -94,6 +99,7 @@ pub enum Role {
     Probes,
     Trace,
     Script,
+    Image,
 }
 
 impl Role {
@@ -106,6 +112,7 @@ impl Role {
             Role::Probes => "probes",
             Role::Trace => "trace",
             Role::Script => "script",
+            Role::Image => "image",
         }
     }
 
@@ -115,7 +122,7 @@ impl Role {
     {
         match self {
             Role::Program | Role::Probes | Role::Script => 1_048_576,
-            Role::Trace => 67_108_864,
+            Role::Trace | Role::Image => 67_108_864,
         }
     }
 }
@@ -143,6 +150,10 @@ pub struct Report {
     pub type_fault: Option<TypeFault>,
     /// The verdict on a trace, even if it couldn't be written.
     pub verdict: Option<Verdict>,
+    /// What is wrong with the image.
+    pub image_fault: Option<ImageFault>,
+    /// What a run made that went on from an image, even if what it shows couldn't be written.
+    pub resumed: Option<Resumed>,
 }
 
 impl Report {
@@ -174,6 +185,8 @@ impl Report {
             script_fault: None,
             type_fault: None,
             verdict: None,
+            image_fault: None,
+            resumed: None,
         }
     }
 
@@ -261,6 +274,28 @@ impl Report {
     {
         Report {
             verdict: Some(verdict),
+            ..Report::bare(status)
+        }
+    }
+
+    /// The report that the image is malformed.
+    pub(crate) fn bad_image(fault: ImageFault) -> Report
+        ensures status { result.status ≡ BadImageStatus }
+        ensures blames { Blames result (blames_image fault) }
+    {
+        Report {
+            image_fault: Some(fault),
+            ..Report::bare(Status::BadImage)
+        }
+    }
+
+    /// The report of a run that went on from an image.
+    pub(crate) fn gone_on(status: Status, resumed: Resumed) -> Report
+        ensures status { result.status ≡ status }
+        ensures reported { Blames result (names_resumed resumed) }
+    {
+        Report {
+            resumed: Some(resumed),
             ..Report::bare(status)
         }
     }

@@ -5,7 +5,6 @@ ghost use Rattle.stab_words.specs.Command.{most_fuel, most_quantum};
 ghost use Rattle.stab_words.specs.Within.{IsRunWithin, IsUpTo, IsWithin};
 ghost use Rattle.stab_top.specs.Call.{CheckSays, DrillSays, OrdersSay, RequestSays, RunSays, Says, ScriptSays, TraceSays, VerifySays, call_of};
 ghost use Rattle.stab_top.specs.Ending.{AsReleased, AtTheEnd, outcome_of, shown_by};
-ghost use Rattle.stab_top.specs.Words.{is_built};
 
 use crate::checking::check_program;
 use crate::drilling::play_drill;
@@ -14,10 +13,11 @@ use crate::loading::load;
 use crate::milling::run_mill;
 use crate::reading::{Given, read_probes_file, read_program_file, read_run, read_trace_file};
 use crate::report::{Report, Role, Status};
+use crate::resuming::resume_file;
 use crate::running::{LastLine, Means, run_program, trace_program};
+use crate::saving::save_file;
 use crate::typing::types_file;
 use crate::watching::watch_file;
-use crate::words::is_built;
 use stab_code::Program;
 use stab_files::{Files, Sink};
 use stab_words::{DrillArgs, Name, Request, RunArgs, VerifyArgs, WordFault, read_words};
@@ -30,10 +30,11 @@ use worker_lease::Gate;
 /// it shows; `trace FILE` runs it and writes the trace; `mill SIZE` runs the mill of this size; `verify FILE TRACE` writes the
 /// verdict on a trace; `drill FILE SCRIPT` plays a schedule written by hand, and writes what its lines did and then what the
 /// program shows; `check FILE` writes how many functions and texts the program has; `types FILE` writes how many functions it
-/// has, if it is typed; `watch FILE` is `run FILE` while a board shows the run's journal, with a last line of what it shows. `run`,
-/// `trace`, `watch` and `mill` use as many workers as the words say. One worker runs on the calling thread and calls no gate, but
-/// not in `watch`. Of several workers, each runs in a thread of its own, if one can be made, and calls the gate before each
-/// commit. So the call may wait.
+/// has, if it is typed; `save FILE TRACE CUT` writes the image at a cut of a trace; `resume IMAGE` goes on from an image, and
+/// writes what the run shows behind what was printed up to the cut; `watch FILE` is `run FILE` while a board shows the run's
+/// journal, with a last line of what it shows. `run`, `trace`, `watch` and `mill` use as many workers as the words say. One worker
+/// runs on the calling thread and calls no gate, but not in `watch`. Of several workers, each runs in a thread of its own, if one
+/// can be made, and calls the gate before each commit. So the call may wait.
 pub fn stab<R: Threads + Wait + Sync, F: Files, K: Sink, G: Gate + Sync>(
     rt: &R,
     alloc: Global,
@@ -53,7 +54,7 @@ pub fn stab<R: Threads + Wait + Sync, F: Files, K: Sink, G: Gate + Sync>(
     }
 }
 
-// Carries out a request, or refuses one that isn't built.
+// Carries out a request.
 fn answer_request<R: Threads + Wait + Sync, F: Files, K: Sink, G: Gate + Sync>(
     rt: &R,
     alloc: Global,
@@ -63,13 +64,10 @@ fn answer_request<R: Threads + Wait + Sync, F: Files, K: Sink, G: Gate + Sync>(
     gate: &G,
 ) -> Report
     requires { IsWithin request.now }
-    ensures says { RequestSays (is_built request.now) (call_of F.held F.faults files.old files.new
+    ensures says { RequestSays (call_of F.held F.faults files.old files.new
         (outcome_of K.told K.faults sink.old sink.new result)) request.now }
     ensures kept { F.held files.new ≡ F.held files.old }
 {
-    if !is_built(request) {
-        return Report::bare(Status::NotBuilt);
-    }
     match request {
         Request::Run(args) => run_file(rt, alloc, args, files, sink, gate),
         Request::Trace(args) => trace_file(rt, alloc, args, files, sink, gate),
@@ -78,8 +76,9 @@ fn answer_request<R: Threads + Wait + Sync, F: Files, K: Sink, G: Gate + Sync>(
         Request::Drill(args) => drill_file(alloc, args, files, sink),
         Request::Check(file) => check_file(alloc, file, files, sink),
         Request::Types(file) => types_file(alloc, file, files, sink),
+        Request::Save(args) => save_file(alloc, args, files, sink),
+        Request::Resume(args) => resume_file(alloc, args, files, sink),
         Request::Watch(args) => watch_file(rt, alloc, args, files, sink, gate),
-        _ => unreachable!(),
     }
 }
 

@@ -1,0 +1,116 @@
+//! Goes on from an image.
+ghost use Rattle.std.specs.Prelude.{◌≡◌, ◌≢◌, ◌≤◌, ℕ, List, length, IfErr, IfOk};
+ghost use Rattle.sink_lines.specs.Device.{device};
+ghost use Rattle.stab_image.specs.declared.fault.ImageFault.TheVariants.{NoMemory as NoMemoryLeft};
+ghost use Rattle.stab_words.specs.Command.{most_fuel, most_quantum};
+ghost use Rattle.stab_words.specs.Within.{IsUpTo};
+ghost use Rattle.stab_top.specs.Call.{ResumeSays, call_of};
+ghost use Rattle.stab_top.specs.Ending.{outcome_of};
+ghost use Rattle.stab_top.specs.Loading.{max_bytes};
+ghost use Rattle.stab_top.specs.Reading.{Blames, BytesRefused, Holds, ReadRefused};
+ghost use Rattle.stab_top.specs.Reason.{names_resumed};
+ghost use Rattle.stab_top.specs.Resuming.{IsNoImage, IsPutAs, ResumeEnds, image_form, status_by};
+ghost use Rattle.stab_top.specs.declared.report.Role.TheVariants.{Image as ImageFile};
+
+use crate::loading::load;
+use crate::report::{Report, Role, Status};
+use image_commands::{Shown, shown_by};
+use stab_files::{Files, Sink, SinkFail};
+use stab_image::{Image, ImageFault, read_image};
+use stab_words::ResumeArgs;
+use std::alloc::Global;
+
+/// Reads an image, goes on from there, and writes what the run shows behind what was printed up to the cut.
+pub fn resume_file<F: Files, K: Sink>(
+    alloc: Global,
+    args: &ResumeArgs,
+    files: &mut F,
+    sink: &mut K,
+) -> Report
+    requires fuel { IsUpTo most_fuel args.now.fuel }
+    requires quantum { IsUpTo most_quantum args.now.quantum }
+    ensures says { ResumeSays (call_of F.held F.faults files.old files.new
+        (outcome_of K.told K.faults sink.old sink.new result)) args.now }
+    ensures kept { F.held files.new ≡ F.held files.old }
+{
+    match read_image_file(alloc, files, args.image.as_str()) {
+        Ok(image) => resume_image(alloc, image, args.fuel, args.quantum, sink),
+        Err(report) => report,
+    }
+}
+
+// The image in the file, or the report of why it couldn't be read.
+fn read_image_file<F: Files>(alloc: Global, files: &mut F, name: &str) -> Result<Image, Report>
+    ensures ok { IfOk result (Holds image_form (device F.held F.faults files.old) name.now (F.faults files.new)) }
+    ensures err { IfErr result (λ report. ReadRefused image_form report (device F.held F.faults files.old) name.now (F.faults files.new)) }
+    ensures kept { F.held files.new ≡ F.held files.old }
+{
+    match load(alloc, files, Role::Image, name) {
+        Ok(bytes) => image_of(alloc, &bytes),
+        Err(report) => Err(report),
+    }
+}
+
+// The image of the text, or the report of why it couldn't be read.
+fn image_of(alloc: Global, bytes: &[u8]) -> Result<Image, Report>
+    requires { length bytes.now ≤ max_bytes ImageFile }
+    ensures ok { IfOk result (image_form.IsOf bytes.now) }
+    ensures err { IfErr result (λ report. BytesRefused image_form report bytes.now) }
+{
+    match read_image(alloc, bytes) {
+        Ok(image) => Ok(image),
+        Err(fault) => Err(refusal(fault)),
+    }
+}
+
+// The report of bytes that aren't an image, or that memory ran out.
+fn refusal(fault: ImageFault) -> Report
+    ensures { (bytes : List ℕ) → (fault ≢ NoMemoryLeft → IsNoImage bytes fault) → BytesRefused image_form result bytes }
+{
+    match fault {
+        ImageFault::NoMemory => Report::bare(Status::NoMemory),
+        _ => Report::bad_image(fault),
+    }
+}
+
+// Goes on from the image.
+fn resume_image<K: Sink>(
+    alloc: Global,
+    image: Image,
+    fuel: u64,
+    quantum: u32,
+    sink: &mut K,
+) -> Report
+    requires fuel { IsUpTo most_fuel fuel }
+    requires quantum { IsUpTo most_quantum quantum }
+    ensures { ResumeEnds result.status image fuel (outcome_of K.told K.faults sink.old sink.new result) }
+{
+    match shown_by(alloc, image, fuel, quantum) {
+        Ok(shown) => put_shown(status_of(shown.resumed.spent, shown.all_ended), shown, sink),
+        Err(_) => Report::bare(Status::NoMemory),
+    }
+}
+
+fn status_of(spent: bool, all_ended: bool) -> Status
+    ensures { result ≡ status_by spent all_ended }
+{
+    if spent {
+        Status::Spent
+    } else if all_ended {
+        Status::Done
+    } else {
+        Status::Held
+    }
+}
+
+// Writes what a run shows that went on, and reports it.
+fn put_shown<K: Sink>(status: Status, shown: Shown, sink: &mut K) -> Report
+    ensures reported { Blames result (names_resumed shown.resumed) }
+    ensures told { IsPutAs status shown.text.items (outcome_of K.told K.faults sink.old sink.new result) }
+{
+    let Shown { resumed, text, .. } = shown;
+    match sink.put(&text) {
+        Ok(()) => Report::gone_on(status, resumed),
+        Err(SinkFail::Failed) => Report::gone_on(Status::SinkFault, resumed),
+    }
+}
