@@ -1,7 +1,5 @@
 -- What each status says of a job that was run.
-use Rattle.std.proofs.Common.{◌≡◌, ◌⊎◌, ◌∙◌, inl, inr, ℕ, List, [], ◌++◌, take, drop, Option, Some, None, Result, Ok, Err, IfOk, IfErr, refl, sym, ap, subst, append-nil, append_assoc}
-use Rattle.std.specs.List.{flat_map}
-use Rattle.std.specs.FinMap as map
+use Rattle.std.proofs.Common.{◌≡◌, ◌∙◌, inl, inr, ℕ, List, [], ◌++◌, take, drop, Some, Result, Ok, Err, IfOk, IfErr, refl, sym, ap, subst, append-nil, append_assoc}
 use Rattle.std.proofs.lemmas.Grind.{flat_map-append}
 use Rattle.std.proofs.lemmas.List.{take-append-drop}
 use Rattle.stab_base.specs.Datum.{Datum}
@@ -10,11 +8,10 @@ use Rattle.stab_base.specs.Printed.{printed}
 use Rattle.stab_base.proofs.GainLemmas.{SomePrefix-append}
 use Rattle.stab_code.specs.JobParts.{JobParts}
 use Rattle.stab_files.specs.Count.{Rose}
-use Rattle.stab_files.specs.Told.{Appends, AppendsPrefix}
+use Rattle.stab_files.specs.Told.{Appends}
 use Rattle.stab_files.proofs.Puts.{appends_trans}
 use Rattle.stab_journal.specs.Due.{released}
-use Rattle.stab_journal.specs.Journal.{survivors}
-use Rattle.plain_language.specs.Plain.{PlainState, end_of}
+use Rattle.plain_language.specs.Plain.{PlainState}
 use Rattle.plain_language.specs.Shown.{line, shown, value_lines}
 use Rattle.commit_book.specs.Book.{BookView, IsShown}
 use Rattle.book_text.specs.Written.{IsRestText, released_lines}
@@ -25,7 +22,7 @@ use Rattle.stab_top.specs.declared.report.Status.{Status}
 use Rattle.stab_top.specs.declared.report.Status.TheVariants.{Done, Held, BadWords, BadText, NoFile, TooBig, FileFault, SinkFault, Spent, NoMemory, BadProbes, BadTrace, BadScript, No, Untyped, NoCut, BadImage}
 use Rattle.sink_lines.specs.Device.{Device, Gains, GainsPrefix, Rests}
 use Rattle.sink_lines.proofs.Gained.{gains_on}
-use Rattle.stab_top.specs.Ending.{AsReleased, AtTheEnd, Ends, IsOver, IsRunOf, IsWritten, Outcome, Refuses, RestSays, RunEnds, WritesReleases, Writing, mill_line, milled_by, shown_by}
+use Rattle.stab_top.specs.Ending.{AsReleased, AtTheEnd, Ends, IsOver, IsRunOf, IsWritten, Outcome, Refuses, RunEnds, Writing, mill_line, shown_by}
 use Rattle.stab_top.specs.declared.running.LastLine.{LastLine}
 use Rattle.stab_top.specs.declared.running.LastLine.TheVariants.{Nothing, Mill, Watch}
 use Rattle.stab_top.specs.Playing.{HasRun, HasStopped, IsTextBehind, WritesOf}

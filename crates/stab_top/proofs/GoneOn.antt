@@ -1,5 +1,5 @@
 -- A run that went on from an image.
-use Rattle.std.proofs.Common.{◌≡◌, ◌⊎◌, inl, inr, ℕ, Bool, true, false, refl, sym, subst}
+use Rattle.std.proofs.Common.{◌≡◌, inl, inr, ℕ, Bool, true, false, refl, sym, subst}
 use Rattle.image_laws.specs.Image.{Image}
 use Rattle.image_commands.specs.declared.resuming.Shown.{Shown}
 use Rattle.image_commands.specs.Shown.{IsShown}

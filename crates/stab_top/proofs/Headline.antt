@@ -1,5 +1,5 @@
 -- What a call shows of the program that it runs.
-use Rattle.std.proofs.Common.{◌≡◌, inl, inr, ℕ, ℤ, true, List, [], Option, Some, None, Ok, refl, sym, subst}
+use Rattle.std.proofs.Common.{◌≡◌, inl, inr, ℕ, ℤ, List, [], Option, Some, None, Ok, refl, sym, subst}
 use Rattle.drill_text.specs.Script.{script_of}
 use Rattle.drill_text.specs.declared.script.Line.{Line}
 use Rattle.stab_code.specs.JobParts.{JobParts, job_of}

@@ -1,5 +1,5 @@
 -- A program that is read with its text.
-use Rattle.std.proofs.Common.{◌≡◌, ℕ, List, ◌≤◌, inl, inr, arith}
+use Rattle.std.proofs.Common.{ℕ, List, ◌≤◌, inl, inr, arith}
 use Rattle.stab_journal.specs.Journal.{Journal}
 use Rattle.stab_files.specs.Entry.{Entry}
 use Rattle.sink_lines.specs.Device.{Device}

@@ -1,5 +1,5 @@
 -- What a call says of the types of a program that is held.
-use Rattle.std.proofs.Common.{◌≡◌, ◌≤◌, ℕ, List, length, Ok, ◌⊎◌, inl, inr, refl, sym, subst, ◌∙◌}
+use Rattle.std.proofs.Common.{◌≡◌, ◌≤◌, ℕ, List, length, Ok, ◌⊎◌, inl, inr, sym, subst, ◌∙◌}
 use Rattle.std.specs.Prelude.{IfOk}
 use Rattle.scope_check.specs.Scope.{program_scoped}
 use Rattle.stab_code.specs.Program.{ProgramParts}

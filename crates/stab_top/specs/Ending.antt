@@ -1,5 +1,5 @@
 -- What each status says of a run, a check or a verdict.
-use Rattle.std.specs.Prelude.{◌≡◌, ℕ, ℤ, ◌<◌, ◌≤◌, true, false, List, [], ◌∷◌, ◌++◌, count_by, Option, Some, None, IfSome, IsSomeAnd, codes, decimal, length, ◌⊎◌}
+use Rattle.std.specs.Prelude.{◌≡◌, ℕ, ℤ, ◌<◌, ◌≤◌, true, false, List, [], ◌∷◌, ◌++◌, count_by, Option, Some, IfSome, IsSomeAnd, codes, decimal, length, ◌⊎◌}
 use Rattle.stab_base.specs.Gain.{SomePrefix}
 use Rattle.stab_code.specs.JobParts.{JobParts}
 use Rattle.stab_code.specs.Program.{ProgramParts}

@@ -1,4 +1,4 @@
-use Rattle.std.proofs.Common.{◌≡◌, ◌+◌, true, false, add-one, sym, ap, ◌∙◌, arith}
+use Rattle.std.proofs.Common.{◌≡◌, true, false, add-one, sym, ap, ◌∙◌, arith}
 use Rattle.std.specs.Prelude.{Some, option_copied}
 use Rattle.stab_journal.specs.declared.event.What.{What}
 use Rattle.stab_journal.specs.Journal.{event_at}

@@ -1,4 +1,4 @@
-use Rattle.std.proofs.Common.{◌≡◌, ℕ, List, ◌++◌, length, take, ap, subst, ◌∙◌}
+use Rattle.std.proofs.Common.{◌≡◌, List, ◌++◌, length, take, ap, subst, ◌∙◌}
 use Rattle.stab_base.specs.Datum.{Datum}
 use Rattle.stab_code.specs.Program.{ProgramParts}
 use Rattle.plain_language.specs.Shown.{shown, value_lines}
