@@ -81,6 +81,8 @@ impl<K: Kept, C: Ledger, S: Ledger> Floor<K, C, S> {
             seen: _,
             mut commits,
             mut stale,
+            rests: _,
+            commits_at_rest: _,
         } = first;
         let mut others = others;
         while let Some(pass) = others.pop() {
@@ -118,6 +120,8 @@ impl<K: Kept, C: Ledger, S: Ledger> Floor<K, C, S> {
             seen: _,
             commits: more_commits,
             stale: more_stale,
+            rests: _,
+            commits_at_rest: _,
         } = pass;
         self.table.shared.join_seat::<Gather>(seat, other);
         commits.merge(more_commits);

@@ -52,6 +52,13 @@ impl<L: Ledger> Count<L> {
         }
     }
 
+    /// How often it was so, as far as a number of 64 bits goes.
+    pub(crate) fn so_far(&self) -> u64
+        ensures { result ≡ risen self.now.share.amount 0 }
+    {
+        self.so_far
+    }
+
     /// Takes in another count.
     pub(crate) fn merge(&mut self, other: Count<L>)
         ensures parts { self.new.share.parts ≡ self.old.share.parts + other.share.parts }

@@ -43,6 +43,12 @@ const YIELDS: u32 = 20;
 // How many microseconds a worker that rests sleeps at most.
 const REST: u64 = 100;
 
+// After how many rests in a row, between which it committed nothing, a worker sleeps without being woken.
+const WAKEFUL: u32 = 1;
+
+// How many microseconds it then sleeps.
+const NAP: u64 = 1000;
+
 /// A state that workers serve in turns, each with a pass of its own.
 #[derive(Drop)]
 pub struct Floor<K: Kept, C: Ledger, S: Ledger> {
@@ -100,10 +106,15 @@ impl<K: Kept, C: Ledger, S: Ledger> Floor<K, C, S> {
     }
 
     /// Lets the other workers run, and sleeps for a while where none of them adds an event. It may return before
-    /// a turn has ended.
+    /// a turn has ended. A worker that again and again finds nothing to do sleeps at once, and nobody wakes it: so
+    /// those that have work are spared its looks and the cost of waking it.
     pub fn rest<R: Wait>(&self, rt: &R, pass: &mut Pass<K, C, S>)
         ensures same { pass.new ≡ pass.old }
     {
+        if pass.rests_in_a_row() > WAKEFUL {
+            AtomicU64::new(0).park_timeout(rt, 0, Duration::from_micros(NAP));
+            return;
+        }
         if self.has_grown(pass.seen) {
             return;
         }

@@ -20,6 +20,9 @@ pub struct Pass<K: Kept, C: Ledger, S: Ledger> {
     pub(crate) seen: u64,
     pub(crate) commits: Count<C>,
     pub(crate) stale: Count<S>,
+    // How often the worker rested since it committed, and how many commits it had when it last rested.
+    pub(crate) rests: u32,
+    pub(crate) commits_at_rest: u64,
 }
 
 impl<K: Kept, C: Ledger, S: Ledger> Model for Pass<K, C, S> {
@@ -57,7 +60,22 @@ impl<K: Kept, C: Ledger, S: Ledger> Pass<K, C, S> {
             seen: 0,
             commits,
             stale,
+            rests: 0,
+            commits_at_rest: 0,
         }
+    }
+
+    // How often the worker has rested without a commit in between, this rest included.
+    pub(crate) fn rests_in_a_row(&mut self) -> u32
+        ensures { self.new ≡ self.old }
+    {
+        let commits = self.commits.so_far();
+        if commits != self.commits_at_rest {
+            self.commits_at_rest = commits;
+            self.rests = 0;
+        }
+        self.rests = self.rests.saturating_add(1);
+        self.rests
     }
 
     /// The worker's number, from 1.
