@@ -83,6 +83,33 @@ impl Gate for GateTwo {
     }
 }
 
+/// Lets its first call pass, and holds the worker of its second call until the other worker has come twice after that.
+#[derive(Drop)]
+pub(crate) struct GateStab {
+    calls: AtomicU64,
+    pub(crate) visits: Visits,
+}
+
+impl GateStab {
+    pub(crate) fn new() -> GateStab {
+        GateStab {
+            calls: AtomicU64::new(0),
+            visits: Visits::new(),
+        }
+    }
+}
+
+impl Gate for GateStab {
+    fn before_commit(&self, worker: u32) {
+        let other = if worker == 1 { 2 } else { 1 };
+        let before = self.visits.times(other);
+        self.visits.note(worker);
+        if self.calls.fetch_add(1, SeqCst) == 1 {
+            self.visits.wait_for(other, before.saturating_add(2));
+        }
+    }
+}
+
 /// A gate that holds nobody.
 pub(crate) struct OpenGate;
 

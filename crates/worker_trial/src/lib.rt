@@ -6,4 +6,6 @@
 #[cfg(test)]
 mod gates;
 #[cfg(test)]
+mod stab;
+#[cfg(test)]
 mod two;
