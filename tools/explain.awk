@@ -94,22 +94,36 @@ function kind_after(before, word) {
     sub(/^ /, "", before)
     sub(/ $/, "", before)
     if (word == "{" && before ~ /^fn [^{]*\)$/) return "result"
+    if (word == "-" && before ~ /^fn [^{]*\)$/) return "arrow"
     if (word == ":" && before ~ /(^|[^A-Za-z0-9_])let [A-Za-z0-9_]+$/) return "let"
     if (word == "=" && before ~ /(^|[^A-Za-z0-9_])if [^{}]*$/) return "equal"
-    if (word == "=" && before ~ /(^|[^A-Za-z0-9_])[A-Za-z_][A-Za-z0-9_]*$/) return "variable"
+    if (word == "=" && before ~ /(^|[^A-Za-z0-9_])[A-Za-z_][A-Za-z0-9_]*( ?[-+*\/%])?$/) return "variable"
+    if (word == "(" && before ~ /(^|[^A-Za-z0-9_])let$/) return "parts"
     if (before ~ /(^|[^A-Za-z0-9_])(spawn|stable)$/) return "call"
     if (before ~ /(^|[^A-Za-z0-9_])chan$/) return "channel"
+    if (before ~ /[=({;,] ?chan ?\[[^={};]*\]$/) return "made"
+    if (before ~ /: ?ref$/) return "reference"
+    if (before ~ /(^|[^A-Za-z0-9_])(get|set|send|recv|pick|print|probe|stabilize|cut|pin|attempt|fst|snd)$/) return "act"
     if (before ~ /(^|[^A-Za-z0-9_])else$/) return "else"
     if (before ~ /:$/) return "type"
     if (before ~ /(^|[^A-Za-z0-9_])(let|fn)$/ && word ~ /^[a-z]+$/) return "reserved"
     if (before ~ /^fn [A-Za-z0-9_?]+ ?\(([^()]*,)?$/ && word ~ /^[a-z]+$/) return "reserved"
     if (before ~ /(^|[^A-Za-z0-9_])(while|for|loop)$/) return "loop"
     if (before ~ /(^|[^A-Za-z0-9_])return$/) return "return"
-    if (word == "," && before ~ /(^|[^A-Za-z0-9_])(ref|get|recv|print|fst|snd)\([^()]*$/) return "pair"
+    if (word == "," && comma(before) != "") return comma(before)
     if ((word == ";" || word == "{" || word == "}") && before ~ /[A-Za-z0-9_?)"]$/ && is_open(before)) return "bracket"
     if (word == "}" && (before ~ /^[} ]*$/ || before ~ /(^|[^A-Za-z0-9_])let [^;]*$/)) return "closing"
-    if (before != "" && before !~ /\)$/) return ""
+    if (before != "" && before !~ /[)}]$/) return ""
     return is_of_word(right[1]) && word != "fn" && word != "else" ? "semicolon" : ""
+}
+
+# What a `,` gives one value too many: a form that takes one, a form that takes two, a pair.
+function comma(before) {
+    gsub(/"([^"\\]|\\.)*"/, "", before)
+    while (gsub(/\([^()]*\)/, "", before)) ;
+    if (before ~ /(^|[^A-Za-z0-9_])(ref|get|recv|print|fst|snd) ?\([^(),]*$/) return "pair"
+    if (before ~ /(^|[^A-Za-z0-9_])(set|send|pick) ?\([^(),]*,[^(),]*$/) return "two"
+    return before ~ /(^|[^A-Za-z0-9_ ]) ?\([^(),]*,[^(),]*$/ ? "three" : ""
 }
 
 # Whether a `(` isn't closed in what comes after the last `;`, `{` and `}`.
