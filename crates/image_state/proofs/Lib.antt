@@ -1,3 +1,4 @@
+pub mod Slots
 pub mod LineKinds
 pub mod Grouped
 pub mod Rises

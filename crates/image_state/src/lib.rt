@@ -10,6 +10,7 @@ mod order;
 mod parts;
 mod redex;
 mod refined;
+mod scope;
 mod stands;
 mod state;
 mod values;

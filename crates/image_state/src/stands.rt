@@ -3,10 +3,11 @@ ghost use Rattle.std.specs.Prelude.{◌≡◌, ◌≤◌, IfOk, OnOk, length, ta
 ghost use Rattle.plain_language.specs.Expression.{parts_of};
 ghost use Rattle.expression_text.specs.Spelling.{items_of};
 ghost use Rattle.image_state.specs.Held.{known_of};
-ghost use Rattle.image_state.specs.Stands.{bound_at, head_stands, parts_stand, stands, takes, thread_stands};
+ghost use Rattle.image_state.specs.Stands.{head_stands, parts_stand, stands, takes, thread_stands};
 
 use crate::bounds::Bounds;
 use crate::redex::is_over;
+use crate::scope::Scope;
 use plain_language::{Expr, Head};
 use stab_base::{FnId, NoMemory};
 use std::alloc::Global;
@@ -19,22 +20,22 @@ impl Bounds<'_> {
         if e.as_fault().is_some() {
             return Ok(true);
         }
-        let mut bound = Vec::new(alloc);
+        let mut bound = Scope::new(alloc);
         let fits = self.stands(&mut bound, e)?;
         Ok(fits && !is_over(e))
     }
 
     // Whether it may stand where these slots are bound. The slots stay.
     #[cycle(standing)]
-    fn stands(&self, bound: &mut Vec<u32>, e: &Expr) -> Result<bool, NoMemory>
-        ensures answer { IfOk result (λ b. b ≡ stands self.now.program.now (known_of self.now) bound.old.items e.now) }
-        ensures slots { OnOk result (bound.new.items ≡ bound.old.items) }
+    fn stands(&self, bound: &mut Scope, e: &Expr) -> Result<bool, NoMemory>
+        ensures answer { IfOk result (λ b. b ≡ stands self.now.program.now (known_of self.now) bound.old e.now) }
+        ensures slots { OnOk result (bound.new ≡ bound.old) }
     {
         if let Some(v) = e.as_value() {
             return Ok(self.knows(v));
         }
         if let Some(slot) = e.as_variable() {
-            return Ok(bound.contains(&slot));
+            return Ok(bound.has(slot));
         }
         let Some((head, parts)) = e.as_form() else {
             return Ok(false);
@@ -44,7 +45,7 @@ impl Bounds<'_> {
         }
         let outside = bound.len();
         let fits = self.parts_stand(bound, slots_of(head), parts)?;
-        bound.truncate(outside);
+        bound.leave(outside);
         Ok(fits)
     }
 
@@ -52,18 +53,18 @@ impl Bounds<'_> {
     #[cycle(standing)]
     fn parts_stand(
         &self,
-        bound: &mut Vec<u32>,
+        bound: &mut Scope,
         items: &[Option<u32>],
         parts: &[Expr],
     ) -> Result<bool, NoMemory>
-        ensures answer { IfOk result (λ b. b ≡ parts_stand self.now.program.now (known_of self.now) bound.old.items items.now (parts_of parts.now)) }
-        ensures slots { OnOk result (take (length bound.old.items) bound.new.items ≡ bound.old.items) }
+        ensures answer { IfOk result (λ b. b ≡ parts_stand self.now.program.now (known_of self.now) bound.old items.now (parts_of parts.now)) }
+        ensures slots { OnOk result (take (length bound.old) bound.new ≡ bound.old) }
     {
         for (i, part) in parts.iter().enumerate() {
             if !self.stands(bound, part)? {
                 return Ok(false);
             }
-            bind(bound, items.get(i).copied())?;
+            bound.bind(items.get(i).copied())?;
         }
         Ok(true)
     }
@@ -98,14 +99,4 @@ fn slots_of(head: &Head) -> &[Option<u32>]
         Head::Block(slots) => slots.all(),
         _ => &[],
     }
-}
-
-// Adds the slot of an item, if it is a let.
-fn bind(bound: &mut Vec<u32>, item: Option<Option<u32>>) -> Result<(), NoMemory>
-    ensures { OnOk result (bound.new.items ≡ bound_at bound.old.items item) }
-{
-    if let Some(Some(slot)) = item {
-        bound.push(slot)?;
-    }
-    Ok(())
 }

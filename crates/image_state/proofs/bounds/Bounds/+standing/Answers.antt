@@ -14,10 +14,10 @@ parts_stand-stands-requires t c =
 
 pub stands-returns-then-not-head_stands-clause-answer : goal.stands-returns-then-not-head_stands-clause-answer
 stands-returns-then-not-head_stands-clause-answer t c =
-    refused c.args.self.now.program.now (known_of c.args.self.now) c.args.bound.now.items c.args.e.now c.in-Some-as_form.head.now c.in-Some-as_form.parts.now c.in-Some-as_form.ensures
+    refused c.args.self.now.program.now (known_of c.args.self.now) c.args.bound.now c.args.e.now c.in-Some-as_form.head.now c.in-Some-as_form.parts.now c.in-Some-as_form.ensures
     c.if-not-head_stands.ensures
 
 pub stands-returns-clause-answer : goal.stands-returns-clause-answer
 stands-returns-clause-answer t c =
-    passed c.args.self.now.program.now (known_of c.args.self.now) c.args.bound.now.items c.args.e.now c.in-Some-as_form.head.now c.in-Some-as_form.parts.now c.in-Some-as_form.ensures
+    passed c.args.self.now.program.now (known_of c.args.self.now) c.args.bound.now c.args.e.now c.in-Some-as_form.head.now c.in-Some-as_form.parts.now c.in-Some-as_form.ensures
     c.slots_of.result.now c.in_ok-fits.fits c.if-not-head_stands.ensures c.slots_of.ensures c.in_ok-fits.ensures.answer

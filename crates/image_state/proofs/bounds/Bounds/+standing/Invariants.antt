@@ -15,7 +15,7 @@ decreases-parts_stand l = 2 * size_of_parts (parts_of l.parts.now) + 1
 abbrev pub invariant-parts_stand-loop-i : goal.invariant-parts_stand-loop-i
 invariant-parts_stand-loop-i l = record {
   same :
-      parts_stand l.self.program.now (known_of l.self) l.initial.bound.items l.items (parts_of l.parts)
-      ≡ parts_stand l.self.program.now (known_of l.self) l.bound.items (drop l.i l.items) (parts_of (drop l.i l.parts));
-  slots : take (length l.initial.bound.items) l.bound.items ≡ l.initial.bound.items;
+      parts_stand l.self.program.now (known_of l.self) l.initial.bound l.items (parts_of l.parts)
+      ≡ parts_stand l.self.program.now (known_of l.self) l.bound (drop l.i l.items) (parts_of (drop l.i l.parts));
+  slots : take (length l.initial.bound) l.bound ≡ l.initial.bound;
 }
