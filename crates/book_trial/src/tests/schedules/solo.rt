@@ -114,7 +114,7 @@ fn run_alone(alloc: Global, job: Job) -> Result<Alone, Fail> {
 fn same_events(one: &History, other: &History) -> bool {
     for q in 1..=one.len() {
         let q = Seq(q);
-        if one.get(q).copied() != other.get(q).copied() || one.is_live(q) != other.is_live(q) {
+        if one.get(q) != other.get(q) || one.is_live(q) != other.is_live(q) {
             return false;
         }
     }
