@@ -111,8 +111,11 @@ impl Thread {
         Ok(())
     }
 
-    // The section is entered.
+    // The section is entered, if a journal can have its number.
     pub(super) fn enter(&mut self, q: Seq) -> Result<(), Fail> {
+        if q.0 >= 4294967295 {
+            return Err(Fail::from("no event has this number"));
+        }
         match self.control.ask() {
             Ask::Act(Act::Enter(_f)) => self.control.enter(&self.program, q)?,
             _ => return Err(Fail::from("no section")),
