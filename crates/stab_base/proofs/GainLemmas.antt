@@ -23,6 +23,12 @@ pub GainsPrefix-after : (old middle new piece more : List ℕ) → middle ≡ ol
 GainsPrefix-after old middle new piece more e g =
     SomePrefix-after _ _ piece more (λ front h. h ∙ ap (λ xs. xs ++ front) e ∙ append_assoc old piece front) g
 
+-- a pair was cut short between its parts
+pub GainsPrefix-between : (old one two new a b : List ℕ) → one ≡ old ++ codes "(" → two ≡ one ++ a → GainsPrefix two new (codes ", ") → GainsPrefix old new (codes "(" ++ a ++ codes ", " ++ b ++ codes ")")
+GainsPrefix-between old one two new a b e f cut =
+    let start : two ≡ old ++ (codes "(" ++ a) = rw (f, e, append_assoc old (codes "(") a) in
+    GainsPrefix-append old new (codes "(" ++ a ++ codes ", " ++ b) (codes ")") (GainsPrefix-append old new (codes "(" ++ a ++ codes ", ") b (GainsPrefix-after old two new (codes "(" ++ a) (codes ", ") start cut))
+
 -- a pair was cut short in its second part
 pub GainsPrefix-second_part : (old one two three new a b : List ℕ) → one ≡ old ++ codes "(" → two ≡ one ++ a → three ≡ two ++ codes ", " → GainsPrefix three new b → GainsPrefix old new (codes "(" ++ a ++ codes ", " ++ b ++ codes ")")
 GainsPrefix-second_part old one two three new a b e f g cut =

@@ -2,7 +2,6 @@
 use Rattle.std.specs.Prelude.{ℕ, ◌+◌, ◌==◌, ℤ, Bool, false, true, ◌&&◌, max}
 use Rattle.std.specs.Bool.{beq}
 use Rattle.std.specs.Ordering.{int_eq}
-use Rattle.stab_base.specs.declared.shape.Shape.{Shape, Unit, Truth, Int, Text, Chan, Ref, Pair'}
 
 -- a value of the language; texts, channels and references are named by their numbers
 pub data Datum : Type 0 where
@@ -13,16 +12,6 @@ pub data Datum : Type 0 where
   chan : ℕ → Datum
   reference : ℕ → Datum
   pair : Datum → Datum → Datum
-
--- the value that a shape is
-abbrev pub datum_of : Shape → Datum
-datum_of Unit = unit
-datum_of (Truth b) = truth b
-datum_of (Int n) = int n
-datum_of (Text t) = text t.0
-datum_of (Chan c) = chan c.0
-datum_of (Ref r) = reference r.0
-datum_of (Pair' p a q b) = pair (datum_of a) (datum_of b)
 
 -- how deep pairs stand in each other
 abbrev pub depth_of : Datum → ℕ

@@ -5,3 +5,4 @@ pub mod Gain
 pub mod Limits
 pub mod PairFault
 pub mod Printed
+pub mod ShapeView

@@ -5,13 +5,17 @@ mod fault;
 mod numbers;
 mod print;
 mod same;
-mod shape;
 mod texts;
 mod value;
 
 pub use fault::Fault;
 pub use numbers::{ChanId, FnId, Generation, NoMemory, RefId, Seq, TextId, ThreadId};
 pub use same::{Same, all_same};
-pub use shape::{MAX_DEPTH, MAX_LEAVES, Shape};
 pub use texts::Texts;
-pub use value::{PairFault, Value};
+pub use value::{MAX_DEPTH, MAX_LEAVES, PairFault, PairParts, Shape, Value};
+
+fn crosses_threads<T: Send + Sync>(_value: &T) {}
+
+fn value_crosses_threads(value: &Value) {
+    crosses_threads(value);
+}

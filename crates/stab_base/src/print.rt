@@ -1,19 +1,18 @@
 //! Printed values.
 ghost use Rattle.std.specs.Prelude.{◌≡◌, ◌++◌, OnOk, OnErr, decimal};
-ghost use Rattle.stab_base.specs.Datum.{datum_of};
 ghost use Rattle.stab_base.specs.Gain.{GainsPrefix};
 ghost use Rattle.stab_base.specs.Printed.{printed};
 
 use crate::numbers::NoMemory;
-use crate::shape::Shape;
 use crate::texts::Texts;
+use crate::value::{PairParts, Shape, Value};
 use itoa::{Buffer, Integer};
 
-pub(crate) fn put_shape(shape: &Shape, texts: &Texts, out: &mut Vec<u8>) -> Result<(), NoMemory>
-    ensures ok { OnOk result (out.new.items ≡ out.old.items ++ printed texts.now (datum_of shape.now)) }
-    ensures err { OnErr result (GainsPrefix out.old.items out.new.items (printed texts.now (datum_of shape.now))) }
+pub(crate) fn put_value(v: &Value, texts: &Texts, out: &mut Vec<u8>) -> Result<(), NoMemory>
+    ensures ok { OnOk result (out.new.items ≡ out.old.items ++ printed texts.now v.now) }
+    ensures err { OnErr result (GainsPrefix out.old.items out.new.items (printed texts.now v.now)) }
 {
-    match shape {
+    match v.shape() {
         Shape::Unit => put(out, b"()"),
         Shape::Truth(true) => put(out, b"true"),
         Shape::Truth(false) => put(out, b"false"),
@@ -21,11 +20,12 @@ pub(crate) fn put_shape(shape: &Shape, texts: &Texts, out: &mut Vec<u8>) -> Resu
         Shape::Text(t) => put(out, texts.get(*t).unwrap_or(&[])),
         Shape::Chan(c) => put_named(out, b"chan ", c.0),
         Shape::Ref(r) => put_named(out, b"ref ", r.0),
-        Shape::Pair(a, b) => {
+        Shape::Pair(_depth, _leaves, parts) => {
+            let parts: &PairParts = parts;
             put(out, b"(")?;
-            put_shape(a, texts, out)?;
+            put_value(&parts.first, texts, out)?;
             put(out, b", ")?;
-            put_shape(b, texts, out)?;
+            put_value(&parts.second, texts, out)?;
             put(out, b")")
         }
     }
