@@ -61,7 +61,7 @@ impl Expr {
         let Act::NewRef(v) = act else {
             return Ok(None);
         };
-        let copy = v.copy(alloc)?;
+        let copy = v.copy()?;
         Ok(Some((self.answered(alloc, Value::reference(r))?, copy)))
     }
 
@@ -82,12 +82,12 @@ impl Expr {
         if at.0 != r.0 {
             return Ok(None);
         }
-        let copy = v.copy(alloc)?;
+        let copy = v.copy()?;
         Ok(Some((self.answered(alloc, Value::unit())?, copy)))
     }
 
     /// What is printed, where a print is next.
-    pub(crate) fn printed(&self, alloc: Global) -> Result<Option<Value>, NoMemory>
+    pub(crate) fn printed(&self) -> Result<Option<Value>, NoMemory>
         ensures prints { (fs : ℕ → Expression) → let g = language fs in IfOk result (λ o. option_map (printed_of g self.now) o ≡ print_by g self.now (look fs self.now)) }
         ensures redex { IfOk result (λ o. IsSome o → IsSome (redex self.now)) }
     {
@@ -97,7 +97,7 @@ impl Expr {
         let Act::Print(v) = act else {
             return Ok(None);
         };
-        Ok(Some(v.copy(alloc)?))
+        Ok(Some(v.copy()?))
     }
 
     /// What is sent on the channel.
@@ -119,7 +119,7 @@ impl Expr {
         requires { IsSome (redex self.now) }
         ensures { IfOk result (λ e. e ≡ picked_at self.now i v.now) }
     {
-        match Value::pair(alloc, Value::int(i), v.copy(alloc)?) {
+        match Value::pair(alloc, Value::int(i), v.copy()?) {
             Ok(pair) => self.answered(alloc, pair),
             Err(PairFault::Deep(_, _)) => Ok(Expr::fault(Fault::DeepValue)),
             Err(PairFault::NoMemory(_, _)) => Err(NoMemory),
@@ -164,7 +164,7 @@ impl Expr {
                 if at.0 != c.0 {
                     return Ok(None);
                 }
-                let copy = v.copy(alloc)?;
+                let copy = v.copy()?;
                 Ok(Some(self.answered(alloc, copy)?))
             }
             Act::Pick(first, second) => self.after_pick(alloc, first, second, c, v),

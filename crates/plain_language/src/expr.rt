@@ -149,9 +149,9 @@ impl Expr {
         ensures { IfOk result (λ copy. copy ≡ put (given_to given.entry) self.now) }
     {
         match &self.node {
-            Node::Value(v) => Ok(Expr::value(v.copy(alloc)?)),
+            Node::Value(v) => Ok(Expr::value(v.copy()?)),
             Node::Var(slot) => match given.get(*slot) {
-                Some(v) => Ok(Expr::value(v.copy(alloc)?)),
+                Some(v) => Ok(Expr::value(v.copy()?)),
                 None => Ok(Expr::variable(*slot)),
             },
             Node::Fault(k) => Ok(Expr::fault(*k)),

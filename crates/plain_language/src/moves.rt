@@ -58,7 +58,7 @@ impl Expr {
     {
         match held {
             Some(v) => {
-                let copy = v.copy(alloc)?;
+                let copy = v.copy()?;
                 Ok(Some(self.answered(alloc, copy)?))
             }
             None => Ok(None),

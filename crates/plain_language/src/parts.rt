@@ -114,7 +114,7 @@ fn copied_references(
     let mut copies = BTreeMap::new(alloc);
     let mut left = references.iter();
     while let Some((r, v)) = left.next_back() {
-        put(&mut copies, *r, v.copy(alloc)?)?;
+        put(&mut copies, *r, v.copy()?)?;
     }
     Ok(copies)
 }
@@ -124,7 +124,7 @@ fn copied_values(alloc: Global, values: &[Value]) -> Result<Vec<Value>, NoMemory
 {
     let mut copies = Vec::new(alloc);
     for v in values {
-        copies.push(v.copy(alloc)?)?;
+        copies.push(v.copy()?)?;
     }
     Ok(copies)
 }

@@ -280,7 +280,7 @@ impl PlainState {
         let Some(e) = self.expr(t) else {
             return Err(PlayFault::NoStep);
         };
-        let Some(v) = e.printed(alloc)? else {
+        let Some(v) = e.printed()? else {
             return Err(PlayFault::NoStep);
         };
         self.put_printed(v)?;

@@ -194,7 +194,7 @@ fn pair(alloc: Global, parts: &[Expr]) -> Result<Pure, NoMemory>
     let Some((v, w)) = two(parts) else {
         return Ok(wrong_kind());
     };
-    match Value::pair(alloc, v.copy(alloc)?, w.copy(alloc)?) {
+    match Value::pair(alloc, v.copy()?, w.copy()?) {
         Ok(pair) => Ok(made(Ok(pair))),
         Err(PairFault::Deep(_, _)) => Ok(Pure::Fails(Fault::DeepValue)),
         Err(PairFault::NoMemory(_, _)) => Err(NoMemory),
@@ -202,26 +202,26 @@ fn pair(alloc: Global, parts: &[Expr]) -> Result<Pure, NoMemory>
 }
 
 /// A part of a pair.
-fn part_of(alloc: Global, parts: &[Expr], second: bool) -> Result<Pure, NoMemory>
+fn part_of(parts: &[Expr], second: bool) -> Result<Pure, NoMemory>
     requires { busy_at false parts.now ≡ None }
     ensures { IfOk result (λ p. made_of p ≡ with_one (values_in parts.now) (λ v. with_pair v (λ a b. becomes (value (if second then b else a))))) }
 {
     let Some(v) = one(parts) else {
         return Ok(wrong_kind());
     };
-    match v.copy(alloc)?.split() {
+    match v.copy()?.split()? {
         Ok((a, b)) => Ok(made(Ok(if second { b } else { a }))),
         Err(_) => Ok(wrong_kind()),
     }
 }
 
 /// What a section gives, whose body is a value.
-fn left_section(alloc: Global, parts: &[Expr]) -> Result<Pure, NoMemory>
+fn left_section(parts: &[Expr]) -> Result<Pure, NoMemory>
     requires { busy_at false parts.now ≡ None }
     ensures { IfOk result (λ p. made_of p ≡ with_one (values_in parts.now) (λ v. becomes (value v))) }
 {
     match one(parts) {
-        Some(v) => Ok(made(Ok(v.copy(alloc)?))),
+        Some(v) => Ok(made(Ok(v.copy()?))),
         None => Ok(wrong_kind()),
     }
 }
@@ -247,9 +247,9 @@ pub(crate) fn next_at(
         Head::Not => Ok(Next::Makes(opposite(parts))),
         Head::Neg => Ok(Next::Makes(negation(parts))),
         Head::Pair => Ok(Next::Makes(pair(alloc, parts)?)),
-        Head::Fst => Ok(Next::Makes(part_of(alloc, parts, false)?)),
-        Head::Snd => Ok(Next::Makes(part_of(alloc, parts, true)?)),
-        Head::Section(_) => Ok(Next::Makes(left_section(alloc, parts)?)),
+        Head::Fst => Ok(Next::Makes(part_of(parts, false)?)),
+        Head::Snd => Ok(Next::Makes(part_of(parts, true)?)),
+        Head::Section(_) => Ok(Next::Makes(left_section(parts)?)),
         Head::Call(f) => Ok(Next::Makes(Pure::Becomes(called(alloc, program, *f, parts)?))),
         _ => Ok(Next::Makes(wrong_kind())),
     }

@@ -19,4 +19,4 @@ loop-r-preserved c =
     let left : c.loop-r.left ≡ c.next_back.new.self ++ x ∷ [] = first_of (search rules, cc, grind (arith, common_steps)) in
     onto_next (from_entries c.args.references.now.entries) c.loop-r.left c.next_back.new.self x m (from_entries c.put.new.map.entries)
     c.loop-r.invariant left
-    (c.in_ok-put.ensures ∙ ap (insert m c.in-Some.r.now) c.in_ok-copy.ensures)
+    (c.in_ok-put.ensures ∙ ap (insert m c.in-Some.r.now) c.in_ok-copy.ensures.same)
