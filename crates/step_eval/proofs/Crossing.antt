@@ -1,7 +1,7 @@
 -- Controls cross threads, which is shown part by part, since a search over all parts of a machine ends at a limit.
 use denote.Param.Send.{IsSend, IsSync, sendable}
 use Rattle.std.proofs.Crossing.{crosses}
-use Rattle.stab_base.proofs.shape.Shape.TheLaws.TheKnot.{send-Shape, sync-Shape}
+use Rattle.stab_base.proofs.value.Value.TheLaws.TheKnot.{both_send-Value, both_sync-Value}
 use Rattle.shared_stack.proofs.stack.Link.TheLaws.TheKnot.{both_send-Link, both_sync-Link}
 use Rattle.shared_stack.specs.contracts.stack.Stack as stacks
 use Rattle.step_eval.specs.contracts.control.Control as controls
@@ -10,10 +10,10 @@ use Rattle.step_eval.specs.contracts.machine.Focus as focuses
 use Rattle.step_eval.specs.contracts.machine.Machine as machines
 
 frame-send : IsSend frames.the_row
-frame-send = search (send-Shape, sync-Shape, sendable, crosses) depth 60 fits 100000
+frame-send = search (both_send-Value, both_sync-Value, sendable, crosses) depth 60 fits 100000
 
 frame-sync : IsSync frames.the_row
-frame-sync = search (send-Shape, sync-Shape, sendable, crosses) depth 60 fits 100000
+frame-sync = search (both_send-Value, both_sync-Value, sendable, crosses) depth 60 fits 100000
 
 stack-send : IsSend (stacks.the_row frames.the_row)
 stack-send = search (frame-send, frame-sync, both_send-Link, both_sync-Link, sendable, crosses) depth 60 fits 100000
@@ -22,16 +22,16 @@ stack-sync : IsSync (stacks.the_row frames.the_row)
 stack-sync = search (frame-send, frame-sync, both_send-Link, both_sync-Link, sendable, crosses) depth 60 fits 100000
 
 focus-send : IsSend (focuses.the_field).row
-focus-send = search (send-Shape, sync-Shape, sendable, crosses) depth 60 fits 100000
+focus-send = search (both_send-Value, both_sync-Value, sendable, crosses) depth 60 fits 100000
 
 focus-sync : IsSync (focuses.the_field).row
-focus-sync = search (send-Shape, sync-Shape, sendable, crosses) depth 60 fits 100000
+focus-sync = search (both_send-Value, both_sync-Value, sendable, crosses) depth 60 fits 100000
 
 machine-send : IsSend (machines.the_field).row
-machine-send = search (focus-send, stack-send, frame-send, send-Shape, sync-Shape, sendable, crosses) depth 60 fits 100000
+machine-send = search (focus-send, stack-send, frame-send, both_send-Value, both_sync-Value, sendable, crosses) depth 60 fits 100000
 
 machine-sync : IsSync (machines.the_field).row
-machine-sync = search (focus-sync, stack-sync, frame-sync, send-Shape, sync-Shape, sendable, crosses) depth 60 fits 100000
+machine-sync = search (focus-sync, stack-sync, frame-sync, both_send-Value, both_sync-Value, sendable, crosses) depth 60 fits 100000
 
 pub control-send : IsSend controls.the_row
 control-send = search (machine-send, machine-sync, focus-send, sendable, crosses) depth 60 fits 100000

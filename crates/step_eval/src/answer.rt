@@ -109,7 +109,7 @@ impl Machine {
         ensures fits { OnOk result (Fits p.now (view_of self.new)) }
         ensures back { OnErr result (view_of self.new ≡ view_of self.old) }
     {
-        let (n, value) = entry(self.alloc, p, f, self.done.as_slice())?;
+        let (n, value) = entry(p, f, self.done.as_slice())?;
         self.share_top()?;
         let env = self.take_env()?;
         self.open_section(q, env);

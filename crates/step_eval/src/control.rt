@@ -71,7 +71,7 @@ impl Control {
         ensures back { IfErr result (λ refused. refused.args.items ≡ args.items) }
     {
         let alloc = *args.allocator();
-        match entry(alloc, program, f, &args) {
+        match entry(program, f, &args) {
             Ok((n, value)) => Control::entered(alloc, n, value, args),
             Err(_refused) => Err(CallRefused { args }),
         }
@@ -122,7 +122,7 @@ impl Control {
     pub(crate) fn opened(&self) -> Result<Machine, NoMemory>
         ensures { IfOk result (λ m. view_of m ≡ self.now) }
     {
-        let mut machine = self.machine.copied(self.focus.copy(self.machine.alloc)?)?;
+        let mut machine = self.machine.copied(self.focus.copy()?)?;
         if let Focus::Fault(k) = &self.focus {
             machine.fail(*k);
         }
@@ -136,7 +136,7 @@ impl Control {
     {
         steps.tick();
         Ok(Control {
-            focus: self.focus.copy(self.machine.alloc)?,
+            focus: self.focus.copy()?,
             machine: Arc::try_clone(&self.machine)?,
         })
     }

@@ -82,25 +82,21 @@ impl Env {
 
 /// An equal value. A number, which most values are, is copied at once.
 #[inline(always)]
-pub(crate) fn twin(alloc: Global, v: &Value) -> Result<Value, NoMemory>
+pub(crate) fn twin(v: &Value) -> Result<Value, NoMemory>
     ensures { IfOk result (λ w. w ≡ v.now) }
 {
     match v.shape() {
         Shape::Int(n) => Ok(Value::int(*n)),
-        _ => v.copy(alloc),
+        _ => v.copy(),
     }
 }
 
 /// Puts equal values after those that are there.
-pub(crate) fn add_copies(
-    alloc: Global,
-    values: &[Value],
-    all: &mut Vec<Value>,
-) -> Result<(), NoMemory>
+pub(crate) fn add_copies(values: &[Value], all: &mut Vec<Value>) -> Result<(), NoMemory>
     ensures { OnOk result (all.new.items ≡ all.old.items ++ values.now) }
 {
     for v in values {
-        all.push(twin(alloc, v)?)?;
+        all.push(twin(v)?)?;
     }
     Ok(())
 }
@@ -110,6 +106,6 @@ pub(crate) fn copied(alloc: Global, values: &[Value]) -> Result<Vec<Value>, NoMe
     ensures { IfOk result (λ all. all.items ≡ values.now) }
 {
     let mut all = Vec::with_capacity(alloc, values.len())?;
-    add_copies(alloc, values, &mut all)?;
+    add_copies(values, &mut all)?;
     Ok(all)
 }

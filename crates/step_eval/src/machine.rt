@@ -42,14 +42,14 @@ pub(crate) enum Focus {
 
 impl Focus {
     /// The same once more.
-    pub(crate) fn copy(&self, alloc: Global) -> Result<Focus, NoMemory>
+    pub(crate) fn copy(&self) -> Result<Focus, NoMemory>
         ensures { IfOk result (λ f. f ≡ self.now) }
     {
         match self {
             Focus::Begun(n) => Ok(Focus::Begun(*n)),
             Focus::Form => Ok(Focus::Form),
             Focus::Act(a) => Ok(Focus::Act(*a)),
-            Focus::Value(v) => Ok(Focus::Value(v.copy(alloc)?)),
+            Focus::Value(v) => Ok(Focus::Value(v.copy()?)),
             Focus::Fault(k) => Ok(Focus::Fault(*k)),
         }
     }

@@ -11,7 +11,6 @@ ghost use Rattle.step_eval.specs.Turns.{Takes};
 use crate::env::twin;
 use stab_base::{FnId, NoMemory, Value};
 use stab_code::{Head, Node, NodeId, Program};
-use std::alloc::Global;
 
 /// The node of a number that is there.
 #[inline(always)]
@@ -51,12 +50,7 @@ fn value_at(values: &[Value], slot: u32) -> &Value
 
 /// The value of a literal or a variable, where the variables have these values.
 #[inline(always)]
-pub(crate) fn leaf(
-    alloc: Global,
-    p: &Program,
-    n: NodeId,
-    values: &[Value],
-) -> Result<Option<Value>, NoMemory>
+pub(crate) fn leaf(p: &Program, n: NodeId, values: &[Value]) -> Result<Option<Value>, NoMemory>
     requires there { n.0 < length p.now.nodes }
     requires scoped { IsScoped (length values.now) (tree_at p.now n) }
     ensures value { IfOk result (IsLeaf p.now n values.now) }
@@ -67,7 +61,7 @@ pub(crate) fn leaf(
         Head::Truth(b) => Ok(Some(Value::truth(*b))),
         Head::Int(k) => Ok(Some(Value::int(*k))),
         Head::Text(t) => Ok(Some(Value::text(*t))),
-        Head::Var(slot) => Ok(Some(twin(alloc, value_at(values, *slot))?)),
+        Head::Var(slot) => Ok(Some(twin(value_at(values, *slot))?)),
         _ => Ok(None),
     }
 }
@@ -84,7 +78,6 @@ pub(crate) fn body_at(p: &Program, f: FnId, args: &[Value]) -> NodeId
 
 /// The body of a function that takes these arguments, and its value where it has one at once.
 pub(crate) fn entry(
-    alloc: Global,
     p: &Program,
     f: FnId,
     args: &[Value],
@@ -93,6 +86,6 @@ pub(crate) fn entry(
     ensures { IfOk result (λ r. IsEntry p.now f.0 args.now r.0 r.1) }
 {
     let n = body_at(p, f, args);
-    let value = leaf(alloc, p, n, args)?;
+    let value = leaf(p, n, args)?;
     Ok((n, value))
 }

@@ -27,7 +27,6 @@ use crate::site::Site;
 use shared_stack::Popped;
 use stab_base::{NoMemory, Value};
 use stab_code::{NodeId, Program};
-use std::alloc::Global;
 use std::mem;
 use std::sync::Arc;
 
@@ -46,7 +45,6 @@ fn make_room(values: &mut Vec<Value>, many: usize) -> Result<(), NoMemory>
 /// the first part that has to be a value and isn't, if there is one.
 #[inline(always)]
 fn take_leaves(
-    alloc: Global,
     p: &Program,
     n: NodeId,
     from: usize,
@@ -64,7 +62,7 @@ fn take_leaves(
     make_room(done, strict)?;
     'leaves: while done.len() < strict {
         let part = item_of(parts, from + done.len());
-        match leaf(alloc, p, part, values)? {
+        match leaf(p, part, values)? {
             Some(v) => done.push(v)?,
             None => return Ok(Some(part)),
         }
@@ -124,7 +122,6 @@ impl Machine {
         let mut n = n;
         let mut from = from;
         'inward: while let Some(part) = take_leaves(
-            self.alloc,
             p,
             n,
             from,
@@ -232,7 +229,7 @@ impl Machine {
         self.site = frame.site;
         self.env = Arc::try_clone(&frame.env)?;
         self.done.clear();
-        add_copies(self.alloc, frame.done.as_slice(), &mut self.done)
+        add_copies(frame.done.as_slice(), &mut self.done)
     }
 
     /// A frame's form is at hand, and has one value more.
@@ -292,7 +289,7 @@ impl Machine {
         requires frames { FramesFit p.now self.old.mark (round_of self.old) }
         ensures { OnOk result (Arrives p.now (view_of self.new) (within_forms p.now (round_of self.old) (put (slice_get (arc_value self.old.env)) (expr_of (tree_at p.now n))))) }
     {
-        match leaf(self.alloc, p, n, self.env.values())? {
+        match leaf(p, n, self.env.values())? {
             Some(v) => self.give(p, v),
             None => {
                 self.begin(n);

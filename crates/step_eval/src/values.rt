@@ -118,15 +118,15 @@ fn pair(alloc: Global, values: &mut Vec<Value>) -> Result<Result<Value, Fault>, 
 
 /// A part of a pair.
 #[inline(always)]
-fn part_of(values: &mut Vec<Value>, second: bool) -> Result<Value, Fault>
-    ensures { outcome_of result ≡ with_one values.old.items (λ v. with_pair v (λ a b. becomes (value (if second then b else a)))) }
+fn part_of(values: &mut Vec<Value>, second: bool) -> Result<Result<Value, Fault>, NoMemory>
+    ensures { IfOk result (λ r. outcome_of r ≡ with_one values.old.items (λ v. with_pair v (λ a b. becomes (value (if second then b else a))))) }
 {
     let Some(v) = take_one(values) else {
-        return Err(Fault::WrongKind);
+        return Ok(Err(Fault::WrongKind));
     };
-    match v.split() {
-        Ok((a, b)) => Ok(if second { b } else { a }),
-        Err(_) => Err(Fault::WrongKind),
+    match v.split()? {
+        Ok((a, b)) => Ok(Ok(if second { b } else { a })),
+        Err(_) => Ok(Err(Fault::WrongKind)),
     }
 }
 
@@ -146,8 +146,8 @@ pub(crate) fn made(
         Head::Not => Ok(opposite(values.as_slice())),
         Head::Neg => Ok(negation(values.as_slice())),
         Head::Pair => pair(alloc, values),
-        Head::Fst => Ok(part_of(values, false)),
-        Head::Snd => Ok(part_of(values, true)),
+        Head::Fst => part_of(values, false),
+        Head::Snd => part_of(values, true),
         _ => Ok(Err(Fault::WrongKind)),
     }
 }
