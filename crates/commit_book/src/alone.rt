@@ -54,7 +54,7 @@ impl Parts {
     {
         self.history.reserve(2)?;
         self.printed.reserve()?;
-        first(end.operands()).copy(self.alloc())
+        first(end.operands()).copy()
     }
 
     /// Gives the thread the next number of the script, or 0 after its end.

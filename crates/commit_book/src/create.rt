@@ -187,7 +187,7 @@ fn copied(alloc: Global, values: &[Value]) -> Result<Vec<Value>, NoMemory>
 {
     let mut copies = Vec::new(alloc);
     for v in values {
-        copies.push(v.copy(alloc)?)?;
+        copies.push(v.copy()?)?;
     }
     Ok(copies)
 }

@@ -265,7 +265,7 @@ fn exchanged(
     requires receiver { CanMeet program.now receiver.now × OffersOn program.now (receives_on c.0) receiver.now }
     ensures { IfOk result (λ r. HaveExchanged program.now c.0 sender.now receiver.now r.0 r.1) }
 {
-    let v = sent(sender).copy(alloc)?;
+    let v = sent(sender).copy()?;
     let mut after_send = kept(sender)?;
     after_send.answer(program, Value::unit());
     let mut received = kept(receiver)?;

@@ -84,7 +84,7 @@ impl Parts {
     {
         self.plan_node()?;
         self.log.reserve(r)?;
-        v.copy(self.alloc())
+        v.copy()
     }
 
     /// Gives the thread what the reference holds.
@@ -139,7 +139,7 @@ impl Parts {
             unreachable!()
         };
         let mut control = kept(end)?;
-        control.answer(program, v.copy(self.alloc())?);
+        control.answer(program, v.copy()?);
         Ok((written, control))
     }
 }

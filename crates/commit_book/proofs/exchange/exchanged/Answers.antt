@@ -19,7 +19,7 @@ returns c = record {
       let p = c.args.program.now in
       let y = expr_of p c.receive.new.receiver in
       let same : c.in_ok-received.received ≡ c.args.receiver.now = c.in_ok-received.ensures in
-      let given : c.in_ok-v.v ≡ second_of (operands_of c.args.sender.now) = c.in_ok-v.ensures ∙ c.sent.ensures.value in
+      let given : c.in_ok-v.v ≡ second_of (operands_of c.args.sender.now) = c.in_ok-v.ensures.same ∙ c.sent.ensures.value in
       subst (λ (x : ControlView). received_by (language_of p) c.args.c.0 (expr_of p x) (second_of (operands_of c.args.sender.now)) (look_in p (expr_of p x)) ≡ Some y) same
       (subst (λ (v : Datum). received_by (language_of p) c.args.c.0 (expr_of p c.in_ok-received.received) v (look_in p (expr_of p c.in_ok-received.received)) ≡ Some y) given c.in_ok-receive.ensures.received);
   sender_fits = search rules;
