@@ -173,7 +173,7 @@ fn paired(alloc: Global, first: &Expr, second: &Expr) -> Result<Option<Expr>, No
     let (Some(a), Some(b)) = (first.as_value(), second.as_value()) else {
         return Ok(None);
     };
-    match Value::pair(alloc, a.copy(alloc)?, b.copy(alloc)?) {
+    match Value::pair(alloc, a.copy()?, b.copy()?) {
         Ok(pair) => Ok(Some(Expr::value(pair))),
         Err(PairFault::Deep(_, _)) => Ok(None),
         Err(PairFault::NoMemory(_, _)) => Err(NoMemory),

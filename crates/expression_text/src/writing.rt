@@ -1,13 +1,12 @@
 //! How an expression is written.
 ghost use Rattle.std.specs.Prelude.{◌≡◌, ◌∷◌, ◌++◌, [], decimal, OnOk};
-ghost use Rattle.stab_base.specs.Datum.{datum_of};
 ghost use Rattle.plain_language.specs.Expression.{parts_of};
 ghost use Rattle.expression_text.specs.Spelling.{items_of, opening, spell, spell_parts, spell_value};
 ghost use Rattle.expression_text.specs.WordText.{before, mark, spaced, words_text};
 
 use itoa::{Buffer, Integer};
 use plain_language::{Expr, Head};
-use stab_base::{NoMemory, Shape};
+use stab_base::{NoMemory, PairParts, Shape, Value};
 use stab_code::Op;
 
 /// Writes an expression, each word behind a blank. Where memory is missing, part of it may have been added.
@@ -16,7 +15,7 @@ pub fn put_expr(out: &mut Vec<u8>, e: &Expr) -> Result<(), NoMemory>
     ensures { OnOk result (out.new.items ≡ out.old.items ++ words_text (spell e.now)) }
 {
     if let Some(v) = e.as_value() {
-        return put_shape(out, v.shape());
+        return put_value(out, v);
     }
     if let Some(slot) = e.as_variable() {
         return put_numbered(out, b"v", slot);
@@ -45,10 +44,10 @@ fn put_parts(out: &mut Vec<u8>, items: &[Option<u32>], parts: &[Expr]) -> Result
 }
 
 /// Writes a value, each word behind a blank. Where memory is missing, part of it may have been added.
-pub fn put_shape(out: &mut Vec<u8>, shape: &Shape) -> Result<(), NoMemory>
-    ensures { OnOk result (out.new.items ≡ out.old.items ++ words_text (spell_value (datum_of shape.now))) }
+pub fn put_value(out: &mut Vec<u8>, v: &Value) -> Result<(), NoMemory>
+    ensures { OnOk result (out.new.items ≡ out.old.items ++ words_text (spell_value v.now)) }
 {
-    match shape {
+    match v.shape() {
         Shape::Unit => put_name(out, b"u"),
         Shape::Truth(true) => put_name(out, b"t"),
         Shape::Truth(false) => put_name(out, b"f"),
@@ -56,10 +55,11 @@ pub fn put_shape(out: &mut Vec<u8>, shape: &Shape) -> Result<(), NoMemory>
         Shape::Text(t) => put_numbered(out, b"s", t.0),
         Shape::Chan(c) => put_numbered(out, b"c", c.0),
         Shape::Ref(r) => put_numbered(out, b"r", r.0),
-        Shape::Pair(a, b) => {
+        Shape::Pair(_depth, _leaves, parts) => {
+            let parts: &PairParts = parts;
             put_name(out, b"p")?;
-            put_shape(out, a)?;
-            put_shape(out, b)
+            put_value(out, &parts.first)?;
+            put_value(out, &parts.second)
         }
     }
 }
