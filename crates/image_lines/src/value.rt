@@ -19,17 +19,17 @@ pub(crate) fn value_in(
         return Ok(Err(LineFault::BadLine));
     }
     match expression_in(alloc, rest, MAX_EXPR_DEPTH)? {
-        Ok(e) => value_only(alloc, &e),
+        Ok(e) => value_only(&e),
         Err(fault) => Ok(Err(fault)),
     }
 }
 
 // The value that an expression is.
-fn value_only(alloc: Global, e: &Expr) -> Result<Result<Value, LineFault>, NoMemory>
+fn value_only(e: &Expr) -> Result<Result<Value, LineFault>, NoMemory>
     ensures { IfOk result (λ r. r ≡ value_only e.now) }
 {
     match e.as_value() {
-        Some(v) => Ok(Ok(v.copy(alloc)?)),
+        Some(v) => Ok(Ok(v.copy()?)),
         None => Ok(Err(LineFault::BadLine)),
     }
 }

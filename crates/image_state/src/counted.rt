@@ -13,7 +13,7 @@ pub(crate) fn is_of(program: &Program, e: &Expr) -> bool
     ensures { result ≡ is_of program.now e.now }
 {
     if let Some(v) = e.as_value() {
-        return has_texts(program.texts().len(), v.shape());
+        return has_texts(program.texts().len(), v);
     }
     match e.as_form() {
         Some((head, parts)) => has_function(program, head) && are_of(program, parts),

@@ -56,8 +56,8 @@ impl Bounds<'_> {
     {
         match line {
             Line::Chan(c) => Ok(u64::from(c.0) < self.next.chan),
-            Line::Ref(r, v) => Ok(u64::from(r.0) < self.next.reference && self.knows(v.shape())),
-            Line::Out(v) => Ok(self.knows(v.shape())),
+            Line::Ref(r, v) => Ok(u64::from(r.0) < self.next.reference && self.knows(v)),
+            Line::Out(v) => Ok(self.knows(v)),
             Line::Thread(t, _, e) => {
                 let fits = self.thread_stands(alloc, e)?;
                 Ok(u64::from(t.0) < self.next.thread && fits)
@@ -72,7 +72,7 @@ fn numbers_fit(program: &Program, line: &Line) -> bool
     ensures { result ≡ numbers_fit program.now line.now }
 {
     match line {
-        Line::Ref(_, v) | Line::Out(v) => has_texts(program.texts().len(), v.shape()),
+        Line::Ref(_, v) | Line::Out(v) => has_texts(program.texts().len(), v),
         Line::Thread(_, _, e) => is_of(program, e),
         _ => true,
     }

@@ -31,7 +31,7 @@ impl Bounds<'_> {
         ensures slots { OnOk result (bound.new.items ≡ bound.old.items) }
     {
         if let Some(v) = e.as_value() {
-            return Ok(self.knows(v.shape()));
+            return Ok(self.knows(v));
         }
         if let Some(slot) = e.as_variable() {
             return Ok(bound.contains(&slot));
