@@ -78,8 +78,8 @@ fn finds_texts_by_number(rt: HostRuntime) -> Result<(), Fail> {
 }
 
 fn assert_too_deep(rt: &impl Abort, alloc: Global, a: Value, b: Value) -> Result<(), Fail> {
-    let a_copy = a.copy(alloc)?;
-    let b_copy = b.copy(alloc)?;
+    let a_copy = a.copy()?;
+    let b_copy = b.copy()?;
     match Value::pair(alloc, a, b) {
         Err(PairFault::Deep(x, y)) => assert!(rt; x.same(&a_copy) && y.same(&b_copy)),
         _ => panic!(rt; "the pair is past a limit"),
@@ -104,7 +104,7 @@ fn pairs_are_limited_in_leaves(rt: HostRuntime) -> Result<(), Fail> {
     let alloc = rt.alloc();
     let mut full = Value::unit();
     for _ in 0..12 {
-        let twin = full.copy(alloc)?;
+        let twin = full.copy()?;
         full = Value::pair(alloc, full, twin)?;
     }
     assert_eq!(rt; full.depth(), 12);
@@ -113,7 +113,7 @@ fn pairs_are_limited_in_leaves(rt: HostRuntime) -> Result<(), Fail> {
 }
 
 fn split(pair: Value) -> Result<(Value, Value), Fail> {
-    Ok(pair.split()?)
+    Ok(pair.split()??)
 }
 
 // The first part, where the other one is what it should be.
@@ -130,7 +130,7 @@ fn splits_pairs_alone(rt: HostRuntime) -> Result<(), Fail> {
     let a = first_beside(&rt, outer, &Value::chan(ChanId(3)))?;
     assert_eq!(rt; (a.depth(), a.leaves()), (1, 2));
     let c = first_beside(&rt, a, &Value::text(TextId(2)))?;
-    match c.split() {
+    match c.split()? {
         Err(whole) => assert!(rt; matches!(whole.shape(), Shape::Int(1))),
         Ok(_) => panic!(rt; "a number has no parts"),
     }

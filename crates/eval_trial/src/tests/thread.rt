@@ -83,7 +83,7 @@ impl Thread {
     ) -> Result<Thread, Fail> {
         let mut copies = Vec::new(alloc);
         for v in args {
-            copies.push(v.copy(alloc)?)?;
+            copies.push(v.copy()?)?;
         }
         let program = Arc::try_clone(program)?;
         let control = called(&program, f, copies)?;

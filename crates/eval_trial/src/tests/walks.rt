@@ -133,14 +133,14 @@ impl Walk {
             return Err(Fail::from("no thread"));
         };
         match thread.operands().get(i) {
-            Some(v) => Ok(v.copy(self.alloc)?),
+            Some(v) => Ok(v.copy()?),
             None => Err(Fail::from("no operand")),
         }
     }
 
     fn held(&self, r: RefId) -> Result<Value, Fail> {
         match self.state.reference_after(r.0.saturating_sub(1)) {
-            Some((q, v)) if q == r => Ok(v.copy(self.alloc)?),
+            Some((q, v)) if q == r => Ok(v.copy()?),
             _ => Err(Fail::from("no reference")),
         }
     }
