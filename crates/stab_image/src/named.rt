@@ -30,7 +30,7 @@ impl Named {
             reference: 0,
         };
         for i in 0..count {
-            let event = *history.get(Seq(i + 1)).unwrap();
+            let event = history.get(Seq(i + 1)).unwrap();
             named = named.and(event.what);
         }
         named

@@ -4,7 +4,7 @@ use Rattle.std.specs.Ordering.{nat_cmp}
 use Rattle.std.specs.Cmp.{nat_cmp_total, nat_eq_equiv}
 use Rattle.std.specs.List.{slice_get, list_any, slice_set}
 use Rattle.std.specs.FinSet.{contains, insert, from_list, contains-from_list_nat, same_set, nat_cmp-IsAntisymmetric}
-use Rattle.stab_journal.specs.declared.history.Entry.{Entry}
+use Rattle.stab_journal.specs.Entry.{Entry}
 use Rattle.stab_journal.specs.View.{struck_from}
 use Rattle.stab_journal.proofs.Events.{next_place, member_struck}
 use Rattle.std.proofs.lemmas.Bool.Decides.{nat_tests}

@@ -5,7 +5,7 @@ use Rattle.std.specs.Option.{option_map, option_and_then}
 use Rattle.std.specs.FinSet.{contains, from_list}
 use Rattle.std.proofs.lemmas.Option.{slice_get-map}
 use Rattle.stab_journal.specs.declared.event.Event.{Event}
-use Rattle.stab_journal.specs.declared.history.Entry.{Entry}
+use Rattle.stab_journal.specs.Entry.{Entry}
 use Rattle.stab_journal.specs.declared.history.History.TheInside.{Inside}
 use Rattle.stab_journal.specs.Event.{IsEvent, AreEvents, label_of}
 use Rattle.stab_journal.specs.Journal.{event_at, label_at, IsLive}

@@ -4,7 +4,7 @@ use Rattle.std.specs.Ordering.{nat_cmp}
 use Rattle.std.specs.List.{slice_get}
 use Rattle.std.specs.FinSet.{FinSet, contains, from_list}
 use Rattle.stab_journal.specs.declared.event.Event.{Event}
-use Rattle.stab_journal.specs.declared.history.Entry.{Entry}
+use Rattle.stab_journal.specs.Entry.{Entry}
 use Rattle.stab_journal.specs.declared.history.History.TheInside.{Inside}
 use Rattle.stab_journal.specs.Entries.{events_in, kept_from}
 use Rattle.stab_journal.specs.Journal.{step_at, survivors, survivors_from}

@@ -2,7 +2,7 @@
 use Rattle.std.specs.Prelude.{ℕ, suc, ◌+◌, ◌^◌, ◌<◌, cond, List, [], ◌∷◌, ◌++◌, length, map}
 use Rattle.stab_journal.specs.declared.event.Event.{Event}
 use Rattle.stab_journal.specs.declared.event.Numbered.{Numbered}
-use Rattle.stab_journal.specs.declared.history.Entry.{Entry}
+use Rattle.stab_journal.specs.Entry.{Entry}
 use Rattle.stab_journal.specs.Journal.{step_at}
 
 -- the events of entries

@@ -1,6 +1,7 @@
 pub mod Dependence
 pub mod Due
 pub mod Entries
+pub mod Entry
 pub mod Event
 pub mod Floor
 pub mod Generation
@@ -9,6 +10,7 @@ pub mod Label
 pub mod Names
 pub mod Numbers
 pub mod Own
+pub mod Packed
 pub mod Reached
 pub mod Script
 pub mod Since

@@ -1,7 +1,7 @@
 -- The journal that a history's fields stand for.
 use Rattle.std.specs.Prelude.{◌≡◌, ℕ, zero, suc, ◌-◌, cond, List, [], ◌∷◌, Option, None, map, slice_get, vec_len, vec_capacity}
 use Rattle.std.specs.FinSet.{from_list}
-use Rattle.stab_journal.specs.declared.history.Entry.{Entry}
+use Rattle.stab_journal.specs.Entry.{Entry}
 use Rattle.stab_journal.specs.declared.history.History.TheInside.{Inside}
 use Rattle.stab_journal.specs.Event.{weight_of}
 use Rattle.stab_journal.specs.Journal.{Journal, IsValid}

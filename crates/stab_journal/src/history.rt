@@ -6,17 +6,12 @@ ghost use Rattle.stab_journal.specs.Journal.{AreSurvivors, event_at, IsLive, IsV
 ghost use Rattle.stab_journal.specs.Own.{own, own_at};
 ghost use Rattle.stab_journal.specs.View.{entry_with};
 
+use crate::entry::Entry;
 use crate::event::{Event, Label, What};
 use crate::readers::{Own, Survivors};
 use stab_base::{NoMemory, Seq};
 use std::alloc::Global;
 use std::marker::Model;
-
-#[derive(Clone, Copy)]
-pub(crate) struct Entry {
-    pub(crate) event: Event,
-    pub(crate) struck: bool,
-}
 
 /// The events of a run in order. Steps that were undone stay in it and are struck.
 #[derive(Drop)]
@@ -83,13 +78,13 @@ impl History {
     }
 
     /// The event with a number.
-    pub fn get(&self, q: Seq) -> Option<&Event>
+    pub fn get(&self, q: Seq) -> Option<Event>
         ensures within { IsSome result ↔ ((1 ≤ q.0) × (q.0 ≤ length self.now.events)) }
-        ensures event { option_copied result ≡ event_at self.now.events q.0 }
-        ensures in_range { IfSome result (λ e. IsEvent q.0 e.now) }
+        ensures event { result ≡ event_at self.now.events q.0 }
+        ensures in_range { IfSome result (IsEvent q.0) }
     {
         let entry = entry_at(&self.entries, q)?;
-        Some(&entry.event)
+        Some(entry.event())
     }
 
     /// The steps that weren't struck, in order, read in place.
@@ -118,7 +113,7 @@ impl History {
         ensures { IsTrue result ↔ IsLive self.now q.0 }
     {
         match entry_at(&self.entries, q) {
-            Some(entry) => is_step(&entry.event) && !entry.struck,
+            Some(entry) => is_step(entry.what()) && !entry.is_struck(),
             None => false,
         }
     }
@@ -137,10 +132,7 @@ impl History {
             ≡ own w self.old.events ++ own_at w result.0 event }
     {
         self.weight += weight_of_event(&event);
-        self.entries.push_reserved(Entry {
-            event,
-            struck: false,
-        });
+        self.entries.push_reserved(Entry::new(event));
         Seq(self.entries.len() as u64)
     }
 
@@ -152,7 +144,7 @@ impl History {
             ≡ filter (λ n. not (nat_eq n.seq.0 q.0)) (survivors self.old) }
     {
         let entry = &mut self.entries[(q.0 - 1) as usize];
-        entry.struck = true;
+        entry.strike();
     }
 }
 
@@ -163,10 +155,10 @@ fn entry_at(entries: &[Entry], q: Seq) -> Option<&Entry>
     entries.get(index as usize)
 }
 
-fn is_step(event: &Event) -> bool
-    ensures { result ≡ is_some (label_of event.now.what) }
+fn is_step(what: What) -> bool
+    ensures { result ≡ is_some (label_of what) }
 {
-    matches!(event.what, What::Step(_))
+    matches!(what, What::Step(_))
 }
 
 fn weight_of_event(event: &Event) -> u64

@@ -1,6 +1,7 @@
 //! The journal of a run: its events in order, which of its steps were undone, and their weight.
 #![tactic(auto)]
 
+mod entry;
 mod event;
 mod history;
 mod readers;

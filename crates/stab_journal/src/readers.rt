@@ -3,8 +3,8 @@ ghost use Rattle.std.specs.Prelude.{◌≡◌, cond, [], option_to_list};
 ghost use Rattle.std.specs.Iterator.{YieldsFirst, item_count};
 ghost use Rattle.stab_journal.specs.Journal.{step_at};
 
+use crate::entry::Entry;
 use crate::event::{Numbered, Recorded, What};
-use crate::history::Entry;
 use stab_base::Seq;
 use std::iter::FusedIterator;
 use std::marker::Model;
@@ -88,10 +88,10 @@ impl<'a> Iterator for Own<'a> {
         while let Some((entry, entries)) = self.entries.split_first() {
             self.entries = entries;
             self.passed += 1;
-            if entry.event.worker == self.worker {
+            if entry.worker() == self.worker {
                 return Some(Recorded {
                     seq: Seq(self.passed),
-                    event: entry.event,
+                    event: entry.event(),
                 });
             }
         }
@@ -105,8 +105,8 @@ impl<'a> FusedIterator for Own<'a> {}
 fn live_step(entry: &Entry, seq: Seq) -> Option<Numbered>
     ensures { option_to_list result ≡ cond entry.now.struck [] (step_at seq.0 entry.now.event.what) }
 {
-    match entry.event.what {
-        What::Step(label) if !entry.struck => Some(Numbered { seq, label }),
+    match entry.what() {
+        What::Step(label) if !entry.is_struck() => Some(Numbered { seq, label }),
         _ => None,
     }
 }

@@ -38,8 +38,8 @@ pub(crate) fn counted(history: &History, len: u64, before: Reading) -> Reading
     let mut cuts = before.cuts;
     for i in len..history.len() {
         let event = history.get(Seq(i + 1)).unwrap();
-        undos += once(is_undo(event));
-        cuts += once(is_cut(event));
+        undos += once(is_undo(&event));
+        cuts += once(is_cut(&event));
     }
     Reading {
         weight: history.weight(),

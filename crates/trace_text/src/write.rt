@@ -64,7 +64,7 @@ fn entry_after(history: &History, passed: u64) -> Entry
     ensures { slice_get (entries history.now) passed ≡ Some result }
 {
     let q = Seq(passed + 1);
-    let event = *history.get(q).unwrap();
+    let event = history.get(q).unwrap();
     match event.what {
         What::Step(_) => Entry {
             event,

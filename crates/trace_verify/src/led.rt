@@ -29,7 +29,7 @@ pub fn replayed(alloc: Global, job: &Job, history: &History, count: u64) -> Resu
     let mut replay = Replay::new(alloc, job.program())?;
     for i in 0..count {
         let seq = Seq(i + 1);
-        let event = *history.get(seq).unwrap();
+        let event = history.get(seq).unwrap();
         match replay.follow(alloc, job.script(), seq, event.what)? {
             None => {}
             Some(_) => unreachable!(),

@@ -44,7 +44,7 @@ pub fn verify(alloc: Global, job: &Job, history: &History) -> Result<Verdict, No
     let mut replay = Replay::new(alloc, job.program())?;
     for i in 0..history.len() {
         let seq = Seq(i + 1);
-        let event = *history.get(seq).unwrap();
+        let event = history.get(seq).unwrap();
         if let Some(why) = replay.follow(alloc, job.script(), seq, event.what)? {
             return Ok(Verdict::No(seq, why));
         }

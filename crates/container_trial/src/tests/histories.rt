@@ -41,9 +41,9 @@ fn a_section_is_taken_back(rt: HostRuntime) {
     assert_eq!(rt; history.weight(), 44);
     let live = [0, 1, 2, 3, 4, 5, 6].map(|q| history.is_live(Seq(q)));
     assert_eq!(rt; live, [false, true, false, false, false, false, false]);
-    assert_eq!(rt; history.get(four).copied(), Some(undo));
-    assert_eq!(rt; history.get(Seq(0)).copied(), None);
-    assert_eq!(rt; history.get(Seq(6)).copied(), None);
+    assert_eq!(rt; history.get(four), Some(undo));
+    assert_eq!(rt; history.get(Seq(0)), None);
+    assert_eq!(rt; history.get(Seq(6)), None);
 }
 
 #[test]

@@ -1,5 +1,5 @@
 use Rattle.std.proofs.Common.{◌≡◌, ◌+◌, [], take, add-one, refl, sym, ap, subst, ◌∙◌, arith}
-use Rattle.std.specs.Prelude.{None, option_copied}
+use Rattle.std.specs.Prelude.{None}
 use Rattle.stab_journal.specs.Journal.{event_at}
 use Rattle.trace_verify.specs.Replayed.{Follows, IsReplayed}
 use Rattle.trace_verify.specs.declared.verdict.Verdict.TheVariants.{Yes}
@@ -15,8 +15,8 @@ pub unreachable-requires : goal.unreachable-requires
 unreachable-requires c =
     let p = c.args.job.now.program in
     let es = c.args.history.now.events in
-    let e = c.unwrap-event.result.now in
-    let at = sym (sym (ap option_copied c.unwrap-event.ensures) ∙ c.get.ensures.event ∙ ap (event_at es) (add-one c.loop-i.i)) in
+    let e = c.unwrap-event.result in
+    let at = sym (sym (c.unwrap-event.ensures) ∙ c.get.ensures.event ∙ ap (event_at es) (add-one c.loop-i.i)) in
     let no = failed_at p c.args.job.now.script c.args.history.now c.loop-i.i e c.loop-i.replay (record { 0 = c.loop-i.i + 1 }) c.in-Some.field-0 at refl c.loop-i.invariant.1
     (subst (λ why. Follows p c.args.job.now.script (take c.loop-i.i es) c.loop-i.replay c.follow.new.self e.what why) c.in-Some.is
     (subst (λ s. Follows p s (take c.loop-i.i es) c.loop-i.replay c.follow.new.self e.what c.in_ok-follow.field-0) c.script.ensures.value
@@ -28,8 +28,8 @@ pub loop-i-preserved : goal.loop-i-preserved
 loop-i-preserved c =
     let p = c.args.job.now.program in
     let es = c.args.history.now.events in
-    let e = c.unwrap-event.result.now in
-    let at = sym (sym (ap option_copied c.unwrap-event.ensures) ∙ c.get.ensures.event ∙ ap (event_at es) (add-one c.loop-i.i)) in
+    let e = c.unwrap-event.result in
+    let at = sym (sym (c.unwrap-event.ensures) ∙ c.get.ensures.event ∙ ap (event_at es) (add-one c.loop-i.i)) in
     went_on p c.args.job.now.script es c.loop-i.i e c.loop-i.replay c.follow.new.self at
     (subst (λ why. Follows p c.args.job.now.script (take c.loop-i.i es) c.loop-i.replay c.follow.new.self e.what why) c.in-None.is
     (subst (λ s. Follows p s (take c.loop-i.i es) c.loop-i.replay c.follow.new.self e.what c.in_ok-follow.field-0) c.script.ensures.value

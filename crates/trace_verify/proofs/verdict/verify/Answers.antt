@@ -1,5 +1,4 @@
 use Rattle.std.proofs.Common.{◌≡◌, [], length, take, add-one, refl, sym, ap, subst, ◌∙◌, arith}
-use Rattle.std.specs.Prelude.{option_copied}
 use Rattle.std.proofs.Math.Seq.{take-length}
 use Rattle.stab_journal.specs.Journal.{event_at}
 use Rattle.trace_verify.specs.Replayed.{Follows, IsReplayed}
@@ -14,8 +13,8 @@ pub returns-in-Some : goal.returns-in-Some
 returns-in-Some c =
     let p = c.args.job.now.program in
     let es = c.args.history.now.events in
-    let e = c.unwrap-event.result.now in
-    let at = sym (sym (ap option_copied c.unwrap-event.ensures) ∙ c.get.ensures.event ∙ ap (event_at es) (add-one c.loop-i.i)) in
+    let e = c.unwrap-event.result in
+    let at = sym (sym (c.unwrap-event.ensures) ∙ c.get.ensures.event ∙ ap (event_at es) (add-one c.loop-i.i)) in
     failed_at p c.args.job.now.script c.args.history.now c.loop-i.i e c.loop-i.replay _ c.in-Some.why at refl c.loop-i.invariant.1
     (subst (λ why. Follows p c.args.job.now.script (take c.loop-i.i es) c.loop-i.replay c.follow.new.self e.what why) c.in-Some.is
     (subst (λ s. Follows p s (take c.loop-i.i es) c.loop-i.replay c.follow.new.self e.what c.in_ok-why.field-0) c.script.ensures.value
@@ -25,8 +24,8 @@ pub loop-i-preserved : goal.loop-i-preserved
 loop-i-preserved c =
     let p = c.args.job.now.program in
     let es = c.args.history.now.events in
-    let e = c.unwrap-event.result.now in
-    let at = sym (sym (ap option_copied c.unwrap-event.ensures) ∙ c.get.ensures.event ∙ ap (event_at es) (add-one c.loop-i.i)) in
+    let e = c.unwrap-event.result in
+    let at = sym (sym (c.unwrap-event.ensures) ∙ c.get.ensures.event ∙ ap (event_at es) (add-one c.loop-i.i)) in
     went_on p c.args.job.now.script es c.loop-i.i e c.loop-i.replay c.follow.new.self at
     (subst (λ why. Follows p c.args.job.now.script (take c.loop-i.i es) c.loop-i.replay c.follow.new.self e.what why) c.in_default.is
     (subst (λ s. Follows p s (take c.loop-i.i es) c.loop-i.replay c.follow.new.self e.what c.in_ok-why.field-0) c.script.ensures.value
