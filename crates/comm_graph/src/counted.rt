@@ -5,6 +5,7 @@ ghost use Rattle.comm_graph.specs.Left.{left_of, AreEdges, IsTurn};
 
 use crate::edges::Edges;
 use crate::graph::Graph;
+use crate::hint::Hint;
 use crate::node::NodeFor;
 use stab_base::Seq;
 use std::marker::{Model, PhantomData};
@@ -66,6 +67,16 @@ impl<'a, L: Ledger> Counted<'a, L> {
         ensures all { left_of self.now.nodes node.0 result.left ≡ ends self.now.nodes node.0 }
     {
         self.graph.edges(node)
+    }
+
+    /// The edges of a node, which is looked for at a hint first.
+    pub fn edges_near(&self, node: Seq, hint: Hint) -> Edges
+        requires { IsSome (kind_of self.now.nodes node.0) }
+        ensures edges { AreEdges self.now.nodes result }
+        ensures node { result.node ≡ node }
+        ensures all { left_of self.now.nodes node.0 result.left ≡ ends self.now.nodes node.0 }
+    {
+        self.graph.edges_near(node, hint)
     }
 
     /// Where the next edge leads, as `Graph::next_edge` gives it. Takes one step.

@@ -9,6 +9,7 @@ ghost use Rattle.comm_graph.specs.declared.edges.Left.TheVariants.{First, Second
 ghost use Rattle.comm_graph.specs.Left.{left_of, second_ends, IsLeft, IsWriter, IsTurn, IsReady, AreReadersLeft, AreEdges, number_of};
 
 use crate::graph::Graph;
+use crate::hint::Hint;
 use crate::table::{Line, Place, Table};
 use crate::walk;
 use stab_base::Seq;
@@ -21,6 +22,17 @@ pub struct Edges {
     node: Seq,
     left: Left,
     near: Place,
+    /// Where the node is to which the last edge led.
+    end: Place,
+}
+
+impl Edges {
+    /// Where the node may be to which the last edge led.
+    pub fn hint(&self) -> Hint {
+        Hint {
+            place: self.end,
+        }
+    }
 }
 
 /// Which edges are left: all, those for the second thread and to readers, those to readers, or those to
@@ -41,10 +53,21 @@ impl Graph {
         ensures node { result.node ≡ node }
         ensures all { left_of self.now.nodes node.0 result.left ≡ ends self.now.nodes node.0 }
     {
+        self.edges_near(node, Hint::none())
+    }
+
+    /// The edges of a node, which is looked for at a hint first.
+    pub fn edges_near(&self, node: Seq, hint: Hint) -> Edges
+        requires { IsSome (kind_of self.now.nodes node.0) }
+        ensures edges { AreEdges self.now.nodes result }
+        ensures node { result.node ≡ node }
+        ensures all { left_of self.now.nodes node.0 result.left ≡ ends self.now.nodes node.0 }
+    {
         Edges {
             node,
             left: Left::First,
-            near: 0,
+            near: hint.place,
+            end: 0,
         }
     }
 
@@ -122,6 +145,7 @@ fn from_first(table: &Table, tails: &Vec<Place>, place: Place, edges: &mut Edges
     match walk::next_acting(table, tails, place, first) {
         Some(next) => {
             edges.left = Left::Second;
+            edges.end = next;
             Some(table.entry(next).number)
         }
         None => from_second(table, tails, place, edges),
@@ -138,6 +162,7 @@ fn from_second(table: &Table, tails: &Vec<Place>, place: Place, edges: &mut Edge
     match next_of_second(table, tails, place) {
         Some(next) => {
             edges.left = Left::Reads;
+            edges.end = next;
             Some(table.entry(next).number)
         }
         None => from_reads(table, place, edges),
@@ -201,5 +226,6 @@ fn turn_to(table: &Table, reader: Place, edges: &mut Edges) -> Option<Seq>
     let number = table.entry(reader).number;
     edges.left = Left::Before(number);
     edges.near = reader;
+    edges.end = reader;
     Some(number)
 }

@@ -5,6 +5,7 @@ ghost use Rattle.comm_graph.specs.Node.{Node, reads};
 ghost use Rattle.comm_graph.specs.Edge.{kind_of, AreNodes};
 ghost use Rattle.comm_graph.specs.Sound.{IsGrown};
 
+use crate::hint::Hint;
 use crate::node::NodeFor;
 use crate::table::{Place, Table};
 use crate::{readers, threads};
@@ -113,8 +114,21 @@ impl Graph {
         ensures node { result ≡ kind_of self.now.nodes q.0 }
         ensures step { steps.new ≡ steps.old + 1 }
     {
+        self.node_near(q, Hint::none(), steps)
+    }
+
+    /// What the node with a number stands for, which is looked for at a hint first. Takes one step.
+    pub fn node_near<L: Ledger>(
+        &self,
+        q: Seq,
+        hint: Hint,
+        steps: &mut Steps<L>,
+    ) -> Option<NodeFor>
+        ensures node { result ≡ kind_of self.now.nodes q.0 }
+        ensures step { steps.new ≡ steps.old + 1 }
+    {
         steps.tick();
-        match self.table.find(q) {
+        match self.table.find_near(q, hint.place) {
             Some(place) => Some(self.table.entry(place).kind),
             None => None,
         }
@@ -126,7 +140,16 @@ impl Graph {
         ensures nodes { self.new.nodes ≡ filter (λ (n : Node). not (nat_eq q.0 n.number)) self.old.nodes }
         ensures spare { self.old.spare ≤ self.new.spare }
     {
-        if let Some(place) = self.table.find(q) {
+        self.strike_near(q, Hint::none());
+    }
+
+    /// Takes a node away, as `strike` does. It is looked for at a hint first.
+    pub fn strike_near(&mut self, q: Seq, hint: Hint)
+        requires { IsSome (kind_of self.old.nodes q.0) }
+        ensures nodes { self.new.nodes ≡ filter (λ (n : Node). not (nat_eq q.0 n.number)) self.old.nodes }
+        ensures spare { self.old.spare ≤ self.new.spare }
+    {
+        if let Some(place) = self.table.find_near(q, hint.place) {
             let node = self.table.entry(place).kind;
             threads::leave(&mut self.table, &mut self.tails, place, &node);
             readers::leave(&mut self.table, place, &node);

@@ -4,6 +4,7 @@
 mod counted;
 mod edges;
 mod graph;
+mod hint;
 mod line;
 mod node;
 mod readers;
@@ -14,4 +15,5 @@ mod walk;
 pub use counted::Counted;
 pub use edges::Edges;
 pub use graph::Graph;
+pub use hint::Hint;
 pub use node::NodeFor;

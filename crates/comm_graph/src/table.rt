@@ -265,7 +265,7 @@ impl Table {
     {
         if near > self.gone && near <= self.end() {
             let entry = self.entry(near);
-            if entry.number.0 == q.0 && entry.live {
+            if entry.live && entry.number.0 == q.0 {
                 return Some(near);
             }
         }

@@ -3,7 +3,7 @@ ghost use Rattle.std.specs.Prelude.{◌≡◌, ◌<◌, ◌≤◌, ◌+◌, ◌-
 ghost use Rattle.comm_graph.specs.Node.{Node};
 ghost use Rattle.reach_line.specs.Reached.{has, IsOnce};
 
-use comm_graph::Graph;
+use comm_graph::{Graph, Hint};
 use stab_base::{NoMemory, Seq};
 use std::alloc::Global;
 use std::marker::Model;
@@ -13,6 +13,8 @@ use std::marker::Model;
 pub struct Marks {
     alloc: Global,
     nodes: Vec<Seq>,
+    /// Where the i-th node may be.
+    hints: Vec<Hint>,
     lowest: u64,
     /// Which numbers from `lowest` on are marked.
     seen: Vec<bool>,
@@ -43,6 +45,7 @@ impl Marks {
         Marks {
             alloc,
             nodes: Vec::new(alloc),
+            hints: Vec::new(alloc),
             lowest: 0,
             seen: Vec::new(alloc),
         }
@@ -102,6 +105,11 @@ impl Marks {
         &self.nodes
     }
 
+    /// Where the i-th node may be.
+    pub fn hint(&self, i: usize) -> Hint {
+        self.hints.get(i).copied().unwrap_or(Hint::none())
+    }
+
     /// The i-th node that was marked.
     pub(crate) fn at(&self, i: usize) -> Option<Seq>
         ensures at { option_map (λ q. q.0) result ≡ slice_get self.now.nodes i }
@@ -113,7 +121,7 @@ impl Marks {
     }
 
     /// Marks a node for which there is room, where it isn't marked yet.
-    pub(crate) fn mark(&mut self, q: Seq)
+    pub(crate) fn mark(&mut self, q: Seq, hint: Hint)
         requires low { self.old.lowest ≤ q.0 }
         requires high { q.0 < self.old.beyond }
         ensures { self.new
@@ -123,6 +131,7 @@ impl Marks {
         if !self.seen[index] {
             self.seen[index] = true;
             self.nodes.push_reserved(q);
+            push_hint(&mut self.hints, hint);
         }
     }
 
@@ -143,11 +152,22 @@ impl Marks {
         match self.nodes.pop() {
             Some(q) => {
                 self.seen[(q.0 - self.lowest) as usize] = false;
+                drop_hint(&mut self.hints);
                 true
             }
             None => false,
         }
     }
+}
+
+fn push_hint(hints: &mut Vec<Hint>, hint: Hint) {
+    if hints.len() < hints.capacity() {
+        hints.push_reserved(hint);
+    }
+}
+
+fn drop_hint(hints: &mut Vec<Hint>) {
+    let _hint = hints.pop();
 }
 
 fn room_between(first: Seq, last: Seq) -> Result<usize, NoMemory>
@@ -174,6 +194,7 @@ fn with_room(alloc: Global, lowest: u64, count: usize) -> Result<Marks, NoMemory
     Ok(Marks {
         alloc,
         nodes: Vec::with_capacity(alloc, count)?,
+        hints: Vec::with_capacity(alloc, count)?,
         lowest,
         seen,
     })

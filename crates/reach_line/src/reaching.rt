@@ -6,7 +6,7 @@ ghost use Rattle.reach_line.specs.MarkList.{HasSpare};
 ghost use Rattle.reach_line.specs.Progress.{IsSpread};
 
 use crate::marks::Marks;
-use comm_graph::Counted;
+use comm_graph::{Counted, Hint};
 use stab_base::Seq;
 use std::sync::ledger::Ledger;
 use step_counter::Steps;
@@ -22,24 +22,30 @@ pub fn reach<L: Ledger>(graph: &Counted<'_, L>, node: Seq, marks: &mut Marks, st
     ensures steps { steps.new ≤ steps.old + 4 * length marks.new.nodes }
 {
     marks.clear();
-    marks.mark(node);
+    marks.mark(node, Hint::none());
     let mut next = 0usize;
     while let Some(from) = marks.at(next) {
-        spread(graph, from, marks, steps);
+        spread(graph, from, marks.hint(next), marks, steps);
         next += 1;
     }
     graph.valid();
 }
 
 // Marks where the edges of a node lead.
-fn spread<L: Ledger>(graph: &Counted<'_, L>, from: Seq, marks: &mut Marks, steps: &mut Steps<L>)
+fn spread<L: Ledger>(
+    graph: &Counted<'_, L>,
+    from: Seq,
+    hint: Hint,
+    marks: &mut Marks,
+    steps: &mut Steps<L>,
+)
     requires there { IsSome (kind_of graph.now.nodes from.0) }
     requires spare { HasSpare marks.old graph.now.nodes }
     ensures spread { IsSpread (ends graph.now.nodes from.0) (ends graph.now.nodes from.0) marks.old marks.new }
     ensures steps { steps.new ≡ steps.old + length (ends graph.now.nodes from.0) + 1 }
 {
-    let mut edges = graph.edges(from);
+    let mut edges = graph.edges_near(from, hint);
     while let Some(end) = graph.next_edge(&mut edges, steps) {
-        marks.mark(end);
+        marks.mark(end, edges.hint());
     }
 }

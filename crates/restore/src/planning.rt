@@ -10,7 +10,7 @@ ghost use Rattle.restore.specs.Noted.{noted};
 use crate::found::Found;
 use crate::line::Line;
 use crate::plan::Plan;
-use comm_graph::{Graph, NodeFor};
+use comm_graph::{Graph, Hint, NodeFor};
 use reach_line::Marks;
 use stab_base::Seq;
 use std::sync::ledger::Ledger;
@@ -37,13 +37,15 @@ fn find_all<L: Ledger>(marks: &Marks, graph: &Graph, found: &mut Found, steps: &
     ensures steps { steps.new ≡ steps.old + length marks.now.nodes }
 {
     found.clear();
+    let mut i = 0usize;
     for q in marks.nodes() {
-        find(*q, graph, found, steps);
+        find(*q, marks.hint(i), graph, found, steps);
+        i = i.wrapping_add(1);
     }
 }
 
 // The lines with one more node marked.
-fn find<L: Ledger>(q: Seq, graph: &Graph, found: &mut Found, steps: &mut Steps<L>)
+fn find<L: Ledger>(q: Seq, hint: Hint, graph: &Graph, found: &mut Found, steps: &mut Steps<L>)
     requires there { IsSome (kind_of graph.now.nodes q.0) }
     requires spare { (k : NodeFor) → kind_of graph.now.nodes q.0 ≡ Some k
         → (t : ℕ) → touches t k ≡ true → t < found.old.spare }
@@ -52,7 +54,7 @@ fn find<L: Ledger>(q: Seq, graph: &Graph, found: &mut Found, steps: &mut Steps<L
     ensures spare { found.new.spare ≡ found.old.spare }
     ensures step { steps.new ≡ steps.old + 1 }
 {
-    if let Some(node) = graph.node(q, steps) {
+    if let Some(node) = graph.node_near(q, hint, steps) {
         note(q, node, found);
     }
 }

@@ -123,8 +123,10 @@ fn strike_all<C: Drop>(marks: &Marks, store: &mut Store<C>, graph: &mut Graph)
     ensures nodes { graph.new.nodes ≡ unmarked marks.now.nodes graph.old.nodes }
     ensures nodes_spare { graph.old.spare ≤ graph.new.spare }
 {
+    let mut i = 0usize;
     for q in marks.nodes() {
         store.drop_at(*q);
-        graph.strike(*q);
+        graph.strike_near(*q, marks.hint(i));
+        i = i.wrapping_add(1);
     }
 }

@@ -12,8 +12,8 @@ use Rattle.restore.proofs.undoing.strike_all.Goals as goal
 pub loop-q-init : goal.loop-q-init
 loop-q-init g c = record { saved = λ q t. refl; saved_spare = omega arith; nodes = sym (unmarked_none c.args.graph.now.nodes); nodes_spare = omega arith }
 
-pub strike-requires : goal.strike-requires
-strike-requires g c =
+pub strike_near-requires : goal.strike_near-requires
+strike_near-requires g c =
     let qs = c.nodes-q-items.result.now in
     let q = (get_or qs c.loop-q.q-index (record { 0 = 0 })).0 in
     let done = take c.loop-q.q-index c.args.marks.now.nodes in
@@ -31,6 +31,6 @@ loop-q-preserved g c =
           c.drop_at.ensures.rest p t ∙ cond_more done q p.0 (saved_at c.loop-q.store p t) (saved_at c.args.store.now p t) (c.loop-q.invariant.saved p t)
           ∙ ap (λ l. cond (has p.0 l) None (saved_at c.args.store.now p t)) more;
       saved_spare = omega (arith, c.drop_at.ensures.spare, c.loop-q.invariant.saved_spare);
-      nodes = c.strike.ensures.nodes ∙ ap (filter (λ (n : Node). not (nat_eq q n.number))) c.loop-q.invariant.nodes ∙ struck_more done q c.args.graph.now.nodes ∙ ap (λ l. unmarked l c.args.graph.now.nodes) more;
-      nodes_spare = omega (arith, c.strike.ensures.spare, c.loop-q.invariant.nodes_spare);
+      nodes = c.strike_near.ensures.nodes ∙ ap (filter (λ (n : Node). not (nat_eq q n.number))) c.loop-q.invariant.nodes ∙ struck_more done q c.args.graph.now.nodes ∙ ap (λ l. unmarked l c.args.graph.now.nodes) more;
+      nodes_spare = omega (arith, c.strike_near.ensures.spare, c.loop-q.invariant.nodes_spare);
     }

@@ -2,7 +2,7 @@ use Rattle.std.proofs.Common.{sym, ap, ◌∙◌}
 use Rattle.comm_graph.specs.Edge.{kind_of, NodeList}
 use Rattle.comm_graph.proofs.Tables.{in_range}
 use Rattle.comm_graph.proofs.Reading.{kind_found, kind_none}
-use Rattle.comm_graph.proofs.graph.Graph.node.Goals as goal
+use Rattle.comm_graph.proofs.graph.Graph.node_near.Goals as goal
 
 pub entry-requires : goal.entry-requires
 entry-requires g c = let t = c.self.inside.table in in_range t.entries.items t.gone c.in-Some.place c.in-Some.ensures.found.entry c.in-Some.ensures.found.at

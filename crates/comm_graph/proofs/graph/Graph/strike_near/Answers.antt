@@ -8,7 +8,7 @@ use Rattle.comm_graph.proofs.Kept.{readers_kept}
 use Rattle.comm_graph.proofs.ReaderLines.{none_of}
 use Rattle.comm_graph.proofs.Reading.{must_be}
 use Rattle.comm_graph.proofs.Shrunk.{struck_nodes, struck_sound, more_room, live_counts}
-use Rattle.comm_graph.proofs.graph.Graph.strike.Goals as goal
+use Rattle.comm_graph.proofs.graph.Graph.strike_near.Goals as goal
 
 pub entry-requires : goal.entry-requires
 entry-requires c = let t = c.self.inside.table in in_range t.entries.items t.gone c.in-Some.place c.in-Some.ensures.found.entry c.in-Some.ensures.found.at
@@ -79,4 +79,4 @@ returns-in-Some-clause-spare c =
 pub returns-in_default-clause-nodes : goal.returns-in_default-clause-nodes
 returns-in_default-clause-nodes c =
     let t = c.self.inside.table in
-    absurd (must_be t.entries.items t.gone c.args.q.0 (none_of c.find.result _ c.find.ensures.none c.in_default.is) (kind_of c.args.self.now.nodes c.args.q.0) (ap (λ ns. kind_of ns c.args.q.0) (sym (ap (λ (v : NodeList). v.nodes) c.self.view_is))) c.requires)
+    absurd (must_be t.entries.items t.gone c.args.q.0 (none_of c.find_near.result _ c.find_near.ensures.none c.in_default.is) (kind_of c.args.self.now.nodes c.args.q.0) (ap (λ ns. kind_of ns c.args.q.0) (sym (ap (λ (v : NodeList). v.nodes) c.self.view_is))) c.requires)
