@@ -154,7 +154,7 @@ nodes_push (m ∷ ns) n all low h = (all_push (λ (x : Node). m.number < x.numbe
 module _ (es : List Entry) (g p : ℕ) (q : Seq) (k : NodeFor) (end : p ≡ suc (g + length es)) (tails : List ℕ) (total top : ℕ) (sound : IsSound es g tails total top)
     (above : AllByRecursion (λ (n : Node). n.number < q.0) (nodes_of es)) (back : (m : ℕ) → reads m k ≡ true → m < q.0) where
   -- the new graph, with the same links but in the new node's lines
-  pub added : (fs : List Entry) (left : List ℕ) (top' : ℕ) → Keeps (es ++ unlinked q k ∷ []) fs g → AreTails fs g left → AreReaders fs g → p < 2 ^ 64 → top ≤ top' → ((t : ℕ) → touches t k ≡ true → t ≤ top') → IsSound fs g left (total + 1) top'
+  pub added : (fs : List Entry) (left : List ℕ) (top' : ℕ) → Keeps (es ++ unlinked q k ∷ []) fs g → AreTails fs g left → AreReaders fs g → p < 2 ^ 32 → top ≤ top' → ((t : ℕ) → touches t k ≡ true → t ≤ top') → IsSound fs g left (total + 1) top'
   added fs left top' keeps acting reading small le tops =
       let es1 = es ++ unlinked q k ∷ [] in
       let len : length es1 ≡ length es + 1 = length-append es (unlinked q k ∷ []) in
@@ -216,7 +216,7 @@ module _ (es : List Entry) (g : ℕ) (q : Seq) (k : NodeFor) (fs : List Entry) (
     pub p_readers : AreReadersBut fs h p
     p_readers = moved_to (λ l n. AreReadersBut l n p) (es ++ unlinked q k ∷ []) fs g h is.entries is.gone (pushed_readers es g p q k place_is tails total top sound above back)
 
-    pub p_added : (gs : List Entry) (left : List ℕ) (top' : ℕ) → Keeps fs gs h → AreTails gs h left → AreReaders gs h → p < 2 ^ 64 → top ≤ top' → ((t : ℕ) → touches t k ≡ true → t ≤ top') → IsSound gs h left (total + 1) top'
+    pub p_added : (gs : List Entry) (left : List ℕ) (top' : ℕ) → Keeps fs gs h → AreTails gs h left → AreReaders gs h → p < 2 ^ 32 → top ≤ top' → ((t : ℕ) → touches t k ≡ true → t ≤ top') → IsSound gs h left (total + 1) top'
     p_added gs left top' keeps acting reading small le tops =
         subst (λ n. IsSound gs n left (total + 1) top') (sym is.gone)
         (added es g p q k place_is tails total top sound above back gs left top'

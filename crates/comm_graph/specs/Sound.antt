@@ -34,7 +34,7 @@ pub record IsSound (es : List Entry) (gone : ℕ) (tails : List ℕ) (total grea
   pub nodes : AreNodes (nodes_of es)
   pub sorted : IsSorted es gone
   pub closed : IsClosed es gone
-  pub small : gone + length es < 2 ^ 64
+  pub small : gone + length es < 2 ^ 32
   pub count : total ≡ length (nodes_of es)
   pub acting : AreTails es gone tails
   pub reading : AreReaders es gone
@@ -43,7 +43,7 @@ pub record IsSound (es : List Entry) (gone : ℕ) (tails : List ℕ) (total grea
 
 -- how many more nodes can be added without memory
 abbrev pub spare_of : Table → ℕ
-spare_of t = min (deque_capacity t.entries - deque_len t.entries) (2 ^ 64 - 1 - (t.gone + length t.entries.items))
+spare_of t = min (deque_capacity t.entries - deque_len t.entries) (2 ^ 32 - 1 - (t.gone + length t.entries.items))
 
 -- struck entries left the end
 pub record IsTrimmed (es fs : List Entry) (gone : ℕ) : Type 0 where

@@ -77,14 +77,15 @@ impl Graph {
         Some((first.number, last.number))
     }
 
-    /// Makes room for one node more, so that it can be added without memory.
+    /// Makes room for one node more, so that it can be added without memory. A graph has places for 4,294,967,295
+    /// nodes, dropped ones included; a journal has no more events.
     pub fn reserve(&mut self) -> Result<(), NoMemory>
         ensures ok { OnOk result (1 ≤ self.new.spare) }
         ensures enough { 1 ≤ self.old.spare → IsOk result }
         ensures nodes { self.new.nodes ≡ self.old.nodes }
         ensures no_less { self.old.spare ≤ self.new.spare }
     {
-        if self.table.end() == u64::MAX {
+        if self.table.end() == Place::MAX {
             return Err(NoMemory);
         }
         number_threads(&mut self.tails, self.greatest, self.count);

@@ -14,7 +14,7 @@ use stab_base::Seq;
 pub fn join(table: &mut Table, place: Place, kind: &NodeFor)
     requires node { IsNodeAt table.old.entries.items table.old.gone place kind.now }
     requires sorted { IsSorted table.old.entries.items table.old.gone }
-    requires small { table.old.gone + length table.old.entries.items < 2 ^ 64 }
+    requires small { table.old.gone + length table.old.entries.items < 2 ^ 32 }
     requires behind { place ≡ table.old.gone + length table.old.entries.items }
     requires alone { (q : ℕ) → in_line (readers q) table.old.entries.items table.old.gone place ≡ true
         → after_of (readers q) table.old.entries.items table.old.gone place ≡ 0 }
@@ -36,7 +36,7 @@ pub fn join(table: &mut Table, place: Place, kind: &NodeFor)
 // The place of the write with a number.
 fn find_write(table: &Table, number: Seq) -> Option<Place>
     requires sorted { IsSorted table.now.entries.items table.now.gone }
-    requires small { table.now.gone + length table.now.entries.items < 2 ^ 64 }
+    requires small { table.now.gone + length table.now.entries.items < 2 ^ 32 }
     ensures found { IfSome result (λ w. IsWriteAt table.now.entries.items table.now.gone number.0 w) }
     ensures none { IfNone result ((w : ℕ) → IsWriteAt table.now.entries.items table.now.gone number.0 w → ⊥) }
 {
@@ -64,7 +64,7 @@ fn only_write(table: &Table, place: Place) -> Option<Place>
 pub fn leave(table: &mut Table, place: Place, kind: &NodeFor)
     requires node { IsNodeAt table.old.entries.items table.old.gone place kind.now }
     requires sorted { IsSorted table.old.entries.items table.old.gone }
-    requires small { table.old.gone + length table.old.entries.items < 2 ^ 64 }
+    requires small { table.old.gone + length table.old.entries.items < 2 ^ 32 }
     requires lines { AreReaders table.old.entries.items table.old.gone }
     ensures gone { table.new.gone ≡ table.old.gone }
     ensures capacity { deque_capacity table.new.entries ≡ deque_capacity table.old.entries }

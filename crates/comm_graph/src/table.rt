@@ -13,7 +13,7 @@ use std::collections::VecDeque;
 
 /// The place of an entry: how many entries were dropped or are before it, and one. What isn't above
 /// the number of dropped entries is the place of none.
-pub type Place = u64;
+pub type Place = u32;
 
 /// The neighbours of an entry in a line.
 #[derive(Clone, Copy)]
@@ -95,7 +95,7 @@ impl Entry {
 #[derive(Drop)]
 pub struct Table {
     pub entries: VecDeque<Entry>,
-    pub gone: u64,
+    pub gone: Place,
 }
 
 impl Table {
@@ -112,10 +112,10 @@ impl Table {
 
     /// The place of the last entry.
     pub fn end(&self) -> Place
-        requires { self.now.gone + length self.now.entries.items < 2 ^ 64 }
+        requires { self.now.gone + length self.now.entries.items < 2 ^ 32 }
         ensures { result ≡ self.now.gone + length self.now.entries.items }
     {
-        self.gone + self.entries.len() as u64
+        self.gone + self.entries.len() as Place
     }
 
     /// Adds a node after all others, in no line yet.
@@ -229,7 +229,7 @@ impl Table {
     /// The place of the node with a number.
     pub fn find(&self, q: Seq) -> Option<Place>
         requires sorted { IsSorted self.now.entries.items self.now.gone }
-        requires small { self.now.gone + length self.now.entries.items < 2 ^ 64 }
+        requires small { self.now.gone + length self.now.entries.items < 2 ^ 32 }
         ensures found { IfSome result (λ p. IsFound self.now.entries.items self.now.gone q.0 p) }
         ensures none { IfNone result ((p : ℕ) → IsFound self.now.entries.items self.now.gone q.0 p → ⊥) }
     {
@@ -237,7 +237,7 @@ impl Table {
         if index < self.entries.len() {
             let entry = &self.entries[index];
             if entry.number.0 == q.0 && entry.live {
-                return Some(self.gone + index as u64 + 1);
+                return Some(self.gone + index as Place + 1);
             }
         }
         None
@@ -259,7 +259,7 @@ impl Table {
     /// The place of the node with a number, which is looked for at a place first.
     pub fn find_near(&self, q: Seq, near: Place) -> Option<Place>
         requires sorted { IsSorted self.now.entries.items self.now.gone }
-        requires small { self.now.gone + length self.now.entries.items < 2 ^ 64 }
+        requires small { self.now.gone + length self.now.entries.items < 2 ^ 32 }
         ensures found { IfSome result (λ p. IsFound self.now.entries.items self.now.gone q.0 p) }
         ensures none { IfNone result ((p : ℕ) → IsFound self.now.entries.items self.now.gone q.0 p → ⊥) }
     {
@@ -310,7 +310,7 @@ impl Table {
 
     /// Drops the entries with numbers below `q`. Returns how many of them were live.
     pub fn drop_below(&mut self, q: Seq) -> u64
-        requires { self.old.gone + length self.old.entries.items < 2 ^ 64 }
+        requires { self.old.gone + length self.old.entries.items < 2 ^ 32 }
         ensures dropped { IsDropped self.old.entries.items self.old.gone self.new.entries.items self.new.gone q.0 result }
         ensures front { IsAtLeast self.new.entries.items self.new.gone q.0 }
         ensures capacity { deque_capacity self.new.entries ≡ deque_capacity self.old.entries }
@@ -326,7 +326,7 @@ impl Table {
 
     // Drops the first entry, where its number is below `q`, and says whether it is live.
     fn pop_below(&mut self, q: Seq) -> Option<bool>
-        requires { self.old.gone + length self.old.entries.items < 2 ^ 64 }
+        requires { self.old.gone + length self.old.entries.items < 2 ^ 32 }
         ensures capacity { deque_capacity self.new.entries ≡ deque_capacity self.old.entries }
         ensures some { IfSome result
             (λ live. IsFirstBelow self.old.entries.items self.old.gone self.new.entries.items self.new.gone q.0 live) }

@@ -10,7 +10,7 @@ use stab_base::ThreadId;
 /// The next entry in which a thread acts that the one at the place touches.
 pub fn next_acting(table: &Table, tails: &Vec<Place>, place: Place, t: ThreadId) -> Option<Place>
     requires place { IsPlace table.now.entries.items table.now.gone place }
-    requires small { table.now.gone + length table.now.entries.items < 2 ^ 64 }
+    requires small { table.now.gone + length table.now.entries.items < 2 ^ 32 }
     requires tails { AreTails table.now.entries.items table.now.gone tails.now.items }
     requires line { t.0 < length tails.now.items → in_line (thread t.0) table.now.entries.items table.now.gone place ≡ true }
     ensures next { number_at table.now.entries.items table.now.gone result
@@ -32,7 +32,7 @@ pub fn next_acting(table: &Table, tails: &Vec<Place>, place: Place, t: ThreadId)
 // where the thread has no line. 0 where there is none.
 fn following(table: &Table, tails: &Vec<Place>, place: Place, t: ThreadId) -> Place
     requires place { IsPlace table.now.entries.items table.now.gone place }
-    requires small { table.now.gone + length table.now.entries.items < 2 ^ 64 }
+    requires small { table.now.gone + length table.now.entries.items < 2 ^ 32 }
     requires tails { AreTails table.now.entries.items table.now.gone tails.now.items }
     requires line { t.0 < length tails.now.items → in_line (thread t.0) table.now.entries.items table.now.gone place ≡ true }
     ensures { IsAhead table.now.entries.items table.now.gone (length tails.now.items) t.0 place result }
