@@ -335,10 +335,12 @@ fn holds_pin_in<L: Ledger>(graph: &Graph, marks: &Marks, blank: Blank) -> bool
     ensures none { result ≡ false → (q : ℕ) → IsMarkedAs graph.now.nodes marks.now.nodes is_pinned q → ⊥ }
 {
     let mut steps: Steps<L> = Steps::new(blank);
+    let mut i = 0usize;
     for q in marks.nodes() {
-        if is_pin(graph.node(*q, &mut steps)) {
+        if is_pin(graph.node_near(*q, marks.hint(i), &mut steps)) {
             return true;
         }
+        i = i.wrapping_add(1);
     }
     false
 }
