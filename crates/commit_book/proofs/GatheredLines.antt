@@ -2,11 +2,9 @@
 use Rattle.std.proofs.Common.{◌≡◌, ◌⊎◌, inl, inr, ℕ, ◌≤◌, Bool, true, false, cond, not, ◌&&◌, ◌||◌, nat_eq, List, [], ◌∷◌, ◌++◌, refl, sym, ap, subst, ◌∙◌, arith}
 use Rattle.std.specs.Prelude.{nat_le, filter}
 use Rattle.std.specs.FinMap as map
-use Rattle.std.specs.List.{AllByRecursion, list_any}
-use Rattle.std.specs.List.Sorted.{IsNonDecreasingBy, IsPermutation}
+use Rattle.std.specs.List.{AllByRecursion}
 use Rattle.std.proofs.lemmas.Bool.Decides.{nat_tests}
 use Rattle.std.proofs.lemmas.List.Folds.{list_any-append}
-use Rattle.std.proofs.lemmas.List.Sorted.{list_any-IsPermutation}
 use Rattle.linked_lists.specs.Lists.{is_listed}
 use Rattle.own_steps.specs.Own.{Seen, steps_of}
 use Rattle.reach_line.specs.MarkList.{numbers}
@@ -169,25 +167,18 @@ module _ (lines : LineMap) (old mid new : Seen) (before after : List Seq) (ts : 
     pub gathered_more : IsGatheredFrom lines old new after (ts ++ t ∷ [])
     gathered_more = record { own = own_more; lost = lost_more; all = all_more }
 
-listed_seqs : (q : ℕ) (qs : List Seq) → is_listed q (numbers qs) ≡ list_any (λ (k : Seq). nat_eq q k.0) qs
-listed_seqs q [] = refl
-listed_seqs q (k ∷ qs) = ap (λ b. nat_eq q k.0 || b) (listed_seqs q qs)
-
--- the touched threads are all done, and what was taken out is sorted
-pub gathered_all : (old new : Rollback) (lost : List Seq) → IsGatheredFrom old.plan.lines old.own new.own lost (map.keys old.plan.lines) → IsPermutation lost new.lost.items → IsNonDecreasingBy (λ (q : Seq). q.0) new.lost.items → (new.read ≡ old.read) × (new.floor ≡ old.floor) × (new.plan ≡ old.plan) → IsGathered old new
-gathered_all old new lost is moved order rest =
+-- the touched threads are all done
+pub gathered_all : (old new : Rollback) → IsGatheredFrom old.plan.lines old.own new.own new.lost.items (map.keys old.plan.lines) → (new.read ≡ old.read) × (new.floor ≡ old.floor) × (new.plan ≡ old.plan) → IsGathered old new
+gathered_all old new is rest =
     let lines = old.plan.lines in
     let touched : (t : ℕ) → is_touched lines t ≡ is_listed t (map.keys lines) = λ t. sym (listed_key lines t) in
-    let same : (q : ℕ) → is_listed q (numbers new.lost.items) ≡ is_listed q (numbers lost) = λ q.
-    listed_seqs q new.lost.items ∙ sym (list_any-IsPermutation (λ (k : Seq). nat_eq q k.0) lost new.lost.items moved) ∙ sym (listed_seqs q lost) in
     record {
       own = λ t. is.own t ∙ sym (ap (λ b. filter (λ q. not (b && nat_le (line_number (map.get lines t)) q)) (steps_of old.own t)) (touched t));
       lost = λ q some.
-          let by = is.lost q (sym (same q) ∙ some) in
+          let by = is.lost q some in
           (by.0, by.1, ap (λ b. b && nat_le (line_number (map.get lines by.0)) q) (touched by.0 ∙ by.2) ∙ by.3);
       all = λ q t here gone.
           let parts = and_parts (is_touched lines t) (nat_le (line_number (map.get lines t)) q) gone in
-          same q ∙ is.all q t here (sym (touched t) ∙ parts.0) parts.1;
-      order = order;
+          is.all q t here (sym (touched t) ∙ parts.0) parts.1;
       rest = rest;
     }

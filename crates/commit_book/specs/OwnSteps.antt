@@ -1,7 +1,6 @@
 -- What is read of the journal for a rollback.
 use Rattle.std.specs.Prelude.{◌≡◌, ℕ, ◌<◌, ◌+◌, ◌-◌, ◌*◌, ◌≤◌, Bool, true, false, not, ◌&&◌, ◌||◌, nat_eq, nat_le, nat_lt, List, [], ◌∷◌, ◌++◌, filter, length, slice_set, map as each, Option, Some}
 use Rattle.std.specs.List.{AllByRecursion, sum_by}
-use Rattle.std.specs.List.Sorted.{IsNonDecreasingBy}
 use Rattle.std.specs.FinMap as map
 use Rattle.std.specs.Vec.{vec_capacity}
 use Rattle.linked_lists.specs.Lists.{is_listed}
@@ -74,7 +73,6 @@ pub record IsGathered (old new : Rollback) : Type 0 where
       × (is_lost old.plan.lines t q ≡ true)
   pub all : (q t : ℕ) → is_listed q (steps_of old.own t) ≡ true → is_lost old.plan.lines t q ≡ true
       → is_listed q (numbers new.lost.items) ≡ true
-  pub order : IsNonDecreasingBy (λ (q : Seq). q.0) new.lost.items
   pub rest : (new.read ≡ old.read) × (new.floor ≡ old.floor) × (new.plan ≡ old.plan)
 
 -- the steps of the threads ts from their lines on were taken out, and no others

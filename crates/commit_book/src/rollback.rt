@@ -172,7 +172,6 @@ impl Rollback {
         ensures gathered { IsGathered self.old self.new }
     {
         take_lost(&self.plan, &mut self.own, &mut self.lost);
-        self.lost.sort_unstable_by_key(|q| q.0);
     }
 }
 

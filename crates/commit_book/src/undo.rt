@@ -185,7 +185,7 @@ impl Parts {
         }
     }
 
-    /// Strikes the gathered steps, the last one first, and returns how many there are.
+    /// Strikes the gathered steps, and returns how many there are.
     fn strike_all(&mut self) -> u64
         requires may { MayStrikeAll self.old (numbers self.old.rollback.lost.items) }
         ensures struck { AllAreStruck self.old self.new (numbers self.old.rollback.lost.items) result }
