@@ -10,6 +10,7 @@ pub mod Settling
 pub mod Marking
 pub mod Whole
 pub mod Nodes
+pub mod Places
 pub mod Redexes
 pub mod Scopes
 pub mod Searching

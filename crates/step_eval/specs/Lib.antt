@@ -7,6 +7,7 @@ pub mod Fits
 pub mod FrameView
 pub mod Meaning
 pub mod Operands
+pub mod Place
 pub mod Progress
 pub mod Ready
 pub mod Rests

@@ -1,5 +1,5 @@
 //! Acts that have their answers.
-ghost use Rattle.std.specs.Prelude.{◌≡◌, ◌∷◌, None, Some, length, IfOk, IsSome, OnErr, OnOk};
+ghost use Rattle.std.specs.Prelude.{◌≡◌, ◌<◌, ◌∷◌, None, Some, length, IfOk, IsSome, OnErr, OnOk};
 ghost use Rattle.std.specs.Arc.{arc_value};
 ghost use Rattle.plain_language.specs.Look.{entered};
 ghost use Rattle.plain_language.specs.Outcome.{called};
@@ -16,7 +16,7 @@ use crate::env::Env;
 use crate::frame::Frame;
 use crate::machine::{Focus, Machine};
 use crate::node::entry;
-use crate::site::Site;
+use crate::place::{Mark, Place};
 use stab_base::{FnId, NoMemory, Seq, Value};
 use stab_code::{NodeId, Program};
 use std::mem;
@@ -87,24 +87,26 @@ impl Machine {
 
     /// A section becomes the innermost frame, in which the variables have these values.
     fn open_section(&mut self, q: Seq, env: Arc<Env>)
-        requires { self.old.top ≡ None }
+        requires none { self.old.top ≡ None }
+        requires number { q.0 < 4294967295 }
         ensures env { arc_value self.new.env ≡ arc_value env }
         ensures round { round_of self.new ≡ section_frame q self.old.mark (arc_value self.old.env) ∷ round_of self.old }
         ensures mark { self.new.mark ≡ Some q }
     {
         let frame = Frame {
-            site: Site::Section(q, self.mark),
+            site: Place::section(q, &self.mark),
             done: Vec::new(self.alloc),
             env: mem::replace(&mut self.env, env),
         };
         self.top = Some(frame);
-        self.mark = Some(q);
+        self.mark = Mark::of(q);
     }
 
     /// The body of a function, in a section, takes the place of the act.
     pub(crate) fn enter(&mut self, p: &Program, f: FnId, q: Seq) -> Result<(), NoMemory>
         requires fits { Fits p.now (view_of self.old) }
         requires act { act_next (view_of self.old) ≡ Some (Enter f) }
+        requires number { q.0 < 4294967295 }
         ensures expr { OnOk result (expr_of p.now (view_of self.new) ≡ entered (expr_of p.now (view_of self.old)) q.0 (called (body p.now) f.0 self.old.done.items)) }
         ensures fits { OnOk result (Fits p.now (view_of self.new)) }
         ensures back { OnErr result (view_of self.new ≡ view_of self.old) }

@@ -1,5 +1,5 @@
 //! Controls.
-ghost use Rattle.std.specs.Prelude.{◌≡◌, ◌↔◌, ◌≤◌, ◌+◌, Some, length, option_map, IfOk, IfErr, IsSome, IsTrue, OnErr, OnOk};
+ghost use Rattle.std.specs.Prelude.{◌≡◌, ◌↔◌, ◌<◌, ◌≤◌, ◌+◌, Some, length, option_map, IfOk, IfErr, IsSome, IsTrue, OnErr, OnOk};
 ghost use Rattle.stab_code.specs.Program.{ProgramParts};
 ghost use Rattle.stab_code.specs.Valid.{IsValid};
 ghost use Rattle.plain_language.specs.Expression.{failed};
@@ -189,10 +189,12 @@ impl Control {
         self.focus = reply;
     }
 
-    /// The body of the function whose section is entered takes the place of the act, in the section of this number.
+    /// The body of the function whose section is entered takes the place of the act, in the section of this number. A journal
+    /// has no greater number.
     pub fn enter(&mut self, program: &Program, q: Seq) -> Result<(), NoMemory>
         requires fits { Fits program.now self.old }
         requires act { IsEntry (act_next self.old) }
+        requires number { q.0 < 4294967295 }
         ensures expr { (f : FnId) → act_next self.old ≡ Some (Enter f) →
             OnOk result (expr_of program.now self.new ≡ entered_at (expr_of program.now self.old) q.0 (called (body program.now) f.0 (operands_of self.old))) }
         ensures fits { OnOk result (Fits program.now self.new) }
@@ -218,7 +220,7 @@ impl Control {
         match &self.focus {
             Focus::Value(_v) => machine.mark_round_value(),
             Focus::Fault(_k) => None,
-            _ => machine.mark,
+            _ => machine.mark.seq(),
         }
     }
 

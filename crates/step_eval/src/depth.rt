@@ -97,7 +97,7 @@ impl Machine {
         }
         let round = self.count() - 1;
         let frame = self.innermost();
-        match frame.site {
+        match frame.site.site() {
             Site::Section(_m, _outer) => exceeds(0, round),
             Site::Form(n, from) => exceeds(depth_of(p, n, from, frame.done.len() + 1), round),
         }

@@ -3,7 +3,7 @@ ghost use Rattle.std.specs.Prelude.{◌≡◌, IfOk};
 ghost use Rattle.std.specs.Arc.{arc_value};
 
 use crate::env::{Env, copied};
-use crate::site::Site;
+use crate::place::Place;
 use stab_base::{NoMemory, Value};
 use std::alloc::Global;
 use std::marker::Model;
@@ -12,7 +12,7 @@ use std::sync::Arc;
 /// A form round the focus. Contracts see where it is, the values of its parts so far, and the values of its variables.
 #[derive(Drop)]
 pub struct Frame {
-    pub(crate) site: Site,
+    pub(crate) site: Place,
     pub(crate) done: Vec<Value>,
     pub(crate) env: Arc<Env>,
 }
@@ -37,7 +37,7 @@ impl Frame {
         ensures { IfOk result (λ f. f ≡ self.now) }
     {
         Ok(Frame {
-            site: self.site,
+            site: self.site.copy(),
             done: copied(*self.done.allocator(), self.done.as_slice())?,
             env: Arc::try_clone(&self.env)?,
         })

@@ -10,6 +10,7 @@ mod env;
 mod frame;
 mod machine;
 mod node;
+mod place;
 mod progress;
 mod rest;
 mod same;

@@ -16,6 +16,7 @@ use crate::act::Act;
 use crate::ask::Ask;
 use crate::env::{Env, copied};
 use crate::frame::Frame;
+use crate::place::{Mark, Place};
 use crate::rest::Rest;
 use crate::site::Site;
 use shared_stack::Stack;
@@ -70,13 +71,13 @@ impl Focus {
 pub(crate) struct Machine {
     pub(crate) alloc: Global,
     pub(crate) focus: Focus,
-    pub(crate) site: Site,
+    pub(crate) site: Place,
     pub(crate) done: Vec<Value>,
     pub(crate) env: Arc<Env>,
     pub(crate) top: Option<Frame>,
     pub(crate) frames: Stack<Frame>,
     pub(crate) spare: Vec<Value>,
-    pub(crate) mark: Option<Seq>,
+    pub(crate) mark: Mark,
 }
 
 impl Machine {
@@ -90,13 +91,13 @@ impl Machine {
         Machine {
             alloc,
             focus,
-            site: Site::Form(n, 0),
+            site: Place::form(n, 0),
             done: Vec::new(alloc),
             env,
             top: None,
             frames: Stack::new(),
             spare: Vec::new(alloc),
-            mark: None,
+            mark: Mark::none(),
         }
     }
 
@@ -174,12 +175,12 @@ impl Machine {
         ensures within { (f : FrameView) → slice_get (round_of self.now) 0 ≡ Some f → result ≡ outside self.now.mark f.site }
     {
         if self.is_alone() {
-            return self.mark;
+            return self.mark.seq();
         }
         let frame = self.innermost();
-        match frame.site {
+        match frame.site.site() {
             Site::Section(_m, outer) => outer,
-            Site::Form(_n, _from) => self.mark,
+            Site::Form(_n, _from) => self.mark.seq(),
         }
     }
 
@@ -192,7 +193,7 @@ impl Machine {
         self.focus = Focus::Fault(k);
         self.top = None;
         self.frames = Stack::new();
-        self.mark = None;
+        self.mark = Mark::none();
     }
 
     /// Copies of the values at hand, where what is looked at has to do with them.
@@ -230,13 +231,13 @@ impl Machine {
         Ok(Machine {
             alloc: self.alloc,
             focus,
-            site: self.site,
+            site: self.site.copy(),
             done,
             env: Arc::try_clone(&self.env)?,
             top,
             frames: self.frames.keep()?,
             spare: Vec::new(self.alloc),
-            mark: self.mark,
+            mark: self.mark.copy(),
         })
     }
 }

@@ -19,7 +19,7 @@ impl Env {
 
 impl Same for Frame {
     fn same(&self, other: &Frame) -> bool {
-        self.site == other.site
+        self.site.same(&other.site)
             && all_same(self.done.as_slice(), other.done.as_slice())
             && self.env.same(&other.env)
     }
@@ -39,7 +39,7 @@ impl Machine {
     fn same_here(&self, other: &Machine) -> bool
         ensures { IsTrue result ↔ (here_of self.now ≡ here_of other.now) }
     {
-        self.site == other.site
+        self.site.same(&other.site)
             && all_same(self.done.as_slice(), other.done.as_slice())
             && self.env.same(&other.env)
     }
@@ -74,6 +74,6 @@ impl Machine {
     pub(crate) fn same_round(&self, other: &Machine) -> bool
         ensures { IsTrue result ↔ ((round_of self.now ≡ round_of other.now) × (self.now.mark ≡ other.now.mark)) }
     {
-        self.mark == other.mark && self.same_frames(other)
+        self.mark.same(&other.mark) && self.same_frames(other)
     }
 }

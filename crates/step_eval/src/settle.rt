@@ -23,6 +23,7 @@ use crate::env::add_copies;
 use crate::frame::Frame;
 use crate::machine::{Focus, Machine};
 use crate::node::{item_of, leaf, node_at};
+use crate::place::Place;
 use crate::site::Site;
 use shared_stack::Popped;
 use stab_base::{NoMemory, Value};
@@ -97,11 +98,11 @@ impl Machine {
         ensures mark { self.new.mark ≡ self.old.mark }
     {
         let frame = Frame {
-            site: self.site,
+            site: self.site.copy(),
             done: self.take_done(),
             env: Arc::try_clone(&self.env)?,
         };
-        self.site = Site::Form(part, 0);
+        self.site = Place::form(part, 0);
         if let Some(below) = self.top.replace(frame) {
             self.frames.push(self.alloc, below)?;
         }
@@ -142,7 +143,7 @@ impl Machine {
         ensures act { option_map (act_of (body p.now) self.now.done.items) result ≡ told (turn_at p.now (here_of self.now)) }
         ensures operands { IfSome result (HasOperands p.now (length self.now.done.items)) }
     {
-        match self.site {
+        match self.site.site() {
             Site::Section(_m, _outer) => None,
             Site::Form(n, _from) => act_at(node_at(p, n).head(), self.done.as_slice()),
         }
@@ -226,7 +227,7 @@ impl Machine {
         ensures round { round_of self.new ≡ round_of self.old }
         ensures mark { self.new.mark ≡ self.old.mark }
     {
-        self.site = frame.site;
+        self.site = frame.site.copy();
         self.env = Arc::try_clone(&frame.env)?;
         self.done.clear();
         add_copies(frame.done.as_slice(), &mut self.done)
@@ -259,9 +260,9 @@ impl Machine {
             return Ok(());
         };
         self.open(frame, v)?;
-        match self.site {
-            Site::Section(_m, outer) => {
-                self.mark = outer;
+        match self.site.site() {
+            Site::Section(_m, _outer) => {
+                self.mark = self.site.outer();
                 self.focus = Focus::Form;
                 Ok(())
             }
@@ -278,7 +279,7 @@ impl Machine {
         ensures round { round_of self.new ≡ round_of self.old }
         ensures mark { self.new.mark ≡ self.old.mark }
     {
-        self.site = Site::Form(n, 0);
+        self.site = Place::form(n, 0);
         self.done.clear();
     }
 

@@ -22,6 +22,7 @@ ghost use Rattle.step_eval.specs.declared.machine.Focus.TheVariants as Focus;
 use crate::env::Env;
 use crate::machine::{MAX_SPINE, Machine};
 use crate::node::{body_at, item_of, node_at, slot_of};
+use crate::place::Place;
 use crate::site::Site;
 use crate::values::{condition, made, take_one};
 use stab_base::{Fault, FnId, NoMemory, Value};
@@ -148,7 +149,7 @@ impl Machine {
         ensures round { round_of self.new ≡ round_of self.old }
         ensures mark { self.new.mark ≡ self.old.mark }
     {
-        self.site = Site::Form(n, from);
+        self.site = Place::form(n, from);
         self.done.clear();
     }
 
@@ -212,7 +213,7 @@ impl Machine {
         requires fits { Fits p.now (view_of self.old) }
         ensures { OnOk result (Arrives p.now (view_of self.new) (turned p.now (round_of self.old) (turn_at p.now (here_of self.old)))) }
     {
-        match self.site {
+        match self.site.site() {
             Site::Section(_m, _outer) => self.leave(p),
             Site::Form(n, from) => self.step_form(p, n, from),
         }

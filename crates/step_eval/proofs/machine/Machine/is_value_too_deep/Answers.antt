@@ -13,7 +13,7 @@ depth_of-requires-clause-there c =
     let round = round_of c.args.self.now in
     let f = c.innermost-frame.result.now in
     let first : slice_get round 0 ≡ Some f = c.innermost-frame.ensures in
-    let at : f.site ≡ Form c.in-Form.n c.in-Form.from = ap (λ (x : FrameView). x.site) (sym c.frame.view_is) ∙ c.in-Form.is in
+    let at : f.site ≡ Form c.in-Form.n c.in-Form.from = ap (λ (x : FrameView). x.site) (sym c.frame.view_is) ∙ sym c.site.ensures ∙ c.in-Form.is in
     (first-form p c.args.self.now.mark round f c.in-Form.n c.in-Form.from c.requires first at).there
 
 pub depth_of-requires-clause-left : goal.depth_of-requires-clause-left
@@ -22,7 +22,7 @@ depth_of-requires-clause-left c =
     let round = round_of c.args.self.now in
     let f = c.innermost-frame.result.now in
     let first : slice_get round 0 ≡ Some f = c.innermost-frame.ensures in
-    let at : f.site ≡ Form c.in-Form.n c.in-Form.from = ap (λ (x : FrameView). x.site) (sym c.frame.view_is) ∙ c.in-Form.is in
+    let at : f.site ≡ Form c.in-Form.n c.in-Form.from = ap (λ (x : FrameView). x.site) (sym c.frame.view_is) ∙ sym c.site.ensures ∙ c.in-Form.is in
     λ h. (first-form p c.args.self.now.mark round f c.in-Form.n c.in-Form.from c.requires first at).left
 
 pub returns-in-Section : goal.returns-in-Section
@@ -31,7 +31,7 @@ returns-in-Section c = λ v.
     let round = round_of c.args.self.now in
     let f = c.innermost-frame.result.now in
     let first : slice_get round 0 ≡ Some f = c.innermost-frame.ensures in
-    let at : f.site ≡ Section c.in-Section._m c.in-Section._outer = ap (λ (x : FrameView). x.site) (sym c.frame.view_is) ∙ c.in-Section.is in
+    let at : f.site ≡ Section c.in-Section._m c.in-Section._outer = ap (λ (x : FrameView). x.site) (sym c.frame.view_is) ∙ sym c.site.ensures ∙ c.in-Section.is in
     let some : 0 < length round = some-long round c.if-is_alone.ensures.some in
     let count : c.count-round.result ≡ length round = c.count-round.ensures in
     let k = c.count-round.result - 1 in
@@ -44,7 +44,7 @@ returns-in-Form c = λ v.
     let round = round_of c.args.self.now in
     let f = c.innermost-frame.result.now in
     let first : slice_get round 0 ≡ Some f = c.innermost-frame.ensures in
-    let at : f.site ≡ Form c.in-Form.n c.in-Form.from = ap (λ (x : FrameView). x.site) (sym c.frame.view_is) ∙ c.in-Form.is in
+    let at : f.site ≡ Form c.in-Form.n c.in-Form.from = ap (λ (x : FrameView). x.site) (sym c.frame.view_is) ∙ sym c.site.ensures ∙ c.in-Form.is in
     let some : 0 < length round = some-long round c.if-is_alone.ensures.some in
     let count : c.count-round.result ≡ length round = c.count-round.ensures in
     let k = c.count-round.result - 1 in

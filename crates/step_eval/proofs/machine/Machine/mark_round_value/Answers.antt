@@ -13,11 +13,11 @@ returns-then-is_alone-clause-within c = λ f first. absurd (no-first (round_of c
 pub returns-in-Section-clause-within : goal.returns-in-Section-clause-within
 returns-in-Section-clause-within c = λ f first.
     let same : c.innermost-frame.result.now ≡ f = first-same (round_of c.args.self.now) c.innermost-frame.result.now f c.innermost-frame.ensures first in
-    let at : f.site ≡ Section c.in-Section._m c.in-Section.outer = ap (λ (x : FrameView). x.site) (sym same ∙ sym c.frame.view_is) ∙ c.in-Section.is in
+    let at : f.site ≡ Section c.in-Section._m c.in-Section.outer = ap (λ (x : FrameView). x.site) (sym same ∙ sym c.frame.view_is) ∙ sym c.site.ensures ∙ c.in-Section.is in
     ap (outside c.args.self.now.mark) (sym at)
 
 pub returns-in-Form-clause-within : goal.returns-in-Form-clause-within
 returns-in-Form-clause-within c = λ f first.
     let same : c.innermost-frame.result.now ≡ f = first-same (round_of c.args.self.now) c.innermost-frame.result.now f c.innermost-frame.ensures first in
-    let at : f.site ≡ Form c.in-Form._n c.in-Form._from = ap (λ (x : FrameView). x.site) (sym same ∙ sym c.frame.view_is) ∙ c.in-Form.is in
+    let at : f.site ≡ Form c.in-Form._n c.in-Form._from = ap (λ (x : FrameView). x.site) (sym same ∙ sym c.frame.view_is) ∙ sym c.site.ensures ∙ c.in-Form.is in
     ap (outside c.args.self.now.mark) (sym at)
