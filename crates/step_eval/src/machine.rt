@@ -18,7 +18,6 @@ use crate::env::{Env, copied};
 use crate::frame::Frame;
 use crate::place::{Mark, Place};
 use crate::rest::Rest;
-use crate::site::Site;
 use shared_stack::Stack;
 use stab_base::{Fault, NoMemory, Seq, Value};
 use stab_code::NodeId;
@@ -178,10 +177,7 @@ impl Machine {
             return self.mark.seq();
         }
         let frame = self.innermost();
-        match frame.site.site() {
-            Site::Section(_m, outer) => outer,
-            Site::Form(_n, _from) => self.mark.seq(),
-        }
+        frame.site.outside(&self.mark).seq()
     }
 
     /// The whole is a fault.

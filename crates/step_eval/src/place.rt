@@ -1,6 +1,6 @@
 //! Where a form is, and which section it is in, by numbers of 32 bits: a journal has no more events.
-ghost use Rattle.std.specs.Prelude.{◌≡◌, ◌↔◌, ◌<◌, Option, None, Some, IsTrue};
-ghost use Rattle.stab_base.specs.declared.numbers.Seq.{Seq as Number};
+ghost use Rattle.std.specs.Prelude.{◌≡◌, ◌↔◌, ◌<◌, None, Some, IsTrue};
+ghost use Rattle.step_eval.specs.Fits.{outside};
 ghost use Rattle.step_eval.specs.Place.{mark_of};
 ghost use Rattle.step_eval.specs.declared.site.Site.TheVariants.{Form, Section};
 
@@ -145,12 +145,12 @@ impl Place {
         }
     }
 
-    /// The mark outside a section.
-    pub(crate) fn outer(&self) -> Mark
-        ensures { (q : Number) (outer : Option Number) → self.now ≡ Section q outer → result ≡ outer }
+    /// The mark outside, where it is this one inside.
+    pub(crate) fn outside(&self, mark: &Mark) -> Mark
+        ensures { result ≡ outside mark.now self.now }
     {
         match self.narrow {
-            Narrow::Form(_n, _from) => Mark::none(),
+            Narrow::Form(_n, _from) => mark.copy(),
             Narrow::Section(_q, outer) => Mark { above: outer },
         }
     }

@@ -262,7 +262,7 @@ impl Machine {
         self.open(frame, v)?;
         match self.site.site() {
             Site::Section(_m, _outer) => {
-                self.mark = self.site.outer();
+                self.mark = self.site.outside(&self.mark);
                 self.focus = Focus::Form;
                 Ok(())
             }
