@@ -29,9 +29,7 @@ pub struct Edges {
 impl Edges {
     /// Where the node may be to which the last edge led.
     pub fn hint(&self) -> Hint {
-        Hint {
-            place: self.end,
-        }
+        Hint { place: self.end }
     }
 }
 

@@ -119,12 +119,7 @@ impl Graph {
     }
 
     /// What the node with a number stands for, which is looked for at a hint first. Takes one step.
-    pub fn node_near<L: Ledger>(
-        &self,
-        q: Seq,
-        hint: Hint,
-        steps: &mut Steps<L>,
-    ) -> Option<NodeFor>
+    pub fn node_near<L: Ledger>(&self, q: Seq, hint: Hint, steps: &mut Steps<L>) -> Option<NodeFor>
         ensures node { result ≡ kind_of self.now.nodes q.0 }
         ensures step { steps.new ≡ steps.old + 1 }
     {

@@ -11,8 +11,6 @@ pub struct Hint {
 impl Hint {
     /// The hint of who knows nothing.
     pub fn none() -> Hint {
-        Hint {
-            place: 0,
-        }
+        Hint { place: 0 }
     }
 }
