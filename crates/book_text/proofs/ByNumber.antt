@@ -13,8 +13,8 @@ use Rattle.std.specs.FinMap.Entries.{by_order}
 use Rattle.std.proofs.lemmas.List.{append-nil}
 use Rattle.std.proofs.lemmas.Grind.{flat_map-append}
 use Rattle.plain_language.proofs.Applying.{get_inserted}
-use Rattle.commit_book.proofs.Floors.{differs_too}
-use Rattle.commit_book.proofs.Waiting.{get_removed}
+use Rattle.commit_book.proofs.Keeping.Floors.{differs_too}
+use Rattle.commit_book.proofs.Threads.Waiting.{get_removed}
 
 module _ {X : Type 0} where
   -- the numbers below n that have a value, each with it

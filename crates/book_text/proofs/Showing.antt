@@ -22,7 +22,7 @@ use Rattle.journal_laws.proofs.Undone.{stands_run}
 use Rattle.commit_book.specs.Book.{BookView, IsShown, over, offered, failed_with}
 use Rattle.commit_book.specs.Counts.{faulted_in, in_state, is_faulted_at}
 use Rattle.commit_book.specs.Doing.{IsDoing, is_over, is_failed}
-use Rattle.commit_book.proofs.Named.{old_thread}
+use Rattle.commit_book.proofs.Keeping.Named.{old_thread}
 use Rattle.book_text.specs.Written.{IsShownText, fault_lines, count_text}
 use Rattle.book_text.proofs.ByNumber.{entries_below, told_upto, told_pairs}
 use Rattle.thread_slots.proofs.Counted.{numbers-same}

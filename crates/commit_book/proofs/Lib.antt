@@ -1,123 +1,26 @@
-pub mod ThreadSteps
-pub mod Floors
-pub mod WriteSteps
-pub mod SavedSteps
-pub mod NodeSteps
-pub mod Unnamed
-pub mod EventSteps
-pub mod Requeued
-pub mod JournalSteps
-pub mod Named
-pub mod Waiting
-pub mod Meeting
-pub mod Resting
-pub mod Starting
-pub mod Lasted
-pub mod Lasting
-pub mod Lending
-pub mod Recalled
-pub mod Choosing
-pub mod Telling
-pub mod Changed
-pub mod Fresh
-pub mod Pushing
-pub mod Effects
-pub mod EffectsAsked
-pub mod EffectsHeld
-pub mod EffectsLocal
-pub mod EffectsMeeting
-pub mod Standing
-pub mod Staying
-pub mod Parking
-pub mod Acted
-pub mod Adding
-pub mod Faulted
-pub mod Going
-pub mod Queueing
-pub mod Partners
-pub mod Recounted
-pub mod Rowing
-pub mod KeptParts
-pub mod KeptSteps
-pub mod KeptTallies
-pub mod Room
-pub mod RoomHere
-pub mod RoomKept
-pub mod RoomNames
-pub mod RoomRun
-pub mod KeptLocal
-pub mod SeenAfter
-pub mod SingleActs
-pub mod SingleCalls
-pub mod SingleLabels
-pub mod SinglePrints
-pub mod Needed
-pub mod Opened
-pub mod ProbeWords
-pub mod PairActs
-pub mod WaitActs
-pub mod RestActs
-pub mod Performed
-pub mod GoneOn
-pub mod Exchanging
-pub mod Matched
-pub mod MeetActs
-pub mod MeetCalls
-pub mod MeetNeeds
-pub mod RowsMet
-pub mod PairNeeds
-pub mod WaitCalls
-pub mod SpawnCalls
-pub mod CommCalls
-pub mod ExchangeCalls
-pub mod ReadSteps
-pub mod ReadKept
-pub mod SeenRead
-pub mod GatheredSteps
-pub mod GatheredLines
-pub mod UndoneParts
-pub mod Undone
-pub mod UndoneNodes
-pub mod Cutting
-pub mod UndoneJournal
-pub mod CuttingJournal
-pub mod UndoneThreads
-pub mod UndoneOffers
-pub mod UndoneMarks
-pub mod UndoneEdges
-pub mod UndoneLines
-pub mod UndoneStood
-pub mod UndoneKnown
-pub mod UndoneQueue
-pub mod UndoneBook
-pub mod UndoneKept
-pub mod UndoneSteps
-pub mod PrintCounts
-pub mod CutActs
-pub mod ReleaseActs
-pub mod UndonePins
-pub mod UndoneLocal
-pub mod SameSections
-pub mod ReadCut
-pub mod StruckSteps
-pub mod UndoneWaiting
-pub mod LostSteps
-pub mod StayPrinted
-pub mod UndoneNeeds
-pub mod UndoneTail
-pub mod UndoneDone
-pub mod MarkEntered
-pub mod UndoLasts
-pub mod Granting
-pub mod StrikeCalls
-pub mod Uncounted
-pub mod UndoCalls
-pub mod TakeBack
-pub mod Releasing
-pub mod Committed
-pub mod Holding
-pub mod Chosen
-pub mod Crossing
-pub mod Firm
-pub mod LawfulBooks
-pub mod Prints
+-- The lemmas behind `Book`, in five rooms. The root of a room says of each file what it proves.
+--
+-- What every book keeps (`IsShown` of specs/Book.antt), and where it is shown that each call keeps it:
+--
+--     journal: history, script, channels, writes, references, printed     a step: Keeping     an undo: Undoing
+--     journal: next, few                                                  Keeping (Named, Unnamed, Room)
+--     journal: saved, nodes                                               a step, a cut: Keeping     an undo: Undoing
+--     threads: threads, fit, generations, doing, queue, offers, found     a step: Threads     an undo: Undoing
+--
+-- The clauses of its calls:
+--
+--     new, lease, give_back, recall, counts          Threads
+--     commit, of each act but the next, release      Acting
+--     commit, of a stabilize that is granted         Undoing
+--     the laws of src/laws.rt, job, history          Lawful
+
+-- Threads, states, queue and offers.
+pub mod Threads
+-- What is kept of the run beside its threads.
+pub mod Keeping
+-- A commit of each act but a stabilize that is granted.
+pub mod Acting
+-- A stabilize that is granted.
+pub mod Undoing
+-- The laws of books.
+pub mod Lawful

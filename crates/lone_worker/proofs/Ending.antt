@@ -22,11 +22,11 @@ use Rattle.commit_book.specs.Leases.{LeaseView}
 use Rattle.commit_book.specs.Rows.{Row, alone, starts, meets, waits, stays, undoes, local_of, steps_of, events_by}
 use Rattle.commit_book.specs.Turns.{given_back, is_held, requeued}
 use Rattle.commit_book.specs.Undoing.{IsTakenBack, begun, undo_by}
-use Rattle.commit_book.proofs.Lending.{get-changed}
-use Rattle.commit_book.proofs.Partners.{IsThere, there_of}
+use Rattle.commit_book.proofs.Threads.Lending.{get-changed}
+use Rattle.commit_book.proofs.Threads.Partners.{IsThere, there_of}
 use Rattle.lone_worker.specs.Running.{IsLater}
 use Rattle.lone_worker.specs.Turn.{IsHeldAs, IsLentAlone, is_made, worker}
-use Rattle.commit_book.proofs.Holding.{none_counted}
+use Rattle.commit_book.proofs.Threads.Holding.{none_counted}
 
 -- ---- where the lease is given back
 

@@ -32,13 +32,13 @@ use Rattle.commit_book.specs.Counts.{in_state}
 use Rattle.commit_book.specs.Doing.{offer_at, waits_with}
 use Rattle.commit_book.specs.Leases.{LeaseView}
 use Rattle.commit_book.specs.Rows.{Row, alone, starts, meets, waits, stays, undoes, movers}
-use Rattle.commit_book.proofs.Choosing.{found_in}
-use Rattle.commit_book.proofs.EffectsHeld.{known_at}
-use Rattle.commit_book.proofs.EffectsLocal.{act_there}
-use Rattle.commit_book.proofs.Partners.{IsThere, there_of}
-use Rattle.commit_book.proofs.RoomHere.{pick_there, receive_there, send_there}
+use Rattle.commit_book.proofs.Threads.Choosing.{found_in}
+use Rattle.commit_book.proofs.Acting.EffectsHeld.{known_at}
+use Rattle.commit_book.proofs.Acting.EffectsLocal.{act_there}
+use Rattle.commit_book.proofs.Threads.Partners.{IsThere, there_of}
+use Rattle.commit_book.proofs.Keeping.RoomHere.{pick_there, receive_there, send_there}
 use Rattle.lone_worker.specs.Turn.{IsHeldAs, IsLentAlone}
-use Rattle.commit_book.proofs.Holding.{ended_not_leased, isnt_changed, none_counted, parked_not_leased, ready_not_leased}
+use Rattle.commit_book.proofs.Threads.Holding.{ended_not_leased, isnt_changed, none_counted, parked_not_leased, ready_not_leased}
 use Rattle.lone_worker.proofs.Moving.{Says, row_says}
 
 -- who comes to the tail of a queue stands there

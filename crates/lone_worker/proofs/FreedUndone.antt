@@ -17,7 +17,7 @@ use Rattle.commit_book.specs.Book.{BookView, IsShown}
 use Rattle.commit_book.specs.Counts.{in_state}
 use Rattle.commit_book.specs.Leases.{LeaseView}
 use Rattle.commit_book.specs.Undoing.{IsTakenBack, begun, loses_a_step}
-use Rattle.commit_book.proofs.Holding.{low, none_counted, not_true, ready_not_leased}
+use Rattle.commit_book.proofs.Threads.Holding.{low, none_counted, not_true, ready_not_leased}
 use Rattle.lone_worker.specs.Turn.{IsLentAlone}
 use Rattle.lone_worker.proofs.Freed.{in_other}
 use Rattle.lone_worker.proofs.OwnSection.{own_touched}

@@ -25,9 +25,9 @@ use Rattle.commit_book.specs.Doing.{waits_with}
 use Rattle.commit_book.specs.Rows.{Row, events_by, local_of, movers, steps_of}
 use Rattle.commit_book.specs.Turns.{IsLeaseOf, leased}
 use Rattle.commit_book.specs.Undoing.{begun, loses_a_step, undo_by}
-use Rattle.commit_book.proofs.Choosing.{chosen_front}
-use Rattle.commit_book.proofs.Lending.{get-changed}
-use Rattle.commit_book.proofs.Partners.{IsThere, there_of}
+use Rattle.commit_book.proofs.Threads.Choosing.{chosen_front}
+use Rattle.commit_book.proofs.Threads.Lending.{get-changed}
+use Rattle.commit_book.proofs.Threads.Partners.{IsThere, there_of}
 use Rattle.lone_worker.specs.Desk.{IsUnlent, seat_of}
 use Rattle.lone_worker.specs.Solo.{BeginsWith}
 use Rattle.lone_worker.specs.Turn.{IsTurnOf, IsWorked, worker}

@@ -16,13 +16,13 @@ use Rattle.commit_book.specs.Counts.{in_state}
 use Rattle.commit_book.specs.Doing.{IsDoing}
 use Rattle.commit_book.specs.Leases.{LeaseView}
 use Rattle.commit_book.specs.Turns.{IsLeaseOf, IsTurn}
-use Rattle.commit_book.proofs.Choosing.{chosen_front}
-use Rattle.commit_book.proofs.Chosen.{chosen_light}
-use Rattle.commit_book.proofs.Lending.{get-changed}
-use Rattle.commit_book.proofs.Meeting.{first_listed}
-use Rattle.commit_book.proofs.Partners.{IsThere, there_of}
+use Rattle.commit_book.proofs.Threads.Choosing.{chosen_front}
+use Rattle.commit_book.proofs.Threads.Chosen.{chosen_light}
+use Rattle.commit_book.proofs.Threads.Lending.{get-changed}
+use Rattle.commit_book.proofs.Acting.Meeting.{first_listed}
+use Rattle.commit_book.proofs.Threads.Partners.{IsThere, there_of}
 use Rattle.lone_worker.specs.Turn.{IsHeldAs, IsLentAlone, left_to_do, worker}
-use Rattle.commit_book.proofs.Holding.{nobody_in, ready_not_ended}
+use Rattle.commit_book.proofs.Threads.Holding.{nobody_in, ready_not_ended}
 
 pub no_longer : (t : ℕ) (xs : List ℕ) → length (without t xs) ≤ length xs
 no_longer t [] = omega arith

@@ -9,8 +9,8 @@ use Rattle.commit_book.specs.Book.{BookView, IsShown}
 use Rattle.commit_book.specs.Leases.{LeaseView}
 use Rattle.commit_book.specs.Rows.{events_by, local_of}
 use Rattle.commit_book.specs.Undoing.{IsTakenBack, begun, undo_by}
-use Rattle.commit_book.proofs.Choosing.{found_in}
-use Rattle.commit_book.proofs.Holding.{low}
+use Rattle.commit_book.proofs.Threads.Choosing.{found_in}
+use Rattle.commit_book.proofs.Threads.Holding.{low}
 use Rattle.step_eval.specs.ControlView.{ControlView}
 use Rattle.lone_worker.specs.Turn.{IsLentAlone, left_to_do}
 use Rattle.lone_worker.proofs.Nearing.{local_weighs}

@@ -17,9 +17,9 @@ use Rattle.commit_book.specs.Book.{BookView, IsShown, offered}
 use Rattle.commit_book.specs.Commits.{IsMoved}
 use Rattle.commit_book.specs.Doing.{waits_with}
 use Rattle.commit_book.specs.Rows.{Row, movers}
-use Rattle.commit_book.proofs.Choosing.{found_in}
-use Rattle.commit_book.proofs.Holding.{isnt_changed}
-use Rattle.commit_book.proofs.Partners.{parked_not_ended, parked_not_ready}
+use Rattle.commit_book.proofs.Threads.Choosing.{found_in}
+use Rattle.commit_book.proofs.Threads.Holding.{isnt_changed}
+use Rattle.commit_book.proofs.Threads.Partners.{parked_not_ended, parked_not_ready}
 use Rattle.lone_worker.proofs.Freed.{comes_last}
 use Rattle.lone_worker.proofs.OneAtMost.{HasOnly, one_list}
 

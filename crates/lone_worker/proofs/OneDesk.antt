@@ -22,7 +22,7 @@ use Rattle.commit_book.specs.Book.{BookView, IsShown, offered, over}
 use Rattle.commit_book.specs.Doing.{IsDoing, is_over, offer_at, waits_with}
 use Rattle.stab_journal.specs.Numbers.{greatest, threads_by, named_by, chans_in, refs_in}
 use Rattle.commit_book.specs.Threads.{stands}
-use Rattle.commit_book.proofs.Holding.{nobody_in}
+use Rattle.commit_book.proofs.Threads.Holding.{nobody_in}
 use Rattle.lone_worker.specs.Desk.{Seat, IsUnlent, desk_of, seat_of}
 
 -- who has ended, is ready and isn't leased has one state

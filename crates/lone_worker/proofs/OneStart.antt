@@ -19,8 +19,8 @@ use Rattle.plain_language.proofs.Applying.{get_inserted}
 use Rattle.journal_laws.proofs.Surviving.{some_none}
 use Rattle.step_eval.specs.ControlView.{ControlView, expr_of}
 use Rattle.commit_book.specs.Book.{BookView, IsAtStart, IsShown, over}
-use Rattle.commit_book.proofs.Holding.{none_counted}
-use Rattle.commit_book.proofs.Partners.{IsThere, there_of}
+use Rattle.commit_book.proofs.Threads.Holding.{none_counted}
+use Rattle.commit_book.proofs.Threads.Partners.{IsThere, there_of}
 use Rattle.lone_worker.specs.Desk.{IsUnlent, desk_of}
 use Rattle.lone_worker.proofs.OneAtMost.{HasOnly, one_list}
 use Rattle.lone_worker.proofs.OneDesk.{each_free, one_desk, one_ended}

@@ -19,8 +19,8 @@ use Rattle.commit_book.specs.Book.{BookView, IsShown}
 use Rattle.commit_book.specs.Rows.{events_by, local_of, numbered_from, thread}
 use Rattle.commit_book.specs.Step.{next_seq}
 use Rattle.commit_book.specs.Undoing.{IsTakenBack, begun, loses_a_step, undo_by}
-use Rattle.commit_book.proofs.MarkEntered.{IsEntry, mark_entered}
-use Rattle.commit_book.proofs.UndoneLines.{hit_here}
+use Rattle.commit_book.proofs.Undoing.MarkEntered.{IsEntry, mark_entered}
+use Rattle.commit_book.proofs.Undoing.UndoneLines.{hit_here}
 
 -- ---- the undo that comes last
 

@@ -17,7 +17,7 @@ use Rattle.commit_book.specs.Book.{BookView}
 use Rattle.commit_book.specs.Counts.{in_state}
 use Rattle.commit_book.specs.Leases.{LeaseView}
 use Rattle.commit_book.specs.Turns.{choice_of, first_ready, given_back, is_empty, is_held, leased, requeued}
-use Rattle.commit_book.proofs.Lending.{get-changed}
+use Rattle.commit_book.proofs.Threads.Lending.{get-changed}
 use Rattle.lone_worker.specs.Desk.{Desk, Seat, desk_of, seat_of}
 use Rattle.schedule_drill.specs.declared.held.Held.{Held}
 use Rattle.schedule_drill.specs.Out.{all_given_back}

@@ -6,7 +6,7 @@ use Rattle.commit_book.specs.declared.turn.Turn.{Turn}
 use Rattle.commit_book.specs.declared.turn.Turn.TheVariants.{Work, Idle, Quiet, Spent, Release}
 use Rattle.commit_book.specs.Book.{BookView}
 use Rattle.commit_book.specs.Turns.{given_back}
-use Rattle.commit_book.proofs.Partners.{there_of}
+use Rattle.commit_book.proofs.Threads.Partners.{there_of}
 use Rattle.drill_text.specs.declared.order.Verb.{Verb}
 use Rattle.drill_text.specs.declared.order.Verb.TheVariants.{Lease, Step, Commit}
 use Rattle.drill_text.specs.declared.script.Line.{Line}

@@ -18,7 +18,7 @@ use Rattle.journal_laws.proofs.Surviving.{some_none}
 use Rattle.commit_book.specs.Book.{BookView, IsShown}
 use Rattle.commit_book.specs.Offers.{sends_at, receives_at}
 use Rattle.commit_book.specs.Rows.{Row, alone, starts, meets, waits, stays, undoes, chan, longest, movers, row_of, section_row, sends_to, receives_from, stays_or_waits}
-use Rattle.commit_book.proofs.Meeting.{first_listed}
+use Rattle.commit_book.proofs.Acting.Meeting.{first_listed}
 
 -- ---- who is moved
 

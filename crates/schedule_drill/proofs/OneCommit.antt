@@ -16,7 +16,7 @@ use Rattle.commit_book.specs.Book.{BookView}
 use Rattle.commit_book.specs.Commits.{IsCommitted, IsCurrent, IsOver}
 use Rattle.commit_book.specs.Leases.{LeaseView}
 use Rattle.commit_book.specs.Limits.{commit_reserve}
-use Rattle.commit_book.proofs.Waiting.{get_removed}
+use Rattle.commit_book.proofs.Threads.Waiting.{get_removed}
 use Rattle.lone_worker.specs.Desk.{Desk, Seat, desk_of, seat_of}
 use Rattle.schedule_drill.specs.declared.held.Held.{Held}
 use Rattle.schedule_drill.specs.Alike.{AreAlike, AreOne, IsMadeBy, IsOneHeld, IsStillLent, origin_of}

@@ -8,7 +8,7 @@ use Rattle.stab_code.specs.JobParts.{JobParts}
 use Rattle.stab_code.specs.Program.{ProgramParts}
 use Rattle.journal_laws.proofs.Surviving.{some_is, some_none}
 use Rattle.commit_book.specs.Book.{BookView, IsShown}
-use Rattle.commit_book.proofs.Partners.{IsThere, there_of}
+use Rattle.commit_book.proofs.Threads.Partners.{IsThere, there_of}
 use Rattle.drill_text.specs.declared.order.Order.{Order}
 use Rattle.drill_text.specs.declared.order.Verb.{Verb}
 use Rattle.drill_text.specs.declared.order.Verb.TheVariants.{Lease, Step, Commit}

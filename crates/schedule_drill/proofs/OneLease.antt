@@ -19,8 +19,8 @@ use Rattle.commit_book.specs.Book.{BookView}
 use Rattle.commit_book.specs.Leases.{LeaseView}
 use Rattle.commit_book.specs.Releases.{finals}
 use Rattle.commit_book.specs.Turns.{IsLeaseOf, choice_of}
-use Rattle.commit_book.proofs.Choosing.{chosen_front}
-use Rattle.commit_book.proofs.Partners.{IsThere, there_of}
+use Rattle.commit_book.proofs.Threads.Choosing.{chosen_front}
+use Rattle.commit_book.proofs.Threads.Partners.{IsThere, there_of}
 use Rattle.lone_worker.specs.Desk.{Desk, Seat, desk_of, seat_of}
 use Rattle.schedule_drill.specs.declared.held.At.TheVariants.{Lent}
 use Rattle.schedule_drill.specs.declared.held.Held.{Held}

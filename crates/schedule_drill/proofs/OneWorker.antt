@@ -21,10 +21,10 @@ use Rattle.commit_book.specs.Book.{BookView, IsAtStart, IsShown}
 use Rattle.commit_book.specs.Leases.{LeaseView}
 use Rattle.commit_book.specs.Releases.{IsReleased, finals}
 use Rattle.commit_book.specs.Turns.{IsTurn, choice_of}
-use Rattle.commit_book.proofs.Choosing.{IsFound, chosen_front, found_in}
-use Rattle.commit_book.proofs.Holding.{ready_not_ended}
-use Rattle.commit_book.proofs.Lending.{changed_requeued, restated, shown_requeued}
-use Rattle.commit_book.proofs.Meeting.{first_listed}
+use Rattle.commit_book.proofs.Threads.Choosing.{IsFound, chosen_front, found_in}
+use Rattle.commit_book.proofs.Threads.Holding.{ready_not_ended}
+use Rattle.commit_book.proofs.Threads.Lending.{changed_requeued, restated, shown_requeued}
+use Rattle.commit_book.proofs.Acting.Meeting.{first_listed}
 use Rattle.drill_text.specs.declared.order.Verb.{Verb}
 use Rattle.drill_text.specs.declared.order.Verb.TheVariants.{Lease, Commit}
 use Rattle.drill_text.specs.declared.script.Line.{Line}
@@ -45,7 +45,7 @@ use Rattle.schedule_drill.specs.Solo.{IsDrilledByOne, IsForOne, for_one}
 use Rattle.schedule_drill.specs.Text.{answered, done_text, lent_text, release_text}
 use Rattle.schedule_drill.proofs.Playing.{played_more}
 use Rattle.schedule_drill.proofs.Under.{some_and}
-use Rattle.commit_book.proofs.Waiting.{get_removed}
+use Rattle.commit_book.proofs.Threads.Waiting.{get_removed}
 
 abbrev nothing : Out
 nothing = map.empty

@@ -23,8 +23,8 @@ use Rattle.journal_laws.proofs.Undone.{stands_run}
 use Rattle.step_eval.specs.ControlView.{ControlView, expr_of}
 use Rattle.commit_book.specs.Book.{BookView, IsShown}
 use Rattle.commit_book.specs.Undoing.{IsTakenBack, begun, loses_a_step, undo_by}
-use Rattle.commit_book.proofs.EventSteps.{generation_snoc}
-use Rattle.commit_book.proofs.Undone.{from, line_of, unmade, untouched}
+use Rattle.commit_book.proofs.Keeping.EventSteps.{generation_snoc}
+use Rattle.commit_book.proofs.Undoing.Undone.{from, line_of, unmade, untouched}
 use Rattle.lone_worker.proofs.OwnSection.{IsUndoable, left, locals, may, run_begun}
 use Rattle.schedule_drill.proofs.Growing.{generation_grows}
 

@@ -22,10 +22,10 @@ use Rattle.commit_book.specs.Doing.{waits_with}
 use Rattle.commit_book.specs.Rows.{Row, alone, starts, meets, waits, stays, undoes, events_by, local_of, movers, steps_of}
 use Rattle.commit_book.specs.Turns.{given_back, is_held, requeued}
 use Rattle.commit_book.specs.Undoing.{IsTakenBack, begun, loses_a_step, undo_by}
-use Rattle.commit_book.proofs.Holding.{isnt_changed}
-use Rattle.commit_book.proofs.Lending.{get-changed}
-use Rattle.commit_book.proofs.Partners.{IsThere, there_of}
-use Rattle.commit_book.proofs.Waiting.{get_removed}
+use Rattle.commit_book.proofs.Threads.Holding.{isnt_changed}
+use Rattle.commit_book.proofs.Threads.Lending.{get-changed}
+use Rattle.commit_book.proofs.Threads.Partners.{IsThere, there_of}
+use Rattle.commit_book.proofs.Threads.Waiting.{get_removed}
 use Rattle.lone_worker.proofs.Ending.{Moved, TookBack, left_of}
 use Rattle.schedule_drill.specs.declared.held.Held.{Held}
 use Rattle.schedule_drill.specs.Alike.{AreTrue, HasMade, IsHeldTruly, IsStillLent}

@@ -23,11 +23,11 @@ use Rattle.commit_book.specs.Book.{BookView, IsShown}
 use Rattle.commit_book.specs.Leases.{LeaseView}
 use Rattle.commit_book.specs.Releases.{IsReleased, finals}
 use Rattle.commit_book.specs.Turns.{IsLeaseOf}
-use Rattle.commit_book.proofs.Choosing.{chosen_front}
-use Rattle.commit_book.proofs.Holding.{low}
-use Rattle.commit_book.proofs.Lending.{get-changed}
-use Rattle.commit_book.proofs.Meeting.{first_listed}
-use Rattle.commit_book.proofs.Partners.{IsThere, there_of}
+use Rattle.commit_book.proofs.Threads.Choosing.{chosen_front}
+use Rattle.commit_book.proofs.Threads.Holding.{low}
+use Rattle.commit_book.proofs.Threads.Lending.{get-changed}
+use Rattle.commit_book.proofs.Acting.Meeting.{first_listed}
+use Rattle.commit_book.proofs.Threads.Partners.{IsThere, there_of}
 use Rattle.schedule_drill.specs.declared.held.At.{At}
 use Rattle.schedule_drill.specs.declared.held.At.TheVariants.{Lent, Stepped}
 use Rattle.schedule_drill.specs.declared.held.Held.{Held}

@@ -12,8 +12,8 @@ use Rattle.commit_book.specs.declared.turn.Turn.TheVariants.{Work}
 use Rattle.commit_book.specs.Book.{BookView}
 use Rattle.commit_book.specs.Leases.{LeaseView}
 use Rattle.commit_book.specs.Turns.{IsLeaseOf, IsTurn}
-use Rattle.commit_book.proofs.Partners.{there_of}
-use Rattle.commit_book.proofs.Waiting.{get_removed}
+use Rattle.commit_book.proofs.Threads.Partners.{there_of}
+use Rattle.commit_book.proofs.Threads.Waiting.{get_removed}
 use Rattle.schedule_drill.specs.declared.held.At.TheVariants.{Lent}
 use Rattle.schedule_drill.specs.declared.held.Held.{Held}
 use Rattle.schedule_drill.specs.Out.{AreUnder, IsUnder, Out}

@@ -18,7 +18,7 @@ use Rattle.stab_journal.specs.declared.event.Numbered.{Numbered}
 use Rattle.stab_journal.specs.Journal.{survivors}
 use Rattle.journal_laws.proofs.Undone.{stands_run}
 use Rattle.commit_book.specs.Book.{BookView, IsShown, ShowsRun}
-use Rattle.commit_book.proofs.LawfulBooks.{final_lasts, granted, has_run, pinned_lasts}
+use Rattle.commit_book.proofs.Lawful.LawfulBooks.{final_lasts, granted, has_run, pinned_lasts}
 use Rattle.lone_worker.specs.Solo.{IsWholeSolo}
 use Rattle.schedule_drill.specs.Solo.{IsDrilledByOne}
 use Rattle.schedule_drill.proofs.OneWorker.{drilled_by_one}

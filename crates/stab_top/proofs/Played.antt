@@ -17,7 +17,7 @@ use Rattle.thread_slots.specs.declared.state.State.TheVariants.{Parked}
 use Rattle.commit_book.specs.Book.{BookView, IsAtStart, IsShown}
 use Rattle.commit_book.specs.Counts.{faulted_in, in_state}
 use Rattle.commit_book.specs.Releases.{finals}
-use Rattle.commit_book.proofs.Firm.{front_of, released_more, snoc_of}
+use Rattle.commit_book.proofs.Lawful.Firm.{front_of, released_more, snoc_of}
 use Rattle.book_text.specs.Written.{released_lines}
 use Rattle.lone_worker.specs.declared.worker.RunEnd.{RunEnd}
 use Rattle.lone_worker.specs.declared.worker.RunEnd.TheVariants as ends

@@ -19,7 +19,7 @@ use Rattle.commit_book.specs.Book.{BookView, IsShown, over, offered}
 use Rattle.commit_book.specs.Counts.{faulted_in, in_state, is_faulted_at}
 use Rattle.commit_book.specs.Doing.{IsDoing, is_failed, is_over}
 use Rattle.commit_book.specs.Turns.{CanRest}
-use Rattle.commit_book.proofs.Holding.{low, nobody_in, not_true}
+use Rattle.commit_book.proofs.Threads.Holding.{low, nobody_in, not_true}
 use Rattle.book_text.proofs.Going.{all_whole}
 use Rattle.book_text.proofs.Showing.{IsWhole, ends_so}
 use Rattle.stab_top.specs.declared.report.Status.{Status}

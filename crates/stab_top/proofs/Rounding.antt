@@ -27,9 +27,9 @@ use Rattle.commit_book.specs.Leases.{LeaseView}
 use Rattle.commit_book.specs.Releases.{IsReleased, due_lines, finals}
 use Rattle.commit_book.specs.Rows.{Row, alone, starts, meets, waits, stays, undoes, events_by, local_of, steps_of}
 use Rattle.commit_book.specs.Undoing.{undo_by}
-use Rattle.commit_book.proofs.Chosen.{chosen_light}
-use Rattle.commit_book.proofs.EventSteps.{released_snoc}
-use Rattle.commit_book.proofs.Firm.{IsFirm, firm, released_final}
+use Rattle.commit_book.proofs.Threads.Chosen.{chosen_light}
+use Rattle.commit_book.proofs.Keeping.EventSteps.{released_snoc}
+use Rattle.commit_book.proofs.Lawful.Firm.{IsFirm, firm, released_final}
 use Rattle.book_text.specs.Written.{released_lines}
 use Rattle.step_eval.specs.Progress.{ProgressView}
 use Rattle.lone_worker.specs.declared.worker.RunEnd.{RunEnd}

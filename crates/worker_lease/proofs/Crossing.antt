@@ -2,7 +2,7 @@
 use denote.Param.Send.{IsSend, sendable}
 use Rattle.std.proofs.Crossing.{crosses}
 use Rattle.stab_code.proofs.Crossing.{program-send, program-sync}
-use Rattle.commit_book.proofs.Crossing.{parts-send}
+use Rattle.commit_book.proofs.Lawful.Crossing.{parts-send}
 use Rattle.worker_lease.specs.contracts.desk.Desk as desks
 
 pub desk-send : IsSend desks.the_row

@@ -10,8 +10,8 @@ use Rattle.commit_book.specs.declared.turn.Turn.TheVariants.{Work, Idle, Quiet, 
 use Rattle.commit_book.specs.Book.{BookView, IsShown}
 use Rattle.commit_book.specs.Leases.{LeaseView}
 use Rattle.commit_book.specs.Turns.{CanRest, IsLeaseOf, IsTurn, Lends, RestsIfQuiet, SpentIfSo, choice_of}
-use Rattle.commit_book.proofs.Chosen.{release_due}
-use Rattle.commit_book.proofs.LawfulBooks.{has_run}
+use Rattle.commit_book.proofs.Threads.Chosen.{release_due}
+use Rattle.commit_book.proofs.Lawful.LawfulBooks.{has_run}
 use Rattle.worker_lease.specs.declared.ask.DeskAsk.TheVariants as ask
 use Rattle.worker_lease.specs.declared.ask.DeskAnswer.TheVariants as answer
 use Rattle.worker_lease.specs.Answers.{IsAtRest, TurnFits}

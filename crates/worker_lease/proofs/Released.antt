@@ -21,8 +21,8 @@ use Rattle.plain_language.specs.Plain.{effect_of, start}
 use Rattle.plain_language.specs.Shown.{line, value_lines}
 use Rattle.plain_language.specs.Standing.{StandsFor, event}
 use Rattle.journal_laws.specs.Surviving.{prints}
-use Rattle.commit_book.proofs.EventSteps.{released_snoc}
-use Rattle.commit_book.proofs.Firm.{firm, released_final}
+use Rattle.commit_book.proofs.Keeping.EventSteps.{released_snoc}
+use Rattle.commit_book.proofs.Lawful.Firm.{firm, released_final}
 use Rattle.worker_lease.specs.Answers.{IsHistoryOf}
 use Rattle.worker_lease.specs.Working.{IsBegun}
 use Rattle.worker_lease.specs.Releases.{AreByOne, IsReleaseOf, is_release, own_releases, printed_by, released_text}

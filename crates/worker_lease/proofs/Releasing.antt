@@ -15,7 +15,7 @@ use Rattle.journal_laws.specs.Surviving.{prints}
 use Rattle.journal_laws.proofs.Undone.{stands_run}
 use Rattle.commit_book.specs.Book.{BookView, IsShown}
 use Rattle.commit_book.specs.Releases.{IsReleased, due_lines, finals}
-use Rattle.commit_book.proofs.StayPrinted.{output_is}
+use Rattle.commit_book.proofs.Lawful.StayPrinted.{output_is}
 use Rattle.worker_lease.specs.declared.ask.DeskAsk.TheVariants as ask
 use Rattle.worker_lease.specs.declared.ask.DeskAnswer.TheVariants as answer
 use Rattle.worker_lease.specs.Releases.{AreByOne, due_text, printed_by}

@@ -17,7 +17,7 @@ use Rattle.plain_language.specs.Shown.{line, value_lines}
 use Rattle.plain_language.specs.Standing.{event}
 use Rattle.commit_book.specs.Book.{BookView, IsShown}
 use Rattle.book_text.specs.Written.{released_lines}
-use Rattle.commit_book.proofs.Firm.{released_more}
+use Rattle.commit_book.proofs.Lawful.Firm.{released_more}
 use Rattle.worker_lease.specs.Answers.{IsHistoryOf}
 use Rattle.worker_lease.specs.Releases.{AreByOne, is_release, own_releases, printed_by, released_text}
 use Rattle.worker_lease.specs.Working.{IsBegun}

@@ -2,7 +2,7 @@
 use denote.Param.Send.{sendable}
 use Rattle.std.proofs.Crossing.{crosses}
 use Rattle.stab_code.proofs.Crossing.{program-send, program-sync}
-use Rattle.commit_book.proofs.Crossing.{parts-send, parts-sync}
+use Rattle.commit_book.proofs.Lawful.Crossing.{parts-send, parts-sync}
 use Rattle.commit_book.proofs.book_crosses_threads.Goals as goal
 
 pub crosses_threads-requires-send-T : goal.crosses_threads-requires-send-T

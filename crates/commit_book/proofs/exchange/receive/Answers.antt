@@ -11,7 +11,7 @@ use Rattle.rendezvous.specs.Offer.{receives_on}
 use Rattle.step_eval.specs.declared.act.Act.{Act}
 use Rattle.step_eval.specs.Asked.{operands_of}
 use Rattle.step_eval.specs.ControlView.{expr_of}
-use Rattle.commit_book.proofs.Exchanging.{offers_asked, on_ok, picked_look, received_pick, received_value, unpicked_look}
+use Rattle.commit_book.proofs.Acting.Exchanging.{offers_asked, on_ok, picked_look, received_pick, received_value, unpicked_look}
 use Rattle.commit_book.proofs.exchange.receive.Goals as goal
 
 pub answer-requires-clause-act : goal.answer-requires-clause-act

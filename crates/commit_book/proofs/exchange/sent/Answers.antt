@@ -8,7 +8,7 @@ use Rattle.step_eval.specs.declared.act.Act.{Act}
 use Rattle.step_eval.specs.declared.ask.Ask.{Ask}
 use Rattle.step_eval.specs.Asked.{IsAsked, operands_of}
 use Rattle.step_eval.specs.ControlView.{expr_of}
-use Rattle.commit_book.proofs.Exchanging.{IsSending, IsAskedSend, asked_send, offers_asked, sends_asked, sends_look, two_operands}
+use Rattle.commit_book.proofs.Acting.Exchanging.{IsSending, IsAskedSend, asked_send, offers_asked, sends_asked, sends_look, two_operands}
 use Rattle.commit_book.proofs.exchange.sent.Goals as goal
 
 pub second-requires : goal.second-requires

@@ -5,8 +5,8 @@ use Rattle.stab_journal.specs.Due.{is_print}
 use Rattle.plain_language.specs.Plain.{effect_of, start}
 use Rattle.journal_laws.specs.Surviving.{prints}
 use Rattle.journal_laws.proofs.Undone.{stands_run}
-use Rattle.commit_book.proofs.PrintCounts.{run_printed}
-use Rattle.commit_book.proofs.StayPrinted.{output_is}
+use Rattle.commit_book.proofs.Lawful.PrintCounts.{run_printed}
+use Rattle.commit_book.proofs.Lawful.StayPrinted.{output_is}
 use Rattle.commit_book.proofs.laws.no_undone_value_is_shown.Goals as goal
 
 pub returns-clause-values : goal.returns-clause-values

@@ -1,4 +1,4 @@
-use Rattle.commit_book.proofs.LawfulBooks.{refused}
+use Rattle.commit_book.proofs.Lawful.LawfulBooks.{refused}
 use Rattle.commit_book.proofs.laws.refusals_are_due.Goals as goal
 
 pub returns : goal.returns

@@ -3,7 +3,7 @@ use Rattle.stab_base.specs.Datum.{Datum}
 use Rattle.std.proofs.Common.{List}
 use Rattle.stab_journal.specs.Due.{released}
 use Rattle.stab_journal.specs.Surviving.{run_of}
-use Rattle.commit_book.proofs.Firm.{finals_printed, firm, released_final}
+use Rattle.commit_book.proofs.Lawful.Firm.{finals_printed, firm, released_final}
 use Rattle.commit_book.proofs.laws.released_values_stay.Goals as goal
 
 pub returns-clause-values : goal.returns-clause-values

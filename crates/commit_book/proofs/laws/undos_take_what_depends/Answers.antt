@@ -1,4 +1,4 @@
-use Rattle.commit_book.proofs.LawfulBooks.{granted}
+use Rattle.commit_book.proofs.Lawful.LawfulBooks.{granted}
 use Rattle.commit_book.proofs.laws.undos_take_what_depends.Goals as goal
 
 pub returns : goal.returns

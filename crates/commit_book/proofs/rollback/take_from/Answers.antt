@@ -2,7 +2,7 @@ use Rattle.std.proofs.Common.{sym, ap, ◌∙◌, append-nil}
 use Rattle.linked_lists.specs.Lists.{is_listed}
 use Rattle.own_steps.specs.Own.{Seen, steps_of}
 use Rattle.reach_line.specs.MarkList.{numbers}
-use Rattle.commit_book.proofs.GatheredSteps.{all_taken-lost, all_taken-own, taken_more, taken_none}
+use Rattle.commit_book.proofs.Undoing.GatheredSteps.{all_taken-lost, all_taken-own, taken_more, taken_none}
 use Rattle.commit_book.proofs.rollback.take_from.Goals as goal
 
 pub loop-t-init : goal.loop-t-init

@@ -9,7 +9,7 @@ use Rattle.reach_line.specs.MarkList.{numbers}
 use Rattle.restore.specs.Found.{numbers as threads}
 use Rattle.stab_base.specs.declared.numbers.ThreadId.{ThreadId}
 use Rattle.commit_book.specs.OwnSteps.{IsGatheredFrom, line_number}
-use Rattle.commit_book.proofs.GatheredLines.{gathered_more, gathered_none, gathered_rises}
+use Rattle.commit_book.proofs.Undoing.GatheredLines.{gathered_more, gathered_none, gathered_rises}
 use Rattle.commit_book.proofs.rollback.take_lost.Goals as goal
 
 pub loop-t-init : goal.loop-t-init

@@ -3,7 +3,7 @@ use Rattle.std.specs.FinMap as map
 use Rattle.restore.proofs.Carried.{key_fresh, key_listed, keys_more, take_keys}
 use Rattle.restore.proofs.Ordered.{listed_key, once_keys}
 use Rattle.commit_book.specs.Counts.{is_faulted_at}
-use Rattle.commit_book.proofs.Uncounted.{all_counted, at_most_one, next_counted, none_counted, one_from}
+use Rattle.commit_book.proofs.Undoing.Uncounted.{all_counted, at_most_one, next_counted, none_counted, one_from}
 use Rattle.commit_book.proofs.undo.failed_among.Goals as goal
 
 pub loop-t-init : goal.loop-t-init

@@ -7,7 +7,7 @@ use Rattle.restore.specs.Left.{is_touched}
 use Rattle.step_eval.specs.ControlView.{Fits}
 use Rattle.commit_book.specs.Counts.{faulted_in, is_faulted_at}
 use Rattle.commit_book.specs.Threads.{AllControls}
-use Rattle.commit_book.proofs.Uncounted.{left_of}
+use Rattle.commit_book.proofs.Undoing.Uncounted.{left_of}
 use Rattle.commit_book.proofs.undo.failed_among.Given as goal
 
 abbrev pub invariant-loop-t : goal.invariant-loop-t

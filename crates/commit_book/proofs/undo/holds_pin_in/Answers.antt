@@ -1,6 +1,6 @@
 use Rattle.std.proofs.Common.{get_or}
 use Rattle.restore.proofs.Marked.{mark_at}
-use Rattle.commit_book.proofs.Uncounted.{no_pin_all, no_pin_next, no_pin_yet, pin_marked}
+use Rattle.commit_book.proofs.Undoing.Uncounted.{no_pin_all, no_pin_next, no_pin_yet, pin_marked}
 use Rattle.commit_book.proofs.undo.holds_pin_in.Goals as goal
 
 pub loop-q-init : goal.loop-q-init

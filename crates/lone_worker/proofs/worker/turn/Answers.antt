@@ -4,7 +4,7 @@ use Rattle.commit_book.specs.declared.turn.Turn.TheVariants.{Work}
 use Rattle.commit_book.specs.Book.{BookView}
 use Rattle.commit_book.specs.Counts.{in_state}
 use Rattle.commit_book.specs.Turns.{CanRest, IsTurn, RestsIfQuiet}
-use Rattle.commit_book.proofs.Chosen.{quiet_unready, release_due, spent_says}
+use Rattle.commit_book.proofs.Threads.Chosen.{quiet_unready, release_due, spent_says}
 use Rattle.lone_worker.specs.declared.worker.RunEnd.TheVariants as ends
 use Rattle.lone_worker.specs.Running.{EndSays, IsEndOf, IsStopped}
 use Rattle.lone_worker.specs.Turn.{IsTurnOf, IsWorked, left_to_do, worker}

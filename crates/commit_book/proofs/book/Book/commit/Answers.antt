@@ -5,7 +5,7 @@ use Rattle.std.proofs.lemmas.Result.{on_err_weaker}
 use Rattle.commit_book.specs.declared.done.Done.{Done}
 use Rattle.commit_book.specs.Book.{BookView}
 use Rattle.commit_book.specs.Commits.{IsCommitted, IsCurrent}
-use Rattle.commit_book.proofs.Committed.{committed_late, current_by, late_by}
+use Rattle.commit_book.proofs.Acting.Committed.{committed_late, current_by, late_by}
 use Rattle.commit_book.proofs.book.Book.commit.Goals as goal
 
 pub returns-then-not-is_current-clause-done : goal.returns-then-not-is_current-clause-done

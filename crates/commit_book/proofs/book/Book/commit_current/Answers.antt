@@ -3,8 +3,8 @@ use Rattle.stab_code.specs.Program.{ProgramParts}
 use Rattle.step_eval.specs.Progress.{Advances}
 use Rattle.commit_book.specs.Book.{BookView}
 use Rattle.commit_book.specs.Commits.{IsCommitted}
-use Rattle.commit_book.proofs.Committed.{book_after, book_as_before, committed_on_time, grown, on_time, may_commit, short}
-use Rattle.commit_book.proofs.SeenAfter.{view_same}
+use Rattle.commit_book.proofs.Acting.Committed.{book_after, book_as_before, committed_on_time, grown, on_time, may_commit, short}
+use Rattle.commit_book.proofs.Keeping.SeenAfter.{view_same}
 use Rattle.commit_book.proofs.book.Book.commit_current.Goals as goal
 
 pub overflow_add-first : goal.overflow_add-first

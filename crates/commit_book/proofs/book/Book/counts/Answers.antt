@@ -3,7 +3,7 @@ use Rattle.thread_slots.specs.declared.state.State.TheVariants.{Ready, Leased, P
 use Rattle.commit_book.specs.Book.{BookView}
 use Rattle.commit_book.specs.Counts.{AreCounts}
 use Rattle.commit_book.specs.Layout.{view_of}
-use Rattle.commit_book.proofs.Choosing.{faulted_ended}
+use Rattle.commit_book.proofs.Threads.Choosing.{faulted_ended}
 use Rattle.commit_book.proofs.book.Book.counts.Goals as goal
 
 pub overflow_sub-result : goal.overflow_sub-result

@@ -1,6 +1,6 @@
 use Rattle.std.proofs.Common.{ap, ◌∙◌}
 use Rattle.stab_journal.specs.Due.{due}
-use Rattle.commit_book.proofs.Choosing.{due_is}
+use Rattle.commit_book.proofs.Threads.Choosing.{due_is}
 use Rattle.commit_book.proofs.book.Book.due.Goals as goal
 
 pub returns-clause-due : goal.returns-clause-due

@@ -1,7 +1,7 @@
 use Rattle.std.proofs.Common.{ap, ◌∙◌}
 use Rattle.std.specs.FinMap as map
 use Rattle.commit_book.specs.Book.{fault_at}
-use Rattle.commit_book.proofs.Telling.{fault_is, fits_of}
+use Rattle.commit_book.proofs.Threads.Telling.{fault_is, fits_of}
 use Rattle.commit_book.proofs.book.Book.fault_of.Goals as goal
 
 pub returns-in-Failed-clause-fault : goal.returns-in-Failed-clause-fault

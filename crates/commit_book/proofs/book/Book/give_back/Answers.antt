@@ -1,5 +1,5 @@
 use Rattle.std.proofs.Common.{refl, sym, ◌∙◌}
-use Rattle.commit_book.proofs.Lending.{kept_given}
+use Rattle.commit_book.proofs.Threads.Lending.{kept_given}
 use Rattle.commit_book.proofs.book.Book.give_back.Goals as goal
 
 pub invariant_of-self : goal.invariant_of-self

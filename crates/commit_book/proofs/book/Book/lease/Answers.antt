@@ -1,6 +1,6 @@
 use Rattle.std.proofs.Common.{sym}
-use Rattle.commit_book.proofs.Choosing.{quiet_rests, work_rests}
-use Rattle.commit_book.proofs.Chosen.{spent_fuel, work_spends}
+use Rattle.commit_book.proofs.Threads.Choosing.{quiet_rests, work_rests}
+use Rattle.commit_book.proofs.Threads.Chosen.{spent_fuel, work_spends}
 use Rattle.commit_book.proofs.book.Book.lease.Goals as goal
 
 pub returns-in-Quiet-clause-rests : goal.returns-in-Quiet-clause-rests

@@ -3,7 +3,7 @@ use Rattle.commit_book.specs.declared.parts.Parts.{Parts}
 use Rattle.commit_book.specs.Layout.{owed}
 use Rattle.commit_book.specs.Limits.{most_events}
 use Rattle.commit_book.specs.Turns.{choice_of}
-use Rattle.commit_book.proofs.Lending.{kept_lent}
+use Rattle.commit_book.proofs.Threads.Lending.{kept_lent}
 use Rattle.commit_book.proofs.book.Book.lend.Goals as goal
 
 pub invariant_of-self-2 : goal.invariant_of-self-2

@@ -1,10 +1,10 @@
 use Rattle.std.proofs.Common.{◌≡◌, length, ap, sym, subst, ◌∙◌, arith}
 use Rattle.commit_book.specs.declared.counts.Tallies.{Tallies}
 use Rattle.commit_book.specs.Layout.{owed}
-use Rattle.commit_book.proofs.Releasing.{owed_none}
+use Rattle.commit_book.proofs.Acting.Releasing.{owed_none}
 use Rattle.stab_code.specs.Program.{ProgramParts}
 use Rattle.commit_book.specs.Started.{IsStarted}
-use Rattle.commit_book.proofs.Starting.{start_kept, start_main, start_shown}
+use Rattle.commit_book.proofs.Threads.Starting.{start_kept, start_main, start_shown}
 use Rattle.commit_book.proofs.book.Book.new.Goals as goal
 
 pub invariant_of-result : goal.invariant_of-result

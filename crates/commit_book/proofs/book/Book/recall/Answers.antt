@@ -2,8 +2,8 @@ use Rattle.std.proofs.Common.{subst}
 use Rattle.commit_book.specs.Book.{BookView}
 use Rattle.commit_book.specs.Layout.{view_of}
 use Rattle.commit_book.specs.Turns.{IsRecalled}
-use Rattle.commit_book.proofs.Lending.{kept_recalled, seen_recalled}
-use Rattle.commit_book.proofs.Recalled.{recalled_free}
+use Rattle.commit_book.proofs.Threads.Lending.{kept_recalled, seen_recalled}
+use Rattle.commit_book.proofs.Threads.Recalled.{recalled_free}
 use Rattle.commit_book.proofs.book.Book.recall.Goals as goal
 
 pub invariant_of-self : goal.invariant_of-self

@@ -10,8 +10,8 @@ use Rattle.plain_language.specs.Shown.{line}
 use Rattle.commit_book.specs.Book.{BookView}
 use Rattle.commit_book.specs.Layout.{view_of}
 use Rattle.commit_book.specs.Releases.{IsReleased, due_lines}
-use Rattle.commit_book.proofs.Acted.{in_ok}
-use Rattle.commit_book.proofs.Releasing.{book_after_release, due_so, finals_few, finals_same, kept_after_release, light_for_one, lines_so, released_so, room_for_one}
+use Rattle.commit_book.proofs.Acting.Acted.{in_ok}
+use Rattle.commit_book.proofs.Acting.Releasing.{book_after_release, due_so, finals_few, finals_same, kept_after_release, light_for_one, lines_so, released_so, room_for_one}
 use Rattle.commit_book.proofs.book.Book.release.Goals as goal
 
 pub overflow_add-next : goal.overflow_add-next

@@ -1,7 +1,7 @@
 use Rattle.std.proofs.Common.{◌≤◌, length, ap, subst, ◌∙◌}
 use Rattle.stab_journal.specs.Due.{released}
 use Rattle.commit_book.specs.Book.{BookView}
-use Rattle.commit_book.proofs.Firm.{released_printed}
+use Rattle.commit_book.proofs.Lawful.Firm.{released_printed}
 use Rattle.commit_book.proofs.book.Book.released.Goals as goal
 
 pub returns-clause-released : goal.returns-clause-released

@@ -1,4 +1,4 @@
-use Rattle.commit_book.proofs.Recounted.{kept_recounted}
+use Rattle.commit_book.proofs.Threads.Recounted.{kept_recounted}
 use Rattle.commit_book.proofs.book.Book.taken.Goals as goal
 
 pub invariant_of-self : goal.invariant_of-self

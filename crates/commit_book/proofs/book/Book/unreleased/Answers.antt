@@ -2,7 +2,7 @@ use Rattle.std.proofs.Common.{drop, ap, ◌∙◌}
 use Rattle.stab_journal.specs.Due.{released}
 use Rattle.print_log.specs.Log.{values}
 use Rattle.commit_book.specs.Book.{BookView}
-use Rattle.commit_book.proofs.Firm.{released_final_values}
+use Rattle.commit_book.proofs.Lawful.Firm.{released_final_values}
 use Rattle.commit_book.proofs.book.Book.unreleased.Goals as goal
 
 pub values_from-requires : goal.values_from-requires

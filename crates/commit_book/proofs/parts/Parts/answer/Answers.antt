@@ -1,5 +1,5 @@
 use Rattle.std.specs.FinMap as map
-use Rattle.commit_book.proofs.GoneOn.{fits_there, stood}
+use Rattle.commit_book.proofs.Threads.GoneOn.{fits_there, stood}
 use Rattle.commit_book.proofs.parts.Parts.answer.Goals as goal
 
 pub returns : goal.returns

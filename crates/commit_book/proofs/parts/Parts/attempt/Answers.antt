@@ -1,11 +1,11 @@
 use Rattle.std.proofs.Common.{◌<◌, refl, ap, ◌∙◌, arith}
 use Rattle.commit_book.specs.declared.parts.Parts.{Parts}
 use Rattle.step_eval.specs.declared.act.Act.TheVariants as own
-use Rattle.commit_book.proofs.Acted.{in_ok, named_so, needs_act, needs_few, needs_fit, needs_fits, needs_there, needs_valid, reserved}
-use Rattle.commit_book.proofs.Lasting.{attempt_lasts}
-use Rattle.commit_book.proofs.Needed.{generation_named}
-use Rattle.commit_book.proofs.SeenAfter.{kept_same}
-use Rattle.commit_book.proofs.SingleActs.{few_at, may_begin}
+use Rattle.commit_book.proofs.Acting.Acted.{in_ok, named_so, needs_act, needs_few, needs_fit, needs_fits, needs_there, needs_valid, reserved}
+use Rattle.commit_book.proofs.Acting.Lasting.{attempt_lasts}
+use Rattle.commit_book.proofs.Acting.Needed.{generation_named}
+use Rattle.commit_book.proofs.Keeping.SeenAfter.{kept_same}
+use Rattle.commit_book.proofs.Acting.SingleActs.{few_at, may_begin}
 use Rattle.stab_journal.specs.Event.{IsGeneration}
 use Rattle.std.proofs.Common.{◌^◌, w64}
 use Rattle.std.proofs.lemmas.Int.{to_z_pos}

@@ -1,11 +1,11 @@
 use Rattle.std.proofs.Common.{◌≤◌, length, refl, sym, ap, subst, ◌∙◌}
 use Rattle.commit_book.specs.declared.parts.Parts.{Parts}
 use Rattle.step_eval.specs.declared.act.Act.TheVariants as own
-use Rattle.commit_book.proofs.Acted.{in_ok, named_so, needs_act, needs_few, needs_fit, needs_fits, needs_there, needs_valid}
-use Rattle.commit_book.proofs.CutActs.{cut_lasts}
-use Rattle.commit_book.proofs.Needed.{cut_allowed}
-use Rattle.commit_book.proofs.SeenAfter.{kept_same}
-use Rattle.commit_book.proofs.SingleActs.{few_at, may_begin}
+use Rattle.commit_book.proofs.Acting.Acted.{in_ok, named_so, needs_act, needs_few, needs_fit, needs_fits, needs_there, needs_valid}
+use Rattle.commit_book.proofs.Acting.CutActs.{cut_lasts}
+use Rattle.commit_book.proofs.Acting.Needed.{cut_allowed}
+use Rattle.commit_book.proofs.Keeping.SeenAfter.{kept_same}
+use Rattle.commit_book.proofs.Acting.SingleActs.{few_at, may_begin}
 use Rattle.commit_book.proofs.parts.Parts.cut.Goals as goal
 
 pub plan_cut-requires : goal.plan_cut-requires

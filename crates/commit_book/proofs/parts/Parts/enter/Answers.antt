@@ -1,17 +1,17 @@
 use Rattle.std.proofs.Common.{◌≤◌, refl, sym, ap, subst, ◌∙◌}
 use Rattle.commit_book.specs.declared.parts.Parts.{Parts}
-use Rattle.commit_book.proofs.Acted.{named_so, needs_few, needs_there}
-use Rattle.commit_book.proofs.Lasted.{enter_lasts}
-use Rattle.commit_book.proofs.Needed.{nodes_above, save_behind}
-use Rattle.commit_book.proofs.SeenAfter.{kept_same}
-use Rattle.commit_book.proofs.SingleActs.{few_at, may_begin}
+use Rattle.commit_book.proofs.Acting.Acted.{named_so, needs_few, needs_there}
+use Rattle.commit_book.proofs.Acting.Lasted.{enter_lasts}
+use Rattle.commit_book.proofs.Acting.Needed.{nodes_above, save_behind}
+use Rattle.commit_book.proofs.Keeping.SeenAfter.{kept_same}
+use Rattle.commit_book.proofs.Acting.SingleActs.{few_at, may_begin}
 use Rattle.comm_graph.specs.Edge.{NodeList}
 use Rattle.std.proofs.lemmas.Bool.{false≢true}
 use Rattle.checkpoint_store.specs.Saved.{Saved}
 use Rattle.step_eval.specs.ControlView.{ControlView, Fits, expr_of}
 use Rattle.std.proofs.Common.{◌≡◌}
 use Rattle.step_eval.specs.Asked.{IsEntry}
-use Rattle.commit_book.proofs.Acted.{needs_fits}
+use Rattle.commit_book.proofs.Acting.Acted.{needs_fits}
 use Rattle.stab_code.specs.Program.{ProgramParts}
 use Rattle.plain_language.specs.Look.{entered}
 use Rattle.plain_language.specs.Outcome.{called}

@@ -1,7 +1,7 @@
 use Rattle.std.proofs.Common.{ℕ, sym, ap, ◌∙◌}
 use Rattle.commit_book.specs.Meetings.{meeting_of}
-use Rattle.commit_book.proofs.ExchangeCalls.{performed_meeting, performed_waiting}
-use Rattle.commit_book.proofs.Matched.{offer_there}
+use Rattle.commit_book.proofs.Acting.ExchangeCalls.{performed_meeting, performed_waiting}
+use Rattle.commit_book.proofs.Acting.Matched.{offer_there}
 use Rattle.commit_book.proofs.parts.Parts.exchange.Goals as goal
 
 pub opposite-requires : goal.opposite-requires

@@ -2,7 +2,7 @@ use Rattle.std.proofs.Common.{cond, None, sym, ap, ◌∙◌}
 use Rattle.std.specs.FinMap as map
 use Rattle.linked_lists.proofs.Numbered.{removed}
 use Rattle.stab_journal.specs.Names.{is_at, made}
-use Rattle.commit_book.proofs.StrikeCalls.{written_at}
+use Rattle.commit_book.proofs.Undoing.StrikeCalls.{written_at}
 use Rattle.commit_book.proofs.parts.Parts.forget.Goals as goal
 
 pub strike-requires-in-NewRef : goal.strike-requires-in-NewRef

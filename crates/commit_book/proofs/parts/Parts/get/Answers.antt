@@ -1,17 +1,17 @@
 use Rattle.std.proofs.Common.{ℕ, ◌<◌, ◌≤◌, refl, sym, ap, subst, ◌∙◌}
 use Rattle.commit_book.specs.declared.parts.Parts.{Parts}
-use Rattle.commit_book.proofs.Acted.{named_so, needs_few, needs_there}
-use Rattle.commit_book.proofs.Lasted.{get_lasts}
-use Rattle.commit_book.proofs.Needed.{got_before, got_there, held_at, nodes_above, read_at, read_before, save_behind, there_low, there_named}
-use Rattle.commit_book.proofs.SeenAfter.{kept_same}
-use Rattle.commit_book.proofs.SingleActs.{few_at, may_begin}
+use Rattle.commit_book.proofs.Acting.Acted.{named_so, needs_few, needs_there}
+use Rattle.commit_book.proofs.Acting.Lasted.{get_lasts}
+use Rattle.commit_book.proofs.Acting.Needed.{got_before, got_there, held_at, nodes_above, read_at, read_before, save_behind, there_low, there_named}
+use Rattle.commit_book.proofs.Keeping.SeenAfter.{kept_same}
+use Rattle.commit_book.proofs.Acting.SingleActs.{few_at, may_begin}
 use Rattle.comm_graph.specs.Edge.{NodeList}
 use Rattle.checkpoint_store.specs.Saved.{Saved}
 use Rattle.step_eval.specs.ControlView.{ControlView, Fits, expr_of}
 use Rattle.std.proofs.Common.{◌≡◌}
 use Rattle.std.specs.Prelude.{is_some}
 use Rattle.step_eval.specs.Asked.{act_next}
-use Rattle.commit_book.proofs.Acted.{needs_fits}
+use Rattle.commit_book.proofs.Acting.Acted.{needs_fits}
 use Rattle.plain_language.specs.Look.{answered}
 use Rattle.std.specs.Prelude.{IfSome}
 use Rattle.ref_log.specs.Log.{Write, last_of, writes_of}

@@ -6,7 +6,7 @@ use Rattle.std.specs.Ordering.{nat_cmp}
 use Rattle.thread_slots.specs.Slot.{Slot}
 use Rattle.step_eval.specs.ControlView.{ControlView, expr_of}
 use Rattle.commit_book.specs.Doing.{is_failed}
-use Rattle.commit_book.proofs.GoneOn.{still_there, gone_on, counts_one, counts_none, both_no, both_failed}
+use Rattle.commit_book.proofs.Threads.GoneOn.{still_there, gone_on, counts_one, counts_none, both_no, both_failed}
 use Rattle.commit_book.proofs.parts.Parts.go_on.Goals as goal
 use Rattle.commit_book.proofs.parts.Parts.go_on.Goals.{else-failed-via-then-failed+else-not-is_failed, else-failed-via-else-failed}
 

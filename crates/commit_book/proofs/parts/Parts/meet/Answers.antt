@@ -8,11 +8,11 @@ use Rattle.comm_graph.specs.Node.{Node}
 use Rattle.step_eval.specs.ControlView.{ControlView}
 use Rattle.commit_book.specs.declared.parts.Parts.{Parts}
 use Rattle.commit_book.specs.Meetings.{CanMeetAs, partner_in}
-use Rattle.commit_book.proofs.CommCalls.{done_exchanged, few_first, few_second, kept_exchanged, mate_there, own_there, saved_low, store_still, two_apart}
-use Rattle.commit_book.proofs.MeetNeeds.{may_meet, partner_may}
-use Rattle.commit_book.proofs.PairNeeds.{meeting_label, nodes_low}
-use Rattle.commit_book.proofs.SeenAfter.{kept_same}
-use Rattle.commit_book.proofs.SingleActs.{few_at, may_begin}
+use Rattle.commit_book.proofs.Acting.CommCalls.{done_exchanged, few_first, few_second, kept_exchanged, mate_there, own_there, saved_low, store_still, two_apart}
+use Rattle.commit_book.proofs.Acting.MeetNeeds.{may_meet, partner_may}
+use Rattle.commit_book.proofs.Acting.PairNeeds.{meeting_label, nodes_low}
+use Rattle.commit_book.proofs.Keeping.SeenAfter.{kept_same}
+use Rattle.commit_book.proofs.Acting.SingleActs.{few_at, may_begin}
 use Rattle.commit_book.proofs.parts.Parts.meet.Goals as goal
 
 pub plan_meeting-requires-clause-few : goal.plan_meeting-requires-clause-few

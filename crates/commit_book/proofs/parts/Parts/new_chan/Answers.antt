@@ -1,11 +1,11 @@
 use Rattle.std.proofs.Common.{◌+◌, refl, ap, ◌∙◌, arith}
 use Rattle.commit_book.specs.declared.parts.Parts.{Parts}
 use Rattle.step_eval.specs.declared.act.Act.TheVariants as own
-use Rattle.commit_book.proofs.Acted.{in_err, in_ok, named_so, needs_act, needs_few, needs_fit, needs_fits, needs_there, needs_valid}
-use Rattle.commit_book.proofs.Opened.{chan_lasts, none_yet}
-use Rattle.commit_book.proofs.Needed.{chan_low, chan_named}
-use Rattle.commit_book.proofs.SeenAfter.{kept_same}
-use Rattle.commit_book.proofs.SingleActs.{few_at, may_begin}
+use Rattle.commit_book.proofs.Acting.Acted.{in_err, in_ok, named_so, needs_act, needs_few, needs_fit, needs_fits, needs_there, needs_valid}
+use Rattle.commit_book.proofs.Acting.Opened.{chan_lasts, none_yet}
+use Rattle.commit_book.proofs.Acting.Needed.{chan_low, chan_named}
+use Rattle.commit_book.proofs.Keeping.SeenAfter.{kept_same}
+use Rattle.commit_book.proofs.Acting.SingleActs.{few_at, may_begin}
 use Rattle.commit_book.proofs.parts.Parts.new_chan.Goals as goal
 
 pub plan_chan-requires-clause-few : goal.plan_chan-requires-clause-few

@@ -1,18 +1,18 @@
 use Rattle.std.proofs.Common.{◌+◌, ◌<◌, ◌≤◌, length, refl, sym, ap, subst, ◌∙◌, arith}
 use Rattle.commit_book.specs.declared.parts.Parts.{Parts}
 use Rattle.step_eval.specs.declared.act.Act.TheVariants as own
-use Rattle.commit_book.proofs.Acted.{named_so, needs_act, needs_few, needs_fit, needs_fits, needs_there, needs_valid}
-use Rattle.commit_book.proofs.Lasting.{ref_lasts}
-use Rattle.commit_book.proofs.Needed.{make_allowed, nodes_above, ref_away, ref_low, ref_named}
-use Rattle.commit_book.proofs.SeenAfter.{kept_same}
-use Rattle.commit_book.proofs.SingleActs.{few_at, may_begin}
+use Rattle.commit_book.proofs.Acting.Acted.{named_so, needs_act, needs_few, needs_fit, needs_fits, needs_there, needs_valid}
+use Rattle.commit_book.proofs.Acting.Lasting.{ref_lasts}
+use Rattle.commit_book.proofs.Acting.Needed.{make_allowed, nodes_above, ref_away, ref_low, ref_named}
+use Rattle.commit_book.proofs.Keeping.SeenAfter.{kept_same}
+use Rattle.commit_book.proofs.Acting.SingleActs.{few_at, may_begin}
 use Rattle.comm_graph.specs.Edge.{NodeList}
 use Rattle.std.proofs.lemmas.Bool.{false≢true}
 use Rattle.ref_log.specs.Log.{Log}
 use Rattle.std.proofs.Common.{List}
 use Rattle.stab_base.specs.Datum.{Datum}
 use Rattle.step_eval.specs.Asked.{operands_of}
-use Rattle.commit_book.proofs.Lasting.{one_long}
+use Rattle.commit_book.proofs.Acting.Lasting.{one_long}
 use Rattle.step_eval.specs.Acts.{first_of}
 use Rattle.commit_book.proofs.parts.Parts.new_ref.Goals as goal
 

@@ -4,8 +4,8 @@ use Rattle.commit_book.specs.declared.done.Outcome.{Outcome}
 use Rattle.commit_book.specs.declared.done.Outcome.TheVariants as outcome
 use Rattle.commit_book.specs.Acting.{AreAsBefore, IsDone, IsPerformed, StandsAt, is_simple, row_by}
 use Rattle.commit_book.specs.Layout.{view_of}
-use Rattle.commit_book.proofs.Performed.{on_back, on_done, on_refusal, simple_left, simple_performed, still_ok}
-use Rattle.commit_book.proofs.Rowing.{offers_by}
+use Rattle.commit_book.proofs.Acting.Performed.{on_back, on_done, on_refusal, simple_left, simple_performed, still_ok}
+use Rattle.commit_book.proofs.Acting.Rowing.{offers_by}
 use Rattle.commit_book.proofs.parts.Parts.perform_act.Goals as goal
 
 pub exchange-requires-clause-offers : goal.exchange-requires-clause-offers

@@ -11,15 +11,15 @@ use Rattle.print_log.specs.Log.{Print, Prints}
 use Rattle.commit_book.specs.declared.counts.Tallies.{Tallies}
 use Rattle.commit_book.specs.declared.parts.Parts.{Parts}
 use Rattle.commit_book.specs.Acting.{AreAsBefore}
-use Rattle.commit_book.proofs.SingleCalls.{few_failed, there_at}
-use Rattle.commit_book.proofs.SeenAfter.{kept_same}
-use Rattle.commit_book.proofs.SingleActs.{few_at, may_begin, named_at}
-use Rattle.commit_book.proofs.SinglePrints.{one_long}
+use Rattle.commit_book.proofs.Acting.SingleCalls.{few_failed, there_at}
+use Rattle.commit_book.proofs.Keeping.SeenAfter.{kept_same}
+use Rattle.commit_book.proofs.Acting.SingleActs.{few_at, may_begin, named_at}
+use Rattle.commit_book.proofs.Acting.SinglePrints.{one_long}
 use Rattle.std.proofs.Common.{◌++◌, [], ◌∷◌}
 use Rattle.step_eval.specs.Acts.{first_of}
-use Rattle.commit_book.proofs.Acted.{needs_fit}
-use Rattle.commit_book.proofs.Lasting.{print_lasts}
-use Rattle.commit_book.proofs.Prints.{begun_prints, prints_below}
+use Rattle.commit_book.proofs.Acting.Acted.{needs_fit}
+use Rattle.commit_book.proofs.Acting.Lasting.{print_lasts}
+use Rattle.commit_book.proofs.Keeping.Prints.{begun_prints, prints_below}
 use Rattle.commit_book.proofs.parts.Parts.print.Goals as goal
 
 pub plan_print-requires-clause-few : goal.plan_print-requires-clause-few

@@ -1,12 +1,12 @@
 use Rattle.std.proofs.Common.{ℤ, ◌+◌, [], ◌∷◌, refl, ap, subst, ◌∙◌, arith}
 use Rattle.commit_book.specs.declared.parts.Parts.{Parts}
 use Rattle.step_eval.specs.declared.act.Act.TheVariants as own
-use Rattle.commit_book.proofs.Acted.{in_ok, named_so, needs_act, needs_few, needs_fit, needs_fits, needs_there, needs_valid, reserved}
-use Rattle.commit_book.proofs.Lasting.{probe_lasts}
-use Rattle.commit_book.proofs.Needed.{probes_low}
-use Rattle.commit_book.proofs.ProbeWords.{word_fits}
-use Rattle.commit_book.proofs.SeenAfter.{kept_same}
-use Rattle.commit_book.proofs.SingleActs.{few_at, may_begin}
+use Rattle.commit_book.proofs.Acting.Acted.{in_ok, named_so, needs_act, needs_few, needs_fit, needs_fits, needs_there, needs_valid, reserved}
+use Rattle.commit_book.proofs.Acting.Lasting.{probe_lasts}
+use Rattle.commit_book.proofs.Acting.Needed.{probes_low}
+use Rattle.commit_book.proofs.Acting.ProbeWords.{word_fits}
+use Rattle.commit_book.proofs.Keeping.SeenAfter.{kept_same}
+use Rattle.commit_book.proofs.Acting.SingleActs.{few_at, may_begin}
 use Rattle.stab_journal.specs.Script.{script_at}
 use Rattle.std.proofs.Common.{SFits, rules, w64}
 use Rattle.stab_base.specs.Datum.{int}

@@ -1,9 +1,9 @@
 use Rattle.std.proofs.Common.{refl, ap}
 use Rattle.commit_book.specs.declared.parts.Parts.{Parts}
-use Rattle.commit_book.proofs.Acted.{in_ok, named_so, needs_few, needs_there, reserved}
-use Rattle.commit_book.proofs.Lasted.{refuse_lasts}
-use Rattle.commit_book.proofs.SeenAfter.{kept_same}
-use Rattle.commit_book.proofs.SingleActs.{few_at, may_begin}
+use Rattle.commit_book.proofs.Acting.Acted.{in_ok, named_so, needs_few, needs_there, reserved}
+use Rattle.commit_book.proofs.Acting.Lasted.{refuse_lasts}
+use Rattle.commit_book.proofs.Keeping.SeenAfter.{kept_same}
+use Rattle.commit_book.proofs.Acting.SingleActs.{few_at, may_begin}
 use Rattle.commit_book.proofs.parts.Parts.refuse.Goals as goal
 
 pub reserve-requires : goal.reserve-requires

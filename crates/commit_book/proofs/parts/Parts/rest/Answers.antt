@@ -1,10 +1,10 @@
 use Rattle.std.proofs.Common.{refl}
 use Rattle.plain_language.specs.Plain.{look_in}
 use Rattle.step_eval.specs.ControlView.{expr_of}
-use Rattle.commit_book.proofs.Acted.{in_ok, needs_few, needs_there, reserved}
-use Rattle.commit_book.proofs.RestActs.{rest_lasts, unoffering}
-use Rattle.commit_book.proofs.SeenAfter.{kept_same}
-use Rattle.commit_book.proofs.SingleActs.{few_at, may_begin}
+use Rattle.commit_book.proofs.Acting.Acted.{in_ok, needs_few, needs_there, reserved}
+use Rattle.commit_book.proofs.Acting.RestActs.{rest_lasts, unoffering}
+use Rattle.commit_book.proofs.Keeping.SeenAfter.{kept_same}
+use Rattle.commit_book.proofs.Acting.SingleActs.{few_at, may_begin}
 use Rattle.commit_book.proofs.parts.Parts.rest.Goals as goal
 
 pub reserve-requires : goal.reserve-requires

@@ -1,5 +1,5 @@
 use Rattle.std.proofs.Common.{inl}
-use Rattle.commit_book.proofs.RoomKept.{may_save_too}
+use Rattle.commit_book.proofs.Keeping.RoomKept.{may_save_too}
 use Rattle.commit_book.proofs.parts.Parts.save_in_order.Goals as goal
 
 pub save-requires-clause-last : goal.save-requires-clause-last

@@ -1,18 +1,18 @@
 use Rattle.std.proofs.Common.{◌≤◌, length, refl, sym, ap, subst, ◌∙◌}
 use Rattle.commit_book.specs.declared.parts.Parts.{Parts}
 use Rattle.step_eval.specs.declared.act.Act.TheVariants as own
-use Rattle.commit_book.proofs.Acted.{named_so, needs_act, needs_few, needs_fit, needs_fits, needs_there, needs_valid}
-use Rattle.commit_book.proofs.Lasting.{set_lasts}
-use Rattle.commit_book.proofs.Needed.{nodes_above, set_there, there_low, there_named, write_allowed}
-use Rattle.commit_book.proofs.SeenAfter.{kept_same}
-use Rattle.commit_book.proofs.SingleActs.{few_at, may_begin}
+use Rattle.commit_book.proofs.Acting.Acted.{named_so, needs_act, needs_few, needs_fit, needs_fits, needs_there, needs_valid}
+use Rattle.commit_book.proofs.Acting.Lasting.{set_lasts}
+use Rattle.commit_book.proofs.Acting.Needed.{nodes_above, set_there, there_low, there_named, write_allowed}
+use Rattle.commit_book.proofs.Keeping.SeenAfter.{kept_same}
+use Rattle.commit_book.proofs.Acting.SingleActs.{few_at, may_begin}
 use Rattle.comm_graph.specs.Edge.{NodeList}
 use Rattle.std.proofs.lemmas.Bool.{false≢true}
 use Rattle.ref_log.specs.Log.{Log}
 use Rattle.std.proofs.Common.{List}
 use Rattle.stab_base.specs.Datum.{Datum}
 use Rattle.step_eval.specs.Asked.{operands_of}
-use Rattle.commit_book.proofs.Lasting.{two_long}
+use Rattle.commit_book.proofs.Acting.Lasting.{two_long}
 use Rattle.step_eval.specs.Acts.{second_of}
 use Rattle.commit_book.proofs.parts.Parts.set.Goals as goal
 

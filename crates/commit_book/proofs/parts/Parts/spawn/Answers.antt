@@ -16,10 +16,10 @@ use Rattle.step_eval.specs.Turns.{Takes}
 use Rattle.commit_book.specs.declared.parts.Parts.{Parts}
 use Rattle.commit_book.specs.Rows.{thread}
 use Rattle.commit_book.specs.Threads.{AllControls}
-use Rattle.commit_book.proofs.PairNeeds.{child_label, few_now, nodes_low, numbers_within}
-use Rattle.commit_book.proofs.SeenAfter.{kept_same}
-use Rattle.commit_book.proofs.SingleActs.{few_at, may_begin}
-use Rattle.commit_book.proofs.SpawnCalls.{done_started, few_joined, fit_joined, kept_started, there_joined}
+use Rattle.commit_book.proofs.Acting.PairNeeds.{child_label, few_now, nodes_low, numbers_within}
+use Rattle.commit_book.proofs.Keeping.SeenAfter.{kept_same}
+use Rattle.commit_book.proofs.Acting.SingleActs.{few_at, may_begin}
+use Rattle.commit_book.proofs.Acting.SpawnCalls.{done_started, few_joined, fit_joined, kept_started, there_joined}
 use Rattle.commit_book.proofs.parts.Parts.spawn.Goals as goal
 
 pub plan_spawn-requires-clause-few : goal.plan_spawn-requires-clause-few

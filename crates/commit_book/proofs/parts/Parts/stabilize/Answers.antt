@@ -4,7 +4,7 @@ use Rattle.stab_code.specs.Valid.{IsValid}
 use Rattle.plain_language.specs.Redex.{mark}
 use Rattle.step_eval.specs.ControlView.{ControlView, Fits, expr_of}
 use Rattle.stab_journal.specs.Journal.{survivors}
-use Rattle.commit_book.proofs.Granting.{held_low, held_none, mark_is, no_mark}
+use Rattle.commit_book.proofs.Undoing.Granting.{held_low, held_none, mark_is, no_mark}
 use Rattle.commit_book.proofs.parts.Parts.stabilize.Goals as goal
 
 pub take_back-requires-clause-mark : goal.take_back-requires-clause-mark

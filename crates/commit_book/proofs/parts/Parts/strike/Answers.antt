@@ -1,7 +1,7 @@
 use Rattle.std.proofs.Common.{sym, ap, ◌∙◌}
 use Rattle.stab_journal.specs.Journal.{Journal}
 use Rattle.commit_book.specs.declared.parts.Parts.{Parts}
-use Rattle.commit_book.proofs.StrikeCalls.{one_struck}
+use Rattle.commit_book.proofs.Undoing.StrikeCalls.{one_struck}
 use Rattle.commit_book.proofs.parts.Parts.strike.Goals as goal
 
 pub returns-in-Some-clause-struck : goal.returns-in-Some-clause-struck

@@ -4,7 +4,7 @@ use Rattle.std.proofs.lemmas.Bool.{false≢true}
 use Rattle.stab_base.specs.declared.numbers.Seq.{Seq}
 use Rattle.reach_line.specs.MarkList.{numbers}
 use Rattle.commit_book.specs.declared.rollback.Rollback.{Rollback}
-use Rattle.commit_book.proofs.StrikeCalls.{IsStriking, may_one, numbers_long, one_more_fits, striking_again, striking_none, striking_one}
+use Rattle.commit_book.proofs.Undoing.StrikeCalls.{IsStriking, may_one, numbers_long, one_more_fits, striking_again, striking_none, striking_one}
 use Rattle.commit_book.proofs.parts.Parts.strike_all.Goals as goal
 
 pub loop-q-init : goal.loop-q-init

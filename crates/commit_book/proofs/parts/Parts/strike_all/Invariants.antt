@@ -1,6 +1,6 @@
 use Rattle.std.proofs.Common.{length}
 use Rattle.reach_line.specs.MarkList.{numbers}
-use Rattle.commit_book.proofs.StrikeCalls.{IsStriking}
+use Rattle.commit_book.proofs.Undoing.StrikeCalls.{IsStriking}
 use Rattle.commit_book.proofs.parts.Parts.strike_all.Given as goal
 
 abbrev pub invariant-loop-q : goal.invariant-loop-q

@@ -1,11 +1,11 @@
 use Rattle.std.proofs.Common.{refl, ap, ◌∙◌}
 use Rattle.stab_base.specs.declared.numbers.Seq.{Seq}
 use Rattle.reach_line.specs.MarkList.{numbers}
-use Rattle.commit_book.proofs.Acted.{needs_few, needs_there}
-use Rattle.commit_book.proofs.Granting.{done_again, err_again, marked_there, may_again, node_there, pinned_held}
-use Rattle.commit_book.proofs.SeenAfter.{kept_same}
-use Rattle.commit_book.proofs.SingleActs.{few_at, may_begin}
-use Rattle.commit_book.proofs.TakeBack.{mark_within, next_some, read_low, spare_left, taken, taken_kept, thread_named, undoing, undos_low, weight_left}
+use Rattle.commit_book.proofs.Acting.Acted.{needs_few, needs_there}
+use Rattle.commit_book.proofs.Undoing.Granting.{done_again, err_again, marked_there, may_again, node_there, pinned_held}
+use Rattle.commit_book.proofs.Keeping.SeenAfter.{kept_same}
+use Rattle.commit_book.proofs.Acting.SingleActs.{few_at, may_begin}
+use Rattle.commit_book.proofs.Undoing.TakeBack.{mark_within, next_some, read_low, spare_left, taken, taken_kept, thread_named, undoing, undos_low, weight_left}
 use Rattle.commit_book.proofs.parts.Parts.take_back.Goals as goal
 
 pub plan_undo-requires-clause-few : goal.plan_undo-requires-clause-few

@@ -4,8 +4,8 @@ use Rattle.restore.specs.Found.{Lines}
 use Rattle.commit_book.specs.declared.parts.Parts.{Parts}
 use Rattle.commit_book.specs.declared.rollback.Rollback.{Rollback}
 use Rattle.commit_book.specs.TakenOut.{IsTakenOut, IsUndoing}
-use Rattle.commit_book.proofs.UndoCalls.{lost_all, read_planned, taken_out}
-use Rattle.commit_book.proofs.UndoneNeeds.{failed_few, failed_left, lines_kept, lines_live, lines_young, may_strike_all, names_low, nodes_there, places_there}
+use Rattle.commit_book.proofs.Undoing.UndoCalls.{lost_all, read_planned, taken_out}
+use Rattle.commit_book.proofs.Undoing.UndoneNeeds.{failed_few, failed_left, lines_kept, lines_live, lines_young, may_strike_all, names_low, nodes_there, places_there}
 use Rattle.commit_book.proofs.parts.Parts.undo.Goals as goal
 
 -- what is marked is marked still once all is read

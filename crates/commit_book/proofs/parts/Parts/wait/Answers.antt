@@ -8,13 +8,13 @@ use Rattle.thread_slots.specs.Slot.{Slot}
 use Rattle.step_eval.specs.ControlView.{ControlView}
 use Rattle.commit_book.specs.declared.parts.Parts.{Parts}
 use Rattle.commit_book.specs.Acting.{AreAsBefore}
-use Rattle.commit_book.proofs.GoneOn.{still_there}
-use Rattle.commit_book.proofs.Matched.{offer_there}
-use Rattle.commit_book.proofs.SeenAfter.{kept_same}
-use Rattle.commit_book.proofs.SingleActs.{may_begin}
-use Rattle.commit_book.proofs.SingleCalls.{there_at}
-use Rattle.commit_book.proofs.WaitActs.{done_already}
-use Rattle.commit_book.proofs.WaitCalls.{done_aside, kept_aside, none_there, on_err, on_ok}
+use Rattle.commit_book.proofs.Threads.GoneOn.{still_there}
+use Rattle.commit_book.proofs.Acting.Matched.{offer_there}
+use Rattle.commit_book.proofs.Keeping.SeenAfter.{kept_same}
+use Rattle.commit_book.proofs.Acting.SingleActs.{may_begin}
+use Rattle.commit_book.proofs.Acting.SingleCalls.{there_at}
+use Rattle.commit_book.proofs.Acting.WaitActs.{done_already}
+use Rattle.commit_book.proofs.Acting.WaitCalls.{done_aside, kept_aside, none_there, on_err, on_ok}
 use Rattle.commit_book.proofs.parts.Parts.wait.Goals as goal
 
 pub returns-then-is_some-clause-done : goal.returns-then-is_some-clause-done

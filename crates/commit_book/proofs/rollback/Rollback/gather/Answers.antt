@@ -1,6 +1,6 @@
 use Rattle.std.proofs.Common.{refl}
 use Rattle.commit_book.specs.declared.rollback.Rollback.{Rollback}
-use Rattle.commit_book.proofs.GatheredLines.{gathered_all}
+use Rattle.commit_book.proofs.Undoing.GatheredLines.{gathered_all}
 use Rattle.commit_book.proofs.rollback.Rollback.gather.Goals as goal
 
 pub returns : goal.returns

@@ -1,7 +1,7 @@
 use Rattle.std.proofs.Common.{◌<◌, ◌||◌, nat_eq, length, sym, ap, subst, ◌∙◌}
 use Rattle.std.proofs.lemmas.List.{length-set}
 use Rattle.own_steps.specs.Own.{Seen}
-use Rattle.commit_book.proofs.ReadSteps.{or_second, same_number}
+use Rattle.commit_book.proofs.Keeping.ReadSteps.{or_second, same_number}
 use Rattle.commit_book.proofs.rollback.Rollback.push_own.Goals as goal
 
 pub push-requires-clause-place : goal.push-requires-clause-place

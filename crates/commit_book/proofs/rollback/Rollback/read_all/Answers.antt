@@ -1,4 +1,4 @@
-use Rattle.commit_book.proofs.ReadSteps.{own_rises}
+use Rattle.commit_book.proofs.Keeping.ReadSteps.{own_rises}
 use Rattle.commit_book.proofs.rollback.Rollback.read_all.Goals as goal
 
 pub returns-clause-rising : goal.returns-clause-rising

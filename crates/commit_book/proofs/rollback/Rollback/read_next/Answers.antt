@@ -5,7 +5,7 @@ use Rattle.stab_journal.specs.Names.{has}
 use Rattle.own_steps.specs.Own.{steps_of}
 use Rattle.commit_book.specs.declared.rollback.Rollback.{Rollback}
 use Rattle.commit_book.specs.OwnSteps.{IsRead}
-use Rattle.commit_book.proofs.ReadSteps.{acting_low, read_none, read_one}
+use Rattle.commit_book.proofs.Keeping.ReadSteps.{acting_low, read_none, read_one}
 use Rattle.commit_book.proofs.rollback.Rollback.read_next.Goals as goal
 
 pub read_step-requires-clause-places : goal.read_step-requires-clause-places
