@@ -12,4 +12,4 @@ returns-then-is_alone-clause-within c = λ f first. absurd (no-first (round_of c
 pub returns-clause-within : goal.returns-clause-within
 returns-clause-within c = λ f first.
     let same : c.innermost-frame.result.now ≡ f = first-same (round_of c.args.self.now) c.innermost-frame.result.now f c.innermost-frame.ensures first in
-    c.seq.ensures ∙ c.outside.ensures ∙ ap (λ (x : FrameView). outside c.args.self.now.mark x.site) (c.frame.view_is ∙ same)
+    c.seq-2.ensures ∙ c.outside.ensures ∙ ap (λ (x : FrameView). outside c.args.self.now.mark x.site) (c.frame.view_is ∙ same)
