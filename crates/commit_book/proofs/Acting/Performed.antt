@@ -4,7 +4,6 @@ use Rattle.std.specs.Prelude.{Err, IfErr, IfOk, Ok, OnErr, OnOk, Result}
 use Rattle.std.proofs.lemmas.Bool.{false≢true}
 use Rattle.stab_code.specs.JobParts.{JobParts}
 use Rattle.stab_journal.specs.declared.event.Numbered.{Numbered}
-use Rattle.plain_language.specs.Table.{done}
 use Rattle.step_eval.specs.declared.act.Act.{Act}
 use Rattle.step_eval.specs.declared.act.Act.TheVariants as own
 use Rattle.step_eval.specs.Progress.{ProgressView}

@@ -16,7 +16,6 @@ use Rattle.rendezvous.specs.declared.offer.Offer.{Offer}
 use Rattle.rendezvous.specs.declared.offer.Offer.TheVariants as offer
 use Rattle.rendezvous.specs.Line.{Line, Lines, Seen, nobody, offered, LineBacked}
 use Rattle.rendezvous.specs.Offer.{sends_on, receives_on}
-use Rattle.plain_language.specs.Table.{sends, receives}
 use Rattle.journal_laws.proofs.Surviving.{some_is, some_none}
 use Rattle.commit_book.specs.Doing.{IsDoing, waits_with}
 use Rattle.commit_book.specs.Offers.{sends_at, receives_at, AreOffers}
