@@ -1,5 +1,5 @@
 use Rattle.std.proofs.Common.{◌≡◌, true, false, add-one, sym, ap, ◌∙◌, arith}
-use Rattle.std.specs.Prelude.{Some, option_copied}
+use Rattle.std.specs.Prelude.{Some}
 use Rattle.stab_journal.specs.declared.event.What.{What}
 use Rattle.stab_journal.specs.Journal.{event_at}
 use Rattle.plain_language.specs.Standing.{event}
@@ -11,21 +11,21 @@ use Rattle.image_commands.proofs.cuts.cut_at.Goals.{then-is_cut+else-cuts-n, els
 pub returns-then-cuts-n : goal.returns-then-cuts-n
 returns-then-cuts-n c =
     let es = c.args.history.now.events in
-    let e = c.unwrap.result.now in
-    let there = sym (sym (ap option_copied c.unwrap.ensures) ∙ c.get.ensures.event) in
+    let e = c.unwrap.result in
+    let there = sym (sym c.unwrap.ensures ∙ c.get.ensures.event) in
     let is : is_cut e.what ≡ true = sym c.is_cut.ensures ∙ c.if-is_cut.true in
     let cut = cut_of e.what is in
     let counted : one (is_cut e.what) ≡ 1 = ap one is in
     record {
       cut = (e.worker, cut.0, there ∙ ap (λ (w : What). Some (event e.worker w)) cut.1);
-      nth = omega (arith, one_counted es c.loop-i.i e (sym (sym (ap option_copied c.unwrap.ensures) ∙ c.get.ensures.event ∙ ap (event_at es) (add-one c.loop-i.i))), counted, c.loop-i.invariant.cuts, c.if-cuts-n.true);
+      nth = omega (arith, one_counted es c.loop-i.i e (sym (sym c.unwrap.ensures ∙ c.get.ensures.event ∙ ap (event_at es) (add-one c.loop-i.i))), counted, c.loop-i.invariant.cuts, c.if-cuts-n.true);
     }
 
 pub loop-i-preserved : goal.loop-i-preserved
 loop-i-preserved c =
     let es = c.args.history.now.events in
-    let e = c.unwrap.result.now in
-    let more = one_counted es c.loop-i.i e (sym (sym (ap option_copied c.unwrap.ensures) ∙ c.get.ensures.event ∙ ap (event_at es) (add-one c.loop-i.i))) in
+    let e = c.unwrap.result in
+    let more = one_counted es c.loop-i.i e (sym (sym c.unwrap.ensures ∙ c.get.ensures.event ∙ ap (event_at es) (add-one c.loop-i.i))) in
     elim c.if-is_cut.branch [
       | then-is_cut+else-cuts-n w ↦
           let is : is_cut e.what ≡ true = sym c.is_cut.ensures ∙ w.if-is_cut.true in
