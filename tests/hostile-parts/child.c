@@ -40,6 +40,14 @@ static int take(int file, struct text *text) {
     return count > 0;
 }
 
+void load(const char *path, struct text *text) {
+    int file = open(path, O_RDONLY);
+    if (file < 0) stop(path);
+    text->length = 0;
+    while (take(file, text)) {}
+    close(file);
+}
+
 static void become(char *const words[], char *const settings[], int seconds, int out, int err) {
     struct rlimit time = {seconds, seconds};
     int nothing = open("/dev/null", O_RDONLY);

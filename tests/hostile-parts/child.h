@@ -18,6 +18,9 @@ enum { OVERDUE = -1 };
 // by the clock. The texts of an earlier run are used again.
 void run(char *const words[], char *const settings[], int seconds, struct ended *ended);
 
+// Puts the text of a file in place of what `text` has.
+void load(const char *path, struct text *text);
+
 // Whether the text has these bytes.
 int is_text(const struct text *text, const char *bytes, size_t length);
 

@@ -54,16 +54,6 @@ static void put(struct text *text, size_t at, size_t removed, const char *bytes,
     free(copy);
 }
 
-void load(const char *path, struct text *text) {
-    char bytes[4096];
-    size_t count;
-    FILE *file = fopen(path, "rb");
-    if (!file) stop(path);
-    text->length = 0;
-    while ((count = fread(bytes, 1, sizeof bytes, file)) > 0) put(text, text->length, 0, bytes, count);
-    fclose(file);
-}
-
 static int is_break(char byte) { return byte == '\n'; }
 
 static int is_space(char byte) { return isspace((unsigned char)byte); }

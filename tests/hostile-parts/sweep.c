@@ -1,9 +1,11 @@
 // Disturbs each call of one kind that a program makes, one in each run:
-//   sweep LIBRARY KIND FIRST EACH PROGRAM WORD..
-// KIND is a kind of refuse.c, which LIBRARY is. The first FIRST calls are refused in turn, and of the others each EACH-th.
-// Each run must end as the undisturbed one, or with NoMemory, FileFault or SinkFault and a beginning of its output: none of it where a
-// file fails, and one line for each write before the refused one. It prints a line for each that doesn't, then one that counts the
-// answers. The exit status is 1 where one was wrong.
+//   sweep LIBRARY KIND FIRST EACH STATUS OUTPUT REASON PROGRAM WORD..
+// KIND is a kind of refuse.c, which LIBRARY is. The first FIRST calls are refused in turn, and of the others each EACH-th. Undisturbed,
+// the program must end with STATUS and write what the file OUTPUT holds, and on standard error REASON, if that isn't empty.
+// A run with a refused allocation must end so too, or with NoMemory and a beginning of that output; with a refused open or read it must
+// end with FileFault and no output, and with a refused write with SinkFault and one line for each write before. Any other run must end
+// as the undisturbed one. It prints a line for each that doesn't, then one that counts the answers. The exit status is 1 where one was
+// wrong.
 #include "child.h"
 #include <stdio.h>
 #include <stdlib.h>
@@ -15,16 +17,21 @@ static const char *const kinds[] = {"alloc", "open", "read", "write", "error"};
 static char refuse[32], at[32], counts[4200], preload[4200];
 static char *settings[] = {preload, refuse, at, counts, NULL};
 static struct ended whole, ended;
+static struct text wanted;
 
 static int is_kind(const char *kind) { return !strcmp(refuse + strlen("REFUSE="), kind); }
 
+static int is_alloc(void) { return is_kind("alloc") || is_kind("scarce"); }
+
 static int is_write(void) { return is_kind("write") || is_kind("nothing"); }
 
-// Whether standard error has a status's line, or nothing of it, as where there is no memory to write it.
+static int is_input(void) { return is_kind("open") || is_kind("read"); }
+
+// Whether standard error has a status's line, or nothing of it where there is no memory to write it.
 static int says(const char *name) {
     const char *text = ended.err.bytes;
     size_t length = ended.err.length, word = strlen(name);
-    if (!length) return 1;
+    if (!length) return is_alloc();
     return length > word + 6 && !memcmp(text, "stab: ", 6) && !memcmp(text + 6, name, word) &&
            memchr(text, '\n', length) == text + length - 1;
 }
@@ -36,7 +43,7 @@ static int is_beginning(const struct text *text, const struct text *of) {
 // Where there is no memory for the line on standard error it is left out, and a write of it may be refused.
 static int is_as_undisturbed(void) {
     int is_said = is_text(&ended.err, whole.err.bytes, whole.err.length);
-    if (is_kind("error") || is_kind("alloc") || is_kind("scarce")) is_said = is_beginning(&ended.err, &whole.err);
+    if (is_kind("error") || is_alloc()) is_said = is_beginning(&ended.err, &whole.err);
     return is_said && ended.status == whole.status && is_text(&ended.out, whole.out.bytes, whole.out.length);
 }
 
@@ -48,14 +55,10 @@ static int has_lines(long count) {
 
 // Whether a call that was refused may have been answered in this way.
 static int is_due(long number) {
-    if (is_as_undisturbed()) return 1;
-    if (is_kind("error") || is_kind("short") || is_kind("interrupt") || !is_beginning(&ended.out, &whole.out)) return 0;
-    switch (ended.status) {
-    case NO_MEMORY: return is_kind("alloc") || is_kind("scarce") ? says("NoMemory") : 0;
-    case FILE_FAULT: return is_write() || ended.out.length ? 0 : says("FileFault");
-    case SINK_FAULT: return is_write() && has_lines(number - 1) ? says("SinkFault") : 0;
-    default: return 0;
-    }
+    if (is_input()) return ended.status == FILE_FAULT && !ended.out.length && says("FileFault");
+    int is_begun = is_beginning(&ended.out, &whole.out);
+    if (is_write()) return ended.status == SINK_FAULT && is_begun && has_lines(number - 1) && says("SinkFault");
+    return is_as_undisturbed() || (is_alloc() && ended.status == NO_MEMORY && is_begun && says("NoMemory"));
 }
 
 static long count_of(const char *path) {
@@ -93,17 +96,32 @@ static long refuse_all(char **words, long all, long first, long each) {
     return wrong;
 }
 
+// Whether the undisturbed run is as it should be. It takes memory, and an output is written.
+static int is_whole(int status, const char *output, const char *reason, long all) {
+    char line[512];
+    int length = *reason ? snprintf(line, sizeof line, "stab: %s\n", reason) : 0;
+    load(output, &wanted);
+    int is_it = whole.status == status && is_text(&whole.out, wanted.bytes, wanted.length) && is_text(&whole.err, line, length);
+    int has_calls = is_alloc() || (is_write() && wanted.length);
+    if (is_it && (all > 0 || !has_calls)) return 1;
+    printf("undisturbed: status %d, %zu bytes of output, %ld calls, %.*s\n", whole.status, whole.out.length, all,
+           (int)(whole.err.length < 200 ? whole.err.length : 200), whole.err.bytes ? whole.err.bytes : "");
+    return 0;
+}
+
 int main(int count, char **words) {
-    if (count < 6) {
-        fprintf(stderr, "sweep LIBRARY KIND FIRST EACH PROGRAM WORD..\n");
+    if (count < 9) {
+        fprintf(stderr, "sweep LIBRARY KIND FIRST EACH STATUS OUTPUT REASON PROGRAM WORD..\n");
         return 2;
     }
     snprintf(preload, sizeof preload, "LD_PRELOAD=%s", words[1]);
     snprintf(refuse, sizeof refuse, "REFUSE=none");
     snprintf(counts, sizeof counts, "COUNTS=%s.counts", words[1]);
-    run(words + 5, settings, 60, &whole);
+    remove(counts + strlen("COUNTS="));
+    run(words + 8, settings, SECONDS, &whole);
     snprintf(refuse, sizeof refuse, "REFUSE=%s", words[2]);
     long all = count_of(counts + strlen("COUNTS="));
     snprintf(counts, sizeof counts, "COUNTS=");
-    return refuse_all(words + 5, all, atol(words[3]), atol(words[4])) > 0;
+    if (!is_whole(atoi(words[5]), words[6], words[7], all)) return 1;
+    return refuse_all(words + 8, all, atol(words[3]), atol(words[4])) > 0;
 }
