@@ -191,6 +191,7 @@ int main(int count, char **words) {
     }
     long first = atol(words[3]), last = atol(words[4]);
     uint64_t seed = strtoull(words[2], NULL, 10);
+    setvbuf(stdout, NULL, _IOLBF, 0);
     for (int k = 6; k < count; k++) wrong += try_base(words[5], form, words[k]);
     memset(answers, 0, sizeof answers);
     for (long number = first; number <= last; number++) wrong += try_one(words[5], form, seed, number, words + 6, count - 6);
