@@ -1,11 +1,10 @@
 -- The bodies of a program's functions are whole and low.
-use Rattle.std.proofs.Common.{◌≡◌, ℕ, zero, suc, ◌+◌, ◌<◌, ◌≤◌, ◌^◌, Bool, true, false, ◌||◌, not, nat_eq, nat_lt, max, List, [], ◌∷◌, ◌++◌, length, Option, Some, None, All, IfSome, IsSomeAnd, filter, map, option_map, slice_get, refl, sym, ap, subst, ◌∙◌, if◌then◌else◌, arith}
-use Rattle.std.specs.List.{AllByRecursion, list_any}
+use Rattle.std.proofs.Common.{◌≡◌, ℕ, zero, suc, ◌+◌, ◌<◌, ◌≤◌, ◌^◌, Bool, true, false, ◌||◌, not, nat_eq, List, [], ◌∷◌, ◌++◌, length, Option, Some, None, All, IfSome, IsSomeAnd, filter, map, option_map, slice_get, refl, sym, ap, subst, ◌∙◌, if◌then◌else◌, arith}
+use Rattle.std.specs.List.{AllByRecursion}
 use Rattle.std.proofs.lemmas.Bool.{false≢true, eqb-false, eqb-true}
 use Rattle.std.proofs.lemmas.Bool.Decides.{nat_tests}
 use Rattle.std.proofs.lemmas.List.Elements.{All-head, All-tail}
 use Rattle.std.proofs.lemmas.List.Folds.{list_any-append}
-use Rattle.std.proofs.lemmas.Option.{slice_get_within}
 use Rattle.stab_base.specs.Datum.{Datum}
 use Rattle.stab_code.specs.declared.head.Head as code
 use Rattle.stab_code.specs.declared.head.Head.TheVariants as code_head
@@ -13,23 +12,22 @@ use Rattle.stab_code.specs.EachForm.{AllForms, AllFormsIn, count_of}
 use Rattle.stab_code.specs.Heads.{slots_of, text_of, variable_of}
 use Rattle.stab_code.specs.Layout.{size_of, size_of_all}
 use Rattle.stab_code.specs.Limits.{max_form_depth}
-use Rattle.stab_code.specs.Nodes.{NodeParts}
-use Rattle.stab_code.specs.Program.{FunctionParts, ProgramParts, arity_of, bodies_of, body_of, tree_among, trees_among, trees_at, trees_of}
+use Rattle.stab_code.specs.Program.{FunctionParts, ProgramParts, arity_of, body_of, tree_among, trees_among, trees_of}
 use Rattle.stab_code.specs.Syntax.{depth_from, depth_of, deepest, left_open, one_or_none, open_from, open_in, without}
-use Rattle.stab_code.specs.Trees.{Tree, Trees, tree, none as no_trees, more, fold, fold_all}
+use Rattle.stab_code.specs.Trees.{Tree, Trees, tree, none as no_trees, more, fold_all}
 use Rattle.stab_code.specs.Valid.{HasItem, IsValid, parts_of}
 use Rattle.stab_code.proofs.AllForms.{HoldsOf, forms-bodies}
 use Rattle.stab_code.proofs.InOrder.{size_of_bodies}
 use Rattle.stab_code.proofs.Lists.{All-at}
 use Rattle.plain_language.specs.declared.head.Head.{Head}
-use Rattle.plain_language.specs.Expression.{Expr, value, variable, failed, form, Parts, none, part, put}
+use Rattle.plain_language.specs.Expression.{Parts, put}
 use Rattle.plain_language.specs.Outcome.{called}
 use Rattle.plain_language.specs.Program.{body, body_by, expr_of, exprs_of, form_of}
-use Rattle.expression_text.specs.Spelling.{arity, count, items_of}
-use Rattle.standing_runs.specs.Numbers.{HasNumbers, IsSlot, NumbersFit}
+use Rattle.expression_text.specs.Spelling.{arity, count}
+use Rattle.standing_runs.specs.Numbers.{HasNumbers, NumbersFit}
 use Rattle.standing_runs.specs.Whole.{bound_by, is_bound, IsValue, IsHead, IsForm, IsWhole, AreWhole, Takes}
 use Rattle.standing_runs.proofs.Outcomes.{IsNew}
-use Rattle.standing_runs.proofs.Putting.{height, heights, height_put, put_whole, Covers}
+use Rattle.standing_runs.proofs.Putting.{height, heights, height_put, put_whole}
 
 by_recursion : {A : Type 0} (P : A → Type 0) (xs : List A) → All P xs → AllByRecursion P xs
 by_recursion P [] all = tt

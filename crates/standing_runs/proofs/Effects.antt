@@ -1,10 +1,9 @@
 -- What a step brings may stand in a state again.
-use Rattle.std.proofs.Common.{◌≡◌, ℕ, zero, suc, ◌^◌, Bool, true, false, cond, nat_eq, nat_lt, List, [], ◌∷◌, ◌++◌, Option, Some, None, ℤ, pos, option_map, option_and_then, refl, sym, ap, subst, ◌∙◌, arith}
+use Rattle.std.proofs.Common.{◌≡◌, ℕ, zero, suc, ◌^◌, Bool, true, false, cond, nat_eq, nat_lt, List, [], ◌∷◌, ◌++◌, Option, Some, None, ℤ, pos, option_map, option_and_then, refl, sym, subst, ◌∙◌}
 use Rattle.std.specs.List.{AllByRecursion}
 use Rattle.std.specs.Ordering.{nat_cmp}
 use Rattle.std.specs.FinMap as map
 use Rattle.std.specs.FinMap.{FinMap}
-use Rattle.std.proofs.lemmas.Bool.Decides.{nat_tests}
 use Rattle.stab_base.specs.Datum.{Datum, unit, int, chan, reference, pair}
 use Rattle.stab_base.specs.Limits.{is_within_limits}
 use Rattle.stab_code.specs.Program.{ProgramParts}
@@ -16,8 +15,8 @@ use Rattle.stab_journal.specs.Names.{read}
 use Rattle.plain_language.specs.Expression.{Expr}
 use Rattle.plain_language.specs.Numbers.{fits_word}
 use Rattle.plain_language.specs.Plain.{PlainState, effect_of, language_of, look_in}
-use Rattle.plain_language.specs.Steps.{State, Effect, exprs_at, held_at, put_threads, put_value, apply, effect_in, plain}
-use Rattle.plain_language.specs.Table.{spawns, makes_chan, makes_ref, gets, sets, sends, receives, picks, enters, stabilizes, cuts, pins, prints, probes, attempts, Look, done, fault, act, pure, pure_of, pure_steps, to, local_by, spawn_by, chan_by, ref_by, get_by, set_by, sent_by, picked, received_by, comm_by, enter_by, cut_by, pin_by, print_by, probe_by, refuse_by, attempt_by, effect}
+use Rattle.plain_language.specs.Steps.{Effect, exprs_at, held_at, put_threads, put_value, apply, effect_in, plain}
+use Rattle.plain_language.specs.Table.{spawns, makes_chan, makes_ref, gets, sets, sends, receives, picks, enters, stabilizes, cuts, pins, prints, probes, attempts, Look, done, fault, act, pure, pure_of, pure_steps, to, local_by, spawn_by, chan_by, ref_by, get_by, set_by, sent_by, picked, received_by, comm_by, enter_by, cut_by, pin_by, print_by, probe_by, refuse_by, attempt_by}
 use Rattle.plain_language.proofs.Applying.{get_inserted}
 use Rattle.journal_laws.proofs.Stepping.{step_of}
 use Rattle.journal_laws.proofs.Surviving.{some_is}

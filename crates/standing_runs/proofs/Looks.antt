@@ -1,17 +1,15 @@
 -- What a thread's expression becomes may be a thread's again.
-use Rattle.std.proofs.Common.{◌≡◌, ℕ, zero, suc, ◌+◌, ◌<◌, ◌≤◌, Bool, true, false, List, [], ◌∷◌, ◌++◌, length, Option, Some, None, IsSomeAnd, IfSome, nat_le, nat_lt, refl, sym, ap, subst, ◌∙◌, if◌then◌else◌, arith}
+use Rattle.std.proofs.Common.{◌≡◌, ℕ, ◌+◌, ◌≤◌, true, false, List, [], ◌∷◌, length, Option, Some, None, IsSomeAnd, IfSome, nat_le, nat_lt, refl, ap, if◌then◌else◌, arith}
 use Rattle.std.specs.List.{AllByRecursion}
 use Rattle.std.proofs.lemmas.Bool.{and_parts}
 use Rattle.std.proofs.lemmas.Bool.Decides.{nat_tests}
 use Rattle.stab_base.specs.Datum.{Datum, depth_of, leaves_of, pair}
 use Rattle.stab_base.specs.Limits.{max_depth, max_leaves}
-use Rattle.stab_base.specs.declared.fault.Fault.{Fault}
 use Rattle.stab_base.specs.declared.fault.Fault.TheVariants.{TooDeep}
 use Rattle.stab_code.specs.Program.{ProgramParts}
 use Rattle.stab_code.specs.Valid.{IsValid}
-use Rattle.plain_language.specs.declared.head.Head.{Head}
 use Rattle.plain_language.specs.declared.head.Head.TheVariants.{Section}
-use Rattle.plain_language.specs.Depth.{depth, depth_of_parts, max_expr_depth}
+use Rattle.plain_language.specs.Depth.{depth, depth_of_parts}
 use Rattle.plain_language.specs.Expression.{Expr, value, variable, failed, form, Parts, none, part}
 use Rattle.plain_language.specs.Look.{answered, entered, look, look_at, look_by}
 use Rattle.plain_language.specs.Outcome.{Outcome, becomes, fails, acts, outcome}
@@ -21,7 +19,7 @@ use Rattle.plain_language.specs.Table.{Look, done, fault, act, pure}
 use Rattle.standing_runs.specs.Numbers.{NumbersFit}
 use Rattle.standing_runs.specs.Standing.{IsBounded, IsThread}
 use Rattle.expression_text.specs.Spelling.{items_of}
-use Rattle.standing_runs.specs.Whole.{bound_by, IsForm, IsValue, IsWhole, AreWhole}
+use Rattle.standing_runs.specs.Whole.{bound_by, IsValue, IsWhole, AreWhole}
 use Rattle.standing_runs.proofs.Bodies.{body_new}
 use Rattle.standing_runs.proofs.Heights.{back_expr, deep_within, high_within, IsLow, IsLowRedex, low_within}
 use Rattle.standing_runs.proofs.Outcomes.{IsNew, IsNewAct, IsOutcome, outcome_new}

@@ -1,5 +1,5 @@
 -- What a redex of a whole expression does is whole and low.
-use Rattle.std.proofs.Common.{◌≡◌, ℕ, zero, suc, ◌+◌, ◌<◌, ◌≤◌, ◌^◌, Bool, true, false, ◌&&◌, ◌||◌, nat_eq, max, List, [], ◌∷◌, ◌++◌, length, Option, Some, None, ℤ, pos, negsuc, ◌+ℤ◌, ◌-ℤ◌, ◌*ℤ◌, int_div, int_rem, unsigned_abs, nat_lt, slice_get, FitsSigned, refl, sym, ap, subst, ◌∙◌, if◌then◌else◌, arith}
+use Rattle.std.proofs.Common.{◌≡◌, ℕ, zero, suc, ◌+◌, ◌<◌, ◌≤◌, ◌^◌, Bool, true, false, ◌||◌, nat_eq, List, [], ◌∷◌, length, Option, Some, None, ℤ, pos, negsuc, ◌+ℤ◌, ◌-ℤ◌, ◌*ℤ◌, int_div, int_rem, unsigned_abs, slice_get, FitsSigned, refl, sym, ap, subst, if◌then◌else◌, arith}
 use Rattle.std.specs.Int.{w64}
 use Rattle.std.specs.List.{AllByRecursion}
 use Rattle.std.specs.Ordering.{int_eq}
@@ -12,15 +12,15 @@ use Rattle.stab_code.specs.declared.head.Op.{Op}
 use Rattle.stab_code.specs.declared.head.Op.TheVariants.{Or, And, Eq, Ne, Lt, Le, Gt, Ge, Add, Sub, Mul, Div, Rem}
 use Rattle.plain_language.specs.declared.head.Head.{Head}
 use Rattle.plain_language.specs.declared.head.Head.TheVariants.{Block, If, Two, Not, Neg, Pair, Fst, Snd, Call, Spawn, Stable, NewChan, NewRef, Get, Set, Send, Recv, Pick, Stabilize, Cut, Pin, Print, Probe, Attempt, Section}
-use Rattle.plain_language.specs.Expression.{Expr, value, variable, failed, form, Parts, none, part, put_parts, only}
+use Rattle.plain_language.specs.Expression.{Expr, value, Parts, none, part, put_parts, only}
 use Rattle.plain_language.specs.Numbers.{fits_word}
 use Rattle.plain_language.specs.Outcome.{Outcome, becomes, fails, acts, with_one, with_two, with_truth, with_number, with_chan, with_reference, with_pair, with_numbers, number, divided, by_operator, waiting_one, two_of, block_of, after_item, branch_of, pair_of, called, outcome}
 use Rattle.plain_language.specs.Program.{body}
 use Rattle.plain_language.specs.Redex.{first_counts_alone, after_values}
 use Rattle.plain_language.specs.Table.{Act, spawns, makes_ref, sets, sends, enters, prints}
-use Rattle.expression_text.specs.Spelling.{arity, count, items_of}
+use Rattle.expression_text.specs.Spelling.{count, items_of}
 use Rattle.standing_runs.specs.Numbers.{IsSlot}
-use Rattle.standing_runs.specs.Whole.{bound_by, is_bound, IsValue, IsForm, IsWhole, AreWhole, Takes}
+use Rattle.standing_runs.specs.Whole.{bound_by, IsValue, IsForm, IsWhole, AreWhole, Takes}
 use Rattle.standing_runs.proofs.Putting.{height, heights, heights_put, count_put, put_all, Covers}
 use Rattle.standing_runs.proofs.Redexes.{count_after, split_left}
 

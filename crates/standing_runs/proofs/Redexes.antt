@@ -1,10 +1,9 @@
 -- The redex of a whole expression, and the forms round it.
-use Rattle.std.proofs.Common.{◌≡◌, ℕ, zero, suc, ◌+◌, Bool, true, false, List, [], ◌∷◌, ◌++◌, length, Option, Some, None, IsSomeAnd, IfSome, refl, sym, ap, subst, ◌∙◌, if◌then◌else◌, arith}
+use Rattle.std.proofs.Common.{◌≡◌, ℕ, suc, ◌+◌, Bool, true, false, List, [], ◌∷◌, ◌++◌, length, Option, Some, None, IsSomeAnd, refl, sym, ap, subst, ◌∙◌, if◌then◌else◌, arith}
 use Rattle.std.specs.List.{AllByRecursion}
 use Rattle.std.proofs.lemmas.Bool.{false≢true}
 use Rattle.stab_base.specs.Datum.{Datum}
 use Rattle.stab_code.specs.Program.{ProgramParts}
-use Rattle.stab_code.specs.declared.head.Op.TheVariants.{Or, And}
 use Rattle.plain_language.specs.declared.head.Head.{Head}
 use Rattle.plain_language.specs.declared.head.Head.TheVariants.{Block}
 use Rattle.plain_language.specs.Expression.{Expr, value, variable, failed, form, Parts, none, part}

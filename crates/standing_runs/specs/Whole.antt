@@ -1,5 +1,5 @@
 -- Which values and which expressions a run of a program has.
-use Rattle.std.specs.Prelude.{◌≡◌, ℕ, ◌+◌, ◌<◌, ◌^◌, ◌==◌, ⊤, Bool, true, List, [], ◌∷◌, ◌++◌, length, Option, Some, None, FitsSigned, slice_get}
+use Rattle.std.specs.Prelude.{◌≡◌, ℕ, ◌<◌, ◌^◌, ◌==◌, ⊤, Bool, true, List, [], ◌∷◌, ◌++◌, length, Option, Some, None, FitsSigned, slice_get}
 use Rattle.std.specs.Int.{w64}
 use Rattle.std.specs.List.{AllByRecursion, list_any}
 use Rattle.stab_base.specs.Datum.{Datum, int, text, pair}
