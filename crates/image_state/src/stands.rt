@@ -6,7 +6,6 @@ ghost use Rattle.image_state.specs.Held.{known_of};
 ghost use Rattle.image_state.specs.Stands.{bound_at, head_stands, parts_stand, stands, takes, thread_stands};
 
 use crate::bounds::Bounds;
-use crate::redex::is_over;
 use plain_language::{Expr, Head};
 use stab_base::{FnId, NoMemory};
 use std::alloc::Global;
@@ -21,7 +20,7 @@ impl Bounds<'_> {
         }
         let mut bound = Vec::new(alloc);
         let fits = self.stands(&mut bound, e)?;
-        Ok(fits && !is_over(e))
+        Ok(fits && !e.is_over())
     }
 
     // Whether it may stand where these slots are bound. The slots stay.
