@@ -10,7 +10,7 @@ ghost use Rattle.image_commands.specs.Saved.{IsSaved};
 use crate::cuts::cut_at;
 use stab_base::NoMemory;
 use stab_code::{Job, Program};
-use stab_image::{image_at, put_image};
+use stab_image::{history_is_right, image_at, put_image};
 use stab_journal::History;
 use std::alloc::Global;
 use std::sync::Arc;
@@ -75,6 +75,7 @@ fn saved_at(
         return Ok(Saved::NoCut);
     };
     let image = image_at(alloc, text, job, history, q)?;
+    history_is_right(&image);
     let mut out = Vec::new(alloc);
     put_image(alloc, &image, &mut out)?;
     Ok(Saved::Text(out))

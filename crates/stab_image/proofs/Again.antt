@@ -47,19 +47,19 @@ module _ {Y : Type 0} (f : Line → Option Y) where
       ∙ ap (λ (l : List Y). x ++ l) (filter_map-append f c d ∙ ap (λ (l : List Y). l ++ filter_map f d) r ∙ ap (λ (l : List Y). y ++ l) s))
 
 module _ (i : Image) where
-  abbrev cs : List ℕ
+  abbrev pub cs : List ℕ
   cs = those (set.contains i.state.channels) 1 (i.next_chan - 1)
 
-  abbrev rs : List (ℕ × Datum)
+  abbrev pub rs : List (ℕ × Datum)
   rs = entries i.state.references
 
   abbrev ts : List (ℕ × Expr)
   ts = entries i.state.threads
 
-  abbrev chan_id : ℕ → ChanId
+  abbrev pub chan_id : ℕ → ChanId
   chan_id c = record { 0 = c }
 
-  abbrev ref_pair : ℕ × Datum → RefId × Datum
+  abbrev pub ref_pair : ℕ × Datum → RefId × Datum
   ref_pair r = (record { 0 = r.0 }, r.1)
 
   abbrev thread_pair : ℕ × Expr → ThreadId × Expr
@@ -68,13 +68,13 @@ module _ (i : Image) where
   abbrev count_pair : ℕ × Expr → ℕ × ℕ
   count_pair t = (t.0, generation_at i t.0)
 
-  channels_said : filter_map channel_of (lines_of i) ≡ each chan_id cs
+  pub channels_said : filter_map channel_of (lines_of i) ≡ each chan_id cs
   channels_said =
       of_four channel_of (each channel_line cs) (each reference_line rs) (each output_line i.state.output) (each (thread_line i) ts) (each chan_id cs) [] [] []
       (all_of channel_of channel_line chan_id (λ c. refl) cs) (nothing_of channel_of reference_line (λ r. refl) rs) (nothing_of channel_of output_line (λ v. refl) i.state.output) (nothing_of channel_of (thread_line i) (λ t. refl) ts)
       ∙ append-nil (each chan_id cs)
 
-  references_said : filter_map reference_of (lines_of i) ≡ each ref_pair rs
+  pub references_said : filter_map reference_of (lines_of i) ≡ each ref_pair rs
   references_said =
       of_four reference_of (each channel_line cs) (each reference_line rs) (each output_line i.state.output) (each (thread_line i) ts) [] (each ref_pair rs) [] []
       (nothing_of reference_of channel_line (λ c. refl) cs) (all_of reference_of reference_line ref_pair (λ r. refl) rs) (nothing_of reference_of output_line (λ v. refl) i.state.output) (nothing_of reference_of (thread_line i) (λ t. refl) ts)
@@ -101,7 +101,7 @@ module _ (i : Image) where
       (nothing_of generation_of channel_line (λ c. refl) cs) (nothing_of generation_of reference_line (λ r. refl) rs) (nothing_of generation_of output_line (λ v. refl) i.state.output) (all_of generation_of (thread_line i) count_pair (λ t. refl) ts)
 
   -- the channels
-  numbers_same : (ks : List ℕ) → each (λ (c : ChanId). c.0) (each chan_id ks) ≡ ks
+  pub numbers_same : (ks : List ℕ) → each (λ (c : ChanId). c.0) (each chan_id ks) ≡ ks
   numbers_same [] = refl
   numbers_same (k ∷ ks) = ap (λ (xs : List ℕ). k ∷ xs) (numbers_same ks)
 
@@ -113,7 +113,7 @@ module _ (i : Image) where
         | false ↦ no_more has (suc a) n c (omega arith)
       ]
 
-  those_there : (has : ℕ → Bool) (a n c : ℕ) → a ≤ c → c < a + n → list_any (λ y. nat_eq y c) (those has a n) ≡ has c
+  pub those_there : (has : ℕ → Bool) (a n c : ℕ) → a ≤ c → c < a + n → list_any (λ y. nat_eq y c) (those has a n) ≡ has c
   those_there has a zero c low high = absurd (omega arith)
   those_there has a (suc n) c low high =
       elim (nat_eq a c) as (λ t. nat_eq a c ≡ t → list_any (λ y. nat_eq y c) (those has a (suc n)) ≡ has c) [
@@ -141,6 +141,10 @@ module _ (i : Image) where
         | false ↦ λ here. without_it has (suc a) n c none
       ] refl
 
+  pub pairs_same : {X Y : Type 0} (g : ℕ × X → Y) (h : Y → ℕ × X) → ((p : ℕ × X) → h (g p) ≡ p) → (es : List (ℕ × X)) → each h (each g es) ≡ es
+  pairs_same g h same [] = refl
+  pairs_same {X} g h same (e ∷ es) = ap (λ (f : ℕ × X). f ∷ each h (each g es)) (same e) ∙ ap (λ (fs : List (ℕ × X)). e ∷ fs) (pairs_same g h same es)
+
   module _ (right : IsRight i) where
     channel_same : (c : ℕ) → set.contains (from_list {R = nat_cmp} cs) c ≡ set.contains i.state.channels c
     channel_same c =
@@ -157,10 +161,6 @@ module _ (i : Image) where
     channels_again =
         ap (λ (ks : List ChanId). from_list {R = nat_cmp} (each (λ (c : ChanId). c.0) ks)) channels_said ∙ ap (λ (ks : List ℕ). from_list {R = nat_cmp} ks) (numbers_same cs)
         ∙ same_set nat_cmp_total nat_cmp-IsAntisymmetric (from_list cs) i.state.channels channel_same
-
-    pairs_same : {X Y : Type 0} (g : ℕ × X → Y) (h : Y → ℕ × X) → ((p : ℕ × X) → h (g p) ≡ p) → (es : List (ℕ × X)) → each h (each g es) ≡ es
-    pairs_same g h same [] = refl
-    pairs_same {X} g h same (e ∷ es) = ap (λ (f : ℕ × X). f ∷ each h (each g es)) (same e) ∙ ap (λ (fs : List (ℕ × X)). e ∷ fs) (pairs_same g h same es)
 
     references_again : from_entries {R = nat_cmp} (each (λ (r : RefId × Datum). (r.0.0, r.1)) (filter_map reference_of (lines_of i))) ≡ i.state.references
     references_again =

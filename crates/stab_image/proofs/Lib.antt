@@ -11,6 +11,9 @@ pub mod Bare
 pub mod TextOf
 pub mod LinesOf
 pub mod Again
+pub mod Expressions
+pub mod Ordered
+pub mod Righting
 pub mod ReadLaws
 pub mod Sounds
 pub mod ReadSteps

@@ -8,6 +8,7 @@ mod named;
 mod put;
 mod read;
 mod resuming;
+mod right;
 
 pub use at::image_at;
 pub use fault::ImageFault;
@@ -16,3 +17,4 @@ pub use image_run::Resumed;
 pub use put::put_image;
 pub use read::read_image;
 pub use resuming::resume;
+pub use right::history_is_right;

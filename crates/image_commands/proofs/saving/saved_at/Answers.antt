@@ -1,4 +1,4 @@
-use Rattle.std.proofs.Common.{ℕ, List, ◌++◌, ap, ◌∙◌, arith}
+use Rattle.std.proofs.Common.{ℕ, List, ◌++◌, take, ap, ◌∙◌, arith}
 use Rattle.stab_image.specs.ImageText.{text_of_image}
 use Rattle.stab_image.proofs.Cutting.{is_there}
 use Rattle.image_commands.proofs.saving.saved_at.Goals as goal
@@ -14,5 +14,8 @@ returns c = record {
   image = c.in_ok-image.image;
   stands = c.in_ok-image.ensures.stands;
   text_is = c.in_ok-image.ensures.text;
-  bytes_are = c.in_ok-put_image.ensures.written ∙ ap (λ (front : List ℕ). front ++ text_of_image c.in_ok-image.image) c.new-out.ensures.items;
+  is_text = record {
+    bytes_are = c.in_ok-put_image.ensures.written ∙ ap (λ (front : List ℕ). front ++ text_of_image c.in_ok-image.image) c.new-out.ensures.items;
+    right = c.history_is_right.ensures c.args.job.now.program c.args.job.now.script (take c.in-Some.q.0 c.args.history.now.events) c.in_ok-image.ensures.stands;
+  };
 }
