@@ -6,13 +6,14 @@ ghost use Rattle.std.specs.VecDeque.{deque_len};
 ghost use Rattle.checkpoint_store.specs.Saved.{Place, before, at, same_place};
 ghost use Rattle.checkpoint_store.specs.Layout.{is_below, places_of, found, spare_in, Rises, IsKept};
 
+use crate::place::NarrowPlace;
 use stab_base::{Seq, ThreadId};
 use std::collections::VecDeque;
 
 /// What a thread had before an event, or a hole where that was taken out.
 #[derive(Drop)]
 pub struct Entry<C> {
-    pub place: (Seq, ThreadId),
+    pub place: NarrowPlace,
     pub control: Option<C>,
 }
 
@@ -41,7 +42,7 @@ pub fn drop_before<C: Drop>(entries: &mut Entries<C>, q: Seq)
     ensures spare { spare_in entries.old ≤ spare_in entries.new }
 {
     while let Some(first) = entries.front() {
-        if first.place.0.0 >= q.0 {
+        if first.place.event() >= q.0 {
             break;
         }
         let _first = entries.pop_front();
@@ -76,7 +77,7 @@ fn count_below<C>(entries: &Entries<C>, place: (Seq, ThreadId)) -> usize
         let at = probe(low, high, wish);
         let past = step;
         step = step.saturating_mul(2).saturating_add(1);
-        if below(entries[at].place, place) {
+        if entries[at].place.is_below(place) {
             low = at + 1;
             wish = low.saturating_add(past);
         } else {
@@ -103,8 +104,9 @@ fn probe(low: usize, high: usize, wish: usize) -> usize
 fn guess<C>(entries: &Entries<C>, q: Seq) -> usize {
     match (entries.front(), entries.back()) {
         (Some(first), Some(last)) => {
-            let to_last = last.place.0.0.saturating_sub(first.place.0.0);
-            let to_event = q.0.saturating_sub(first.place.0.0);
+            let start = first.place.event();
+            let to_last = last.place.event().saturating_sub(start);
+            let to_event = q.0.saturating_sub(start);
             share(to_event, to_last, entries.len())
         }
         _ => 0,
@@ -118,18 +120,6 @@ fn share(part: u64, whole: u64, most: usize) -> usize {
     }
     let share = part.saturating_mul(most as u64) / whole;
     usize::try_from(share).unwrap_or(most)
-}
-
-fn below(a: (Seq, ThreadId), b: (Seq, ThreadId)) -> bool
-    ensures { result ≡ is_below a b }
-{
-    a.0.0 < b.0.0 || a.0.0 == b.0.0 && a.1.0 < b.1.0
-}
-
-fn same(a: (Seq, ThreadId), b: (Seq, ThreadId)) -> bool
-    ensures { result ≡ same_place a b }
-{
-    b.0.0 == a.0.0 && b.1.0 == a.1.0
 }
 
 // Takes out what the i-th entry has, where it has this place.
@@ -148,7 +138,7 @@ fn take_at<C: Drop>(entries: &mut Entries<C>, i: usize, place: (Seq, ThreadId)) 
         return None;
     }
     let entry = &mut entries[i];
-    if !same(entry.place, place) {
+    if !entry.place.is(place) {
         return None;
     }
     entry.control.take()
@@ -166,7 +156,7 @@ fn empty_from<C: Drop>(entries: &mut Entries<C>, i: usize, q: Seq)
 {
     for k in i..entries.len() {
         let entry = &mut entries[k];
-        if entry.place.0.0 != q.0 {
+        if entry.place.event() != q.0 {
             break;
         }
         entry.control = None;

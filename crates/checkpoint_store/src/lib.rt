@@ -2,6 +2,7 @@
 #![tactic(auto)]
 
 mod entries;
+mod place;
 mod store;
 
 pub use store::Store;

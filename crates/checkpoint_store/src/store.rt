@@ -1,11 +1,12 @@
 //! Controls, each under an event and a thread.
-ghost use Rattle.std.specs.Prelude.{◌≡◌, ◌-◌, ◌≤◌, not, nat_eq, nat_lt, Some, None, IsSome, OnOk, IsOk, if◌then◌else◌};
+ghost use Rattle.std.specs.Prelude.{◌≡◌, ◌-◌, ◌<◌, ◌≤◌, not, nat_eq, nat_lt, Some, None, IsSome, OnOk, IsOk, if◌then◌else◌};
 ghost use Rattle.std.specs.FinMap as map;
 ghost use Rattle.stab_base.specs.declared.numbers.Seq.{Seq};
 ghost use Rattle.stab_base.specs.declared.numbers.ThreadId.{ThreadId};
 ghost use Rattle.checkpoint_store.specs.Saved.{saved_at, is_place, IsBelow, before, at};
 
 use crate::entries::{self, Entries, Entry};
+use crate::place::NarrowPlace;
 use stab_base::{NoMemory, Seq, ThreadId};
 use std::alloc::Global;
 use std::collections::VecDeque;
@@ -59,6 +60,7 @@ impl<C: Drop> Store<C> {
     /// one event in the order of their threads.
     pub fn save(&mut self, q: Seq, t: ThreadId, control: C)
         requires spare { 1 ≤ self.old.spare }
+        requires number { q.0 < 4294967296 }
         requires last { (r : Seq) (u : ThreadId) → IsSome (saved_at self.old r u) → IsBelow (r, u) (q, t) }
         ensures after { self.new.controls ≡ map.insert self.old.controls (q, t) control }
         ensures saved { (r : Seq) (u : ThreadId) → saved_at self.new r u
@@ -66,7 +68,7 @@ impl<C: Drop> Store<C> {
         ensures spare { self.new.spare ≡ self.old.spare - 1 }
     {
         self.entries.push_back_reserved(Entry {
-            place: (q, t),
+            place: NarrowPlace::new(q, t),
             control: Some(control),
         });
     }

@@ -30,6 +30,8 @@ pub mod SingleLabels
 pub mod SinglePrints
 -- What the parts of a book need for the step of an act, once the pure steps are pushed.
 pub mod Needed
+-- An act's step has a number of 32 bits, as a saved control has place for.
+pub mod Narrow
 -- What is left of a book once a thread has made a channel, whose lines were made with the room for its step.
 pub mod Opened
 -- Each number of 64 bits may be what a probe gets.

@@ -169,6 +169,7 @@ impl Parts {
     /// Saves two controls under one event, in the order of their threads.
     fn save_both(&mut self, q: Seq, one: (ThreadId, Control), other: (ThreadId, Control))
         requires spare { 2 ≤ self.old.store.spare }
+        requires number { q.0 < 4294967296 }
         requires last { (r : Seq) (u : ThreadId) → IsSome (saved_at self.old.store r u) → r.0 < q.0 }
         requires apart { one.0.0 ≢ other.0.0 }
         ensures saved { AreBothSaved self.old.store self.new.store q one other
@@ -185,6 +186,7 @@ impl Parts {
     /// Like `save_both`, for threads in the order of their numbers.
     fn save_in_order(&mut self, q: Seq, first: (ThreadId, Control), second: (ThreadId, Control))
         requires spare { 2 ≤ self.old.store.spare }
+        requires number { q.0 < 4294967296 }
         requires last { (r : Seq) (u : ThreadId) → IsSome (saved_at self.old.store r u) → r.0 < q.0 }
         requires order { first.0.0 < second.0.0 }
         ensures saved { AreBothSaved self.old.store self.new.store q first second }

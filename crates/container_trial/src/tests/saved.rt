@@ -47,6 +47,7 @@ type Plain = Vec<(u64, u32, u64)>;
 // Saves a control of an event behind all those that have one.
 fn save_next(store: &mut Store<u64>, q: u64, t: u32, control: u64)
     requires spare { 1 ≤ store.old.spare }
+    requires number { q < 4294967296 }
     requires before { (r : Seq) (u : ThreadId) → IsSome (saved_at store.old r u) → r.0 < q }
     ensures { (r : Seq) (u : ThreadId) → IsSome (saved_at store.new r u) → r.0 < q + 1 }
 {

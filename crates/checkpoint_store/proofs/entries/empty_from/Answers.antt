@@ -15,7 +15,7 @@ loop-k-preserved g c =
     let within : c.loop-k.k < length es = omega (arith, c.loop-k.entries.ok.0) in
     let rises : Rises (places_of es) = subst Rises (sym c.loop-k.invariant.places) c.requires.rises in
     record {
-      left = λ x. emptied-elsewhere es c.loop-k.k e h c.args.q x rises within c.index_mut-entry.ensures.value refl refl c.if-entry-q.false ∙ c.loop-k.invariant.left x;
+      left = λ x. emptied-elsewhere es c.loop-k.k e h c.args.q x rises within c.index_mut-entry.ensures.value refl refl (sym c.event.ensures ∙ c.if-event-q.false) ∙ c.loop-k.invariant.left x;
       holes = holes-more es c.args.i c.loop-k.k h within refl c.loop-k.invariant.holes;
       places = places-set es c.loop-k.k e h within c.index_mut-entry.ensures.value refl ∙ c.loop-k.invariant.places;
       length_is = length-set es c.loop-k.k h ∙ c.loop-k.invariant.length_is;
@@ -30,13 +30,13 @@ returns-after-loop-k-clause-left g c = λ x.
     (none-at es c.args.entries.now.items c.args.i c.loop-k.k c.args.q x c.loop-k.invariant.places c.requires.below c.loop-k.invariant.holes (λ j d late within. absurd (omega arith)))
     (c.loop-k.invariant.left x)
 
-pub returns-then-entry-q-clause-left : goal.returns-then-entry-q-clause-left
-returns-then-entry-q-clause-left g c = λ x.
+pub returns-then-event-q-clause-left : goal.returns-then-event-q-clause-left
+returns-then-event-q-clause-left g c = λ x.
     let es = c.loop-k.entries.items in
     let e = c.index_mut-entry.result.now in
     let within : c.loop-k.k < length es = omega (arith, c.loop-k.entries.ok.0) in
     let rises : Rises (places_of es) = subst Rises (sym c.loop-k.invariant.places) c.requires.rises in
-    let high = after-from es c.args.entries.now.items c.args.i c.loop-k.k e c.args.q c.loop-k.invariant.places rises (omega arith) within c.loop-k.invariant.length_is c.index_mut-entry.ensures.value c.requires.rest c.if-entry-q.true in
+    let high = after-from es c.args.entries.now.items c.args.i c.loop-k.k e c.args.q c.loop-k.invariant.places rises (omega arith) within c.loop-k.invariant.length_is c.index_mut-entry.ensures.value c.requires.rest (λ same. c.if-event-q.true (c.event.ensures ∙ same)) in
     ap (λ xs. found xs x) (ap (slice_set es c.loop-k.k) c.index_mut-entry.ensures.value ∙ set-get_or es c.loop-k.k e)
     ∙ taken_where (at c.args.q x) (found es x) _ (none-at es c.args.entries.now.items c.args.i c.loop-k.k c.args.q x c.loop-k.invariant.places c.requires.below c.loop-k.invariant.holes high)
     (c.loop-k.invariant.left x)

@@ -19,18 +19,18 @@ returns-then-i-len-clause-left g c = λ k.
     let es = c.args.entries.now.items in
     found-absent es c.args.place k (absent-below es c.args.place (λ j d low within. c.requires.below j d low (omega (arith, c.args.entries.now.ok.0))))
 
-pub returns-then-not-same-clause-taken : goal.returns-then-not-same-clause-taken
-returns-then-not-same-clause-taken g c =
+pub returns-then-not-is-clause-taken : goal.returns-then-not-is-clause-taken
+returns-then-not-is-clause-taken g c =
     let es = c.args.entries.now.items in
     let inside : c.args.i < length es = omega (arith, c.args.entries.now.ok.0) in
-    let absent = absent-beyond es c.args.i c.args.place c.index_mut-entry.result.now c.requires.rises inside c.index_mut-entry.ensures.value c.requires.below c.requires.rest (sym c.same.ensures ∙ c.if-not-same.true) in
+    let absent = absent-beyond es c.args.i c.args.place c.index_mut-entry.result.now c.requires.rises inside c.index_mut-entry.ensures.value c.requires.below c.requires.rest (sym c.is.ensures ∙ c.if-not-is.true) in
     sym (found-none es c.args.place (λ j d within same. let other = absent j d within in cc))
 
-pub returns-then-not-same-clause-left : goal.returns-then-not-same-clause-left
-returns-then-not-same-clause-left g c = λ k.
+pub returns-then-not-is-clause-left : goal.returns-then-not-is-clause-left
+returns-then-not-is-clause-left g c = λ k.
     let es = c.args.entries.now.items in
     let inside : c.args.i < length es = omega (arith, c.args.entries.now.ok.0) in
-    let absent = absent-beyond es c.args.i c.args.place c.index_mut-entry.result.now c.requires.rises inside c.index_mut-entry.ensures.value c.requires.below c.requires.rest (sym c.same.ensures ∙ c.if-not-same.true) in
+    let absent = absent-beyond es c.args.i c.args.place c.index_mut-entry.result.now c.requires.rises inside c.index_mut-entry.ensures.value c.requires.below c.requires.rest (sym c.is.ensures ∙ c.if-not-is.true) in
     ap (λ xs. found xs k) (ap (slice_set es c.args.i) c.index_mut-entry.ensures.value ∙ set-get_or es c.args.i c.index_mut-entry.result.now)
     ∙ found-absent es c.args.place k absent
 
@@ -39,7 +39,7 @@ returns-clause-taken g c =
     let es = c.args.entries.now.items in
     let e = c.index_mut-entry.result.now in
     let inside : c.args.i < length es = omega (arith, c.args.entries.now.ok.0) in
-    let here : same_place (slice_index_or es c.args.i e).place c.args.place ≡ true = subst (λ x. same_place x.place c.args.place ≡ true) c.index_mut-entry.ensures.value (sym c.same.ensures ∙ c.if-not-same.false) in
+    let here : same_place (slice_index_or es c.args.i e).place c.args.place ≡ true = subst (λ x. same_place x.place c.args.place ≡ true) c.index_mut-entry.ensures.value (sym c.is.ensures ∙ c.if-not-is.false) in
     c.take.ensures.value
     ∙ ap (λ x. x.control) c.index_mut-entry.ensures.value
     ∙ sym (found-at es c.args.i e c.args.place inside here (λ j early. not_below _ c.args.place (c.requires.below j e (omega arith) early)))
@@ -49,7 +49,7 @@ returns-clause-left g c = λ k.
     let es = c.args.entries.now.items in
     let e = c.index_mut-entry.result.now in
     let inside : c.args.i < length es = omega (arith, c.args.entries.now.ok.0) in
-    let place = same-place e.place c.args.place (sym c.same.ensures ∙ c.if-not-same.false) in
+    let place = same-place e.place c.args.place (sym c.is.ensures ∙ c.if-not-is.false) in
     found-emptied es c.args.i e (record { place = e.place; control = c.take.new.self }) k c.requires.rises inside c.index_mut-entry.ensures.value refl
     ∙ ap (λ o. cond (same_place e.place k) o (found es k)) c.take.ensures.after
     ∙ ap (λ p. cond (same_place p k) None (found es k)) place

@@ -2,6 +2,7 @@ use Rattle.std.proofs.Common.{◌≤◌, refl, sym, ap, subst, ◌∙◌}
 use Rattle.commit_book.specs.declared.parts.Parts.{Parts}
 use Rattle.commit_book.proofs.Acting.Acted.{named_so, needs_few, needs_there}
 use Rattle.commit_book.proofs.Acting.Lasted.{enter_lasts}
+use Rattle.commit_book.proofs.Acting.Narrow.{narrow}
 use Rattle.commit_book.proofs.Acting.Needed.{nodes_above, save_behind}
 use Rattle.commit_book.proofs.Keeping.SeenAfter.{kept_same}
 use Rattle.commit_book.proofs.Acting.SingleActs.{few_at, may_begin}
@@ -55,6 +56,10 @@ push-q-requires-clause-label c =
 pub save-requires-clause-spare : goal.save-requires-clause-spare
 save-requires-clause-spare c =
     subst (λ (k : Saved ControlView). 1 ≤ k.spare) (sym (ap (λ (k : Parts). k.store) c.push-q.ensures.rest ∙ ap (λ (k : Parts). k.store) c.begin-end.ensures.rest)) c.in-Ok.ensures.place
+
+pub save-requires-clause-number : goal.save-requires-clause-number
+save-requires-clause-number c =
+    narrow c.args.job.now c.args.self.now c.args.lease.now c.args.progress c.requires.may c.plan_enter.new.self c.begin-end.new.self c.in-Ok.ensures.before c.begin-end.ensures.history c.push-q.result.0 c.push-q.ensures.number
 
 pub save-requires-clause-last : goal.save-requires-clause-last
 save-requires-clause-last c =

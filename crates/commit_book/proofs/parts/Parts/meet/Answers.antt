@@ -10,6 +10,7 @@ use Rattle.commit_book.specs.declared.parts.Parts.{Parts}
 use Rattle.commit_book.specs.Meetings.{CanMeetAs, partner_in}
 use Rattle.commit_book.proofs.Acting.CommCalls.{done_exchanged, few_first, few_second, kept_exchanged, mate_there, own_there, saved_low, store_still, two_apart}
 use Rattle.commit_book.proofs.Acting.MeetNeeds.{may_meet, partner_may}
+use Rattle.commit_book.proofs.Acting.Narrow.{narrow}
 use Rattle.commit_book.proofs.Acting.PairNeeds.{meeting_label, nodes_low}
 use Rattle.commit_book.proofs.Keeping.SeenAfter.{kept_same}
 use Rattle.commit_book.proofs.Acting.SingleActs.{few_at, may_begin}
@@ -97,6 +98,10 @@ save_both-requires-clause-spare c =
     let withdrawn : Parts = record noted { offers = c.withdraw.new.self } in
     let noted_rest : noted ≡ record c.begin-end.new.self { history = noted.history; graph = noted.graph } = ap (λ (k : Parts). record k { graph = c.add.new.self }) c.push-q.ensures.rest in
     subst (λ (n : ℕ). 2 ≤ n) (sym (ap (λ k. k.spare) (store_still c.args.job.now c.args.self.now c.args.lease.now c.args.progress c.requires.may c.requires.meets.offer c.requires.meets.offers c.args.meeting c.requires.meets.meets c.plan_meeting.new.self c.begin-end.new.self noted withdrawn c.in-Ok.ensures.before c.begin-end.ensures.history c.begin-end.ensures.rest noted_rest refl c.in-Ok.mine c.in-Ok.other c.go_on-before.result c.thread-t.result.0 c.partner_of-u.result.0 c.deref.result.now c.end.result.now (c.deref.ensures ∙ c.program.ensures.value) c.thread-t.ensures c.partner_of-u.ensures c.end.ensures.end c.in-Ok.ensures.met c.go_on-before.new.self c.go_on-before.ensures.before c.go_on-before.ensures.gone c.go_on.new.self c.go_on.result c.go_on.ensures.before c.go_on.ensures.gone c.push-q.result c.push-q.ensures.number) ∙ ap (λ (k : Parts). k.store.spare) c.begin-end.ensures.rest)) c.in-Ok.ensures.places
+
+pub save_both-requires-clause-number : goal.save_both-requires-clause-number
+save_both-requires-clause-number c =
+    narrow c.args.job.now c.args.self.now c.args.lease.now c.args.progress c.requires.may c.plan_meeting.new.self c.begin-end.new.self c.in-Ok.ensures.before c.begin-end.ensures.history c.push-q.result.0 c.push-q.ensures.number
 
 pub save_both-requires-clause-last : goal.save_both-requires-clause-last
 save_both-requires-clause-last c =
