@@ -1,5 +1,5 @@
 //! A gate at which the board is read.
-ghost use Rattle.std.specs.Prelude.{◌≡◌};
+ghost use Rattle.std.specs.Prelude.{◌≡◌, length, IfOk};
 ghost use Rattle.std.specs.Arc.{arc_value};
 
 use stab_base::NoMemory;
@@ -42,9 +42,10 @@ impl<'a, R: Wait, G: Gate> LookingGate<'a, R, G> {
     ) -> Result<Self, NoMemory>
         requires own { writer.old.board ≡ arc_value board.now }
         ensures writer { writer.new ≡ writer.old }
+        ensures readers { IfOk result (λ g. length g.readers.items ≡ workers) }
     {
         let mut readers = Vec::new(alloc);
-        for _ in 0..workers {
+        for _made in 0..workers {
             let pass = board.reader(writer);
             let board = board.clone()?;
             readers.push(Mutex::new(Reader { board, pass }))?;
