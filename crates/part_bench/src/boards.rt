@@ -94,7 +94,8 @@ fn run_shown<
     run_on::<Watched<'_, K, R>, C, S, R>(rt, alloc, state, commits, stale, plan)
 }
 
-fn passes_of(
+// Passes of so many readers.
+pub(crate) fn passes_of(
     alloc: Global,
     board: &Board,
     writer: &mut WritePass,
@@ -112,7 +113,7 @@ fn passes_of(
 }
 
 // Each reader reads in a thread of its own until the turns are done. The answer is how often all of them have read.
-fn read_all<R: Threads + Wait + Sync>(
+pub(crate) fn read_all<R: Threads + Wait + Sync>(
     rt: &R,
     board: &Board,
     passes: Vec<ReadPass>,
