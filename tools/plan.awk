@@ -69,7 +69,7 @@ function left_at(minute,    i, sum) {
 
 END {
     # How much faster a crate is proved on all processors than on one.
-    faster = 1 + (lanes - 1) / 6
+    faster = 1 + (lanes - 1) / 18
     list("stab_cli")
     for (i = 1; i <= crates; i++) under[i] = below(crate[i], i)
     for (few = 0; few < crates; few++) for (i = 1; i <= crates; i++) if (under[i] == few) take(crate[i])
