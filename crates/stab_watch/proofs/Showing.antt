@@ -1,8 +1,9 @@
 -- What is shown of events stays true of longer lists of events, and rises.
-use Rattle.std.proofs.Common.{◌≡◌, ℕ, ◌≤◌, Bool, true, false, List, [], ◌∷◌, ◌++◌, length, refl, sym, ap, subst, ◌∙◌, arith, append_assoc, append-nil, cond, ◌||◌, ◌&&◌}
+use Rattle.std.proofs.Common.{◌≡◌, ℕ, ◌≤◌, Bool, true, false, List, [], ◌∷◌, ◌++◌, length, refl, sym, ap, subst, ◌∙◌, arith, append_assoc, append-nil, length-append, cond, ◌||◌, ◌&&◌}
 use lib.Pointwise.{bytes_decides}
 use Rattle.std.proofs.lemmas.Bool.{and_parts}
 use Rattle.std.specs.List.{AllByRecursion, sum_by}
+use Rattle.std.proofs.lemmas.List.{nil_from_length}
 use Rattle.std.proofs.lemmas.List.Sums.{sum_by-append}
 use Rattle.stab_journal.specs.declared.event.Event.{Event}
 use Rattle.stab_journal.specs.Event.{weigh}
@@ -152,3 +153,12 @@ shown_next events w t t' v u x y len n is same st counts_are at =
     let board : t' ≡ w.board = same ∙ ap (λ (k : WriterParts). k.board) is in
     let seen : u.seen ≡ w.shown ++ counts events ∷ [] = ap (λ (k : Known). k.seen) st ∙ ap (λ (k : WriterParts). k.shown ++ y ∷ []) is ∙ ap (λ (z : List ℕ). w.shown ++ z ∷ []) counts_are in
     λ i. writer_of (board i) (seen i) (at i)
+
+no_more : (whole front : List Event) → StartsWith whole front → length whole ≤ length front → whole ≡ front
+no_more whole front s short =
+    let none : s.0 ≡ [] = nil_from_length s.0 (omega (arith, ap length s.1, length-append front s.0, short)) in
+    s.1 ∙ ap (λ l. front ++ l) none ∙ append-nil front
+
+-- a history that is no longer than at the last showing is still shown
+pub still_shown : (whole : List Event) (w : WriterParts) → (front : List Event) × HasShown front w × StartsWith whole front → length whole ≤ w.len → HasShown whole w
+still_shown whole w h short = subst (λ (l : List Event). HasShown l w) (sym (no_more whole h.0 h.2 (omega (arith, short, h.1.len_is)))) h.1

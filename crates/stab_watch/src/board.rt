@@ -1,5 +1,5 @@
 //! The board.
-ghost use Rattle.std.specs.Prelude.{◌≡◌, [], List, IfOk};
+ghost use Rattle.std.specs.Prelude.{◌≡◌, [], List, length, IfOk};
 ghost use Rattle.stab_journal.specs.declared.event.Event.{Event as Events};
 ghost use Rattle.stab_watch.specs.Counts.{StartsWith, WasShown, last_words};
 ghost use Rattle.stab_watch.specs.Passes.{HasShown, Reads, new_writer, reader_of, showing, words_of};
@@ -72,6 +72,20 @@ impl Board {
         self.cell.swap_as::<Store, R>(rt, &mut writer.pass, words);
         writer.len = history.len();
         writer.now = now;
+    }
+
+    /// Shows a history that begins with the events that were shown last, where it has grown since. Then it may wait for a reader.
+    #[tactic(auto, using(crate::proofs::Showing::still_shown))]
+    pub(crate) fn show<R: Wait>(&self, rt: &R, writer: &mut WritePass, history: &History)
+        requires own { writer.old.board ≡ self.now }
+        requires shown { (front : List Events) × HasShown front writer.old × StartsWith history.now.events front }
+        ensures own { writer.new.board ≡ writer.old.board }
+        ensures same { length history.now.events ≡ writer.old.len → writer.new ≡ writer.old }
+        ensures shown { HasShown history.now.events writer.new }
+    {
+        if history.len() > writer.len {
+            self.publish(rt, writer, history);
+        }
     }
 
     /// What the writer has shown last. It is one load and takes no turn; it may wait for a store in progress.

@@ -1,4 +1,4 @@
-//! A kept state whose history is shown on a board after each call.
+//! A kept state whose history is shown on a board after each call that adds to it.
 ghost use Rattle.std.specs.Prelude.{◌≡◌};
 ghost use Rattle.std.specs.Arc.{arc_value};
 ghost use Rattle.stab_watch.specs.Passes.{HasShown};
@@ -84,7 +84,7 @@ impl<'a, K: Kept, R: Wait> Kept for Watched<'a, K, R> {
     fn serve(&mut self, worker: u32, ask: K::Ask) -> K::Answer {
         let answer = self.kept.serve(worker, ask);
         let history = self.kept.history();
-        self.board.publish(self.rt, &mut self.writer, history);
+        self.board.show(self.rt, &mut self.writer, history);
         answer
     }
 }

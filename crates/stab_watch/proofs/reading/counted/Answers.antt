@@ -1,4 +1,4 @@
-use Rattle.std.proofs.Common.{ap, ◌∙◌, sym}
+use Rattle.std.proofs.Common.{◌∙◌, sym}
 use Rattle.stab_watch.proofs.Tallying.{counts_more}
 use Rattle.stab_watch.proofs.reading.counted.Goals as goal
 
