@@ -5,6 +5,7 @@ pub mod ControlView
 pub mod Entries
 pub mod Fits
 pub mod FrameView
+pub mod Held
 pub mod Meaning
 pub mod Operands
 pub mod Place

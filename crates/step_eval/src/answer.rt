@@ -14,6 +14,7 @@ ghost use Rattle.step_eval.specs.declared.machine.Focus.TheVariants as Focus;
 
 use crate::env::Env;
 use crate::frame::Frame;
+use crate::held::Held;
 use crate::machine::{Focus, Machine};
 use crate::node::entry;
 use crate::place::{Mark, Place};
@@ -95,7 +96,7 @@ impl Machine {
     {
         let frame = Frame {
             site: Place::section(q, &self.mark),
-            done: Vec::new(self.alloc),
+            done: Held::none(),
             env: mem::replace(&mut self.env, env),
         };
         self.top = Some(frame);

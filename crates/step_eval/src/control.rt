@@ -113,7 +113,7 @@ impl Control {
         let mut machine = machine;
         let alloc = machine.alloc;
         let focus = mem::replace(&mut machine.focus, Focus::Form);
-        machine.spare = Vec::new(alloc);
+        machine.spare = None;
         let machine = Arc::new(alloc, machine)?;
         Ok(Control { focus, machine })
     }

@@ -2,10 +2,10 @@
 ghost use Rattle.std.specs.Prelude.{◌≡◌, IfOk};
 ghost use Rattle.std.specs.Arc.{arc_value};
 
-use crate::env::{Env, copied};
+use crate::env::Env;
+use crate::held::Held;
 use crate::place::Place;
-use stab_base::{NoMemory, Value};
-use std::alloc::Global;
+use stab_base::NoMemory;
 use std::marker::Model;
 use std::sync::Arc;
 
@@ -13,7 +13,7 @@ use std::sync::Arc;
 #[derive(Drop)]
 pub struct Frame {
     pub(crate) site: Place,
-    pub(crate) done: Vec<Value>,
+    pub(crate) done: Held,
     pub(crate) env: Arc<Env>,
 }
 
@@ -28,7 +28,7 @@ impl Model for Frame {
 
     ghost coded = { Prim.hlevel (codes, coded_datum, place.the_row.coded) };
 
-    ghost view = { λ f. record { site = f.site; done = f.done.items; env = arc_value f.env } };
+    ghost view = { λ f. record { site = f.site; done = f.done; env = arc_value f.env } };
 }
 
 impl Frame {
@@ -38,7 +38,7 @@ impl Frame {
     {
         Ok(Frame {
             site: self.site.copy(),
-            done: copied(*self.done.allocator(), self.done.as_slice())?,
+            done: self.done.copy()?,
             env: Arc::try_clone(&self.env)?,
         })
     }

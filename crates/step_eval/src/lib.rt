@@ -8,6 +8,7 @@ mod control;
 mod depth;
 mod env;
 mod frame;
+mod held;
 mod machine;
 mod node;
 mod place;

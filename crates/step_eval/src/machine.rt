@@ -72,7 +72,7 @@ pub(crate) struct Machine {
     pub(crate) env: Arc<Env>,
     pub(crate) top: Option<Frame>,
     pub(crate) frames: Stack<Frame>,
-    pub(crate) spare: Vec<Value>,
+    pub(crate) spare: Option<Box<Vec<Value>>>,
     pub(crate) mark: Mark,
 }
 
@@ -92,7 +92,7 @@ impl Machine {
             env,
             top: None,
             frames: Stack::new(),
-            spare: Vec::new(alloc),
+            spare: None,
             mark: Mark::none(),
         }
     }
@@ -229,7 +229,7 @@ impl Machine {
             env: Arc::try_clone(&self.env)?,
             top,
             frames: self.frames.keep()?,
-            spare: Vec::new(self.alloc),
+            spare: None,
             mark: self.mark.copy(),
         })
     }

@@ -6,6 +6,7 @@ ghost use Rattle.step_eval.specs.declared.machine.Focus.TheVariants as Focus;
 
 use crate::env::Env;
 use crate::frame::Frame;
+use crate::held::Held;
 use crate::machine::{Focus, Machine};
 use stab_base::{Fault, Same, all_same};
 
@@ -17,11 +18,17 @@ impl Env {
     }
 }
 
+impl Held {
+    fn same(&self, other: &Held) -> bool
+        ensures { IsTrue result ↔ (self.now ≡ other.now) }
+    {
+        all_same(self.values(), other.values())
+    }
+}
+
 impl Same for Frame {
     fn same(&self, other: &Frame) -> bool {
-        self.site.same(&other.site)
-            && all_same(self.done.as_slice(), other.done.as_slice())
-            && self.env.same(&other.env)
+        self.site.same(&other.site) && self.done.same(&other.done) && self.env.same(&other.env)
     }
 }
 

@@ -19,8 +19,8 @@ ghost use Rattle.step_eval.specs.View.{here_of, round_of};
 ghost use Rattle.step_eval.specs.declared.site.Site.TheVariants.{Form};
 
 use crate::act::{Act, act_at};
-use crate::env::add_copies;
 use crate::frame::Frame;
+use crate::held::{Held, make_room};
 use crate::machine::{Focus, Machine};
 use crate::node::{head_at, item_of, leaf, node_at};
 use crate::place::Place;
@@ -28,19 +28,7 @@ use crate::site::Site;
 use shared_stack::Popped;
 use stab_base::{NoMemory, Value};
 use stab_code::{NodeId, Program};
-use std::mem;
 use std::sync::Arc;
-
-/// Room for this many values, and for two at least, in a list that has none yet.
-#[inline(always)]
-fn make_room(values: &mut Vec<Value>, many: usize) -> Result<(), NoMemory>
-    ensures { values.new.items ≡ values.old.items }
-{
-    if values.capacity() == 0 {
-        values.reserve_exact(many.max(2))?;
-    }
-    Ok(())
-}
 
 /// Puts the values of the next parts after those so far, as long as they are literals or variables. Answers
 /// the first part that has to be a value and isn't, if there is one.
@@ -72,22 +60,17 @@ fn take_leaves(
 }
 
 impl Machine {
-    /// The values so far, which are then gone. Where there are none, the room for them stays.
+    /// The values so far, which are then gone.
     #[inline(always)]
-    fn take_done(&mut self) -> Vec<Value>
-        ensures done { result.items ≡ self.old.done.items }
-        ensures none { self.new.done.items ≡ [] }
+    fn take_done(&mut self) -> Result<Held, NoMemory>
+        ensures done { IfOk result (λ held. held ≡ self.old.done.items) }
+        ensures none { OnOk result (self.new.done.items ≡ []) }
         ensures site { self.new.site ≡ self.old.site }
         ensures env { arc_value self.new.env ≡ arc_value self.old.env }
         ensures round { round_of self.new ≡ round_of self.old }
         ensures mark { self.new.mark ≡ self.old.mark }
     {
-        if self.done.is_empty() {
-            return Vec::new(self.alloc);
-        }
-        let mut spare = mem::replace(&mut self.spare, Vec::new(self.alloc));
-        spare.clear();
-        mem::replace(&mut self.done, spare)
+        Held::take(self.alloc, &mut self.done, &mut self.spare)
     }
 
     /// The form at hand becomes the innermost frame, and a part's form is at hand.
@@ -99,7 +82,7 @@ impl Machine {
     {
         let frame = Frame {
             site: self.site.copy(),
-            done: self.take_done(),
+            done: self.take_done()?,
             env: Arc::try_clone(&self.env)?,
         };
         self.site = Place::form(part, 0);
@@ -194,31 +177,27 @@ impl Machine {
 
     /// The values of a frame's parts are those at hand.
     #[inline(always)]
-    fn put_done(&mut self, done: Vec<Value>)
-        ensures done { self.new.done.items ≡ done.items }
+    fn put_done(&mut self, done: Held) -> Result<(), NoMemory>
+        ensures done { OnOk result (self.new.done.items ≡ done) }
         ensures site { self.new.site ≡ self.old.site }
         ensures env { arc_value self.new.env ≡ arc_value self.old.env }
         ensures round { round_of self.new ≡ round_of self.old }
         ensures mark { self.new.mark ≡ self.old.mark }
     {
-        if done.is_empty() {
-            self.done.clear();
-        } else {
-            self.spare = mem::replace(&mut self.done, done);
-        }
+        done.put_into(&mut self.done, &mut self.spare)
     }
 
     /// A frame's form is at hand again.
     #[inline(always)]
-    fn open_own(&mut self, frame: Frame)
-        ensures here { here_of self.new ≡ frame }
+    fn open_own(&mut self, frame: Frame) -> Result<(), NoMemory>
+        ensures here { OnOk result (here_of self.new ≡ frame) }
         ensures round { round_of self.new ≡ round_of self.old }
         ensures mark { self.new.mark ≡ self.old.mark }
     {
         let Frame { site, done, env } = frame;
         self.site = site;
         self.env = env;
-        self.put_done(done);
+        self.put_done(done)
     }
 
     /// The form of a frame that others share is at hand again.
@@ -230,7 +209,7 @@ impl Machine {
         self.site = frame.site.copy();
         self.env = Arc::try_clone(&frame.env)?;
         self.done.clear();
-        add_copies(frame.done.as_slice(), &mut self.done)
+        frame.done.add_to(&mut self.done)
     }
 
     /// A frame's form is at hand, and has one value more.
@@ -241,7 +220,7 @@ impl Machine {
         ensures mark { self.new.mark ≡ self.old.mark }
     {
         match frame {
-            Popped::Own(frame) => self.open_own(frame),
+            Popped::Own(frame) => self.open_own(frame)?,
             Popped::Shared(link) => self.open_shared(link.item())?,
         }
         make_room(&mut self.done, 1)?;

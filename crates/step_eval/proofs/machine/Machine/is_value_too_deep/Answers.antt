@@ -49,5 +49,5 @@ returns-in-Form c = λ v.
     let count : c.count-round.result ≡ length round = c.count-round.ensures in
     let k = c.count-round.result - 1 in
     let long : k + 1 ≡ length round = omega arith in
-    let taken : c.len.result + 1 ≡ length f.done + 1 = ap (λ n. n + 1) (c.len.ensures ∙ c.frame.inside.done.ok.0 ∙ ap (λ (x : FrameView). length x.done) c.frame.view_is) in
+    let taken : c.len.result + 1 ≡ length f.done + 1 = ap (λ n. n + 1) (c.len.ensures.value ∙ ap (λ (x : FrameView). length x.done) c.frame.view_is) in
     c.exceeds-in-Form.ensures ∙ ap (nat_lt 1000) (sym (form-deep p c.args.self.now.mark v round f c.in-Form.n c.in-Form.from (c.len.result + 1) c.depth_of.result k c.requires first at taken long c.depth_of.ensures.depth))
