@@ -13,6 +13,7 @@ use Rattle.plain_language.specs.Redex.{frames, frames_of}
 use Rattle.step_eval.specs.declared.machine.Focus.{Focus}
 use Rattle.step_eval.specs.declared.machine.Focus.TheVariants as focus
 use Rattle.step_eval.specs.declared.machine.Machine.{Machine}
+use Rattle.step_eval.specs.declared.machine.Running.{Running}
 use Rattle.step_eval.specs.Asked.{act_at, act_next}
 use Rattle.step_eval.specs.ControlView.{Fits, focus_expr, focus_view, view_of, expr_of as expr_in}
 use Rattle.step_eval.specs.Seen.{seen_at}
@@ -34,10 +35,10 @@ module _ (p : ProgramParts) where
   frames-by (focus.Fault k) h round mk some fits = cc
 
   -- the forms round an act are the frames
-  pub act-frames : (m : Machine) → IsSome (act_next (view_of m)) → Fits p (view_of m) → frames (expr_in p (view_of m)) ≡ map (frame_at p) (round_of m)
-  act-frames m some fits = frames-by m.focus (here_of m) (round_of m) m.mark some fits
+  pub act-frames : (r : Running) → IsSome (act_next (view_of r)) → Fits p (view_of r) → frames (expr_in p (view_of r)) ≡ map (frame_at p) (round_of r.machine)
+  act-frames r some fits = frames-by r.focus (here_of r.machine) (round_of r.machine) r.machine.mark some fits
 
-  -- the same of a control that looks at an act in place of what the machine looks at
+  -- the same of a control that looks at an act beside the machine
   pub seen-frames : (f : Focus) (m : Machine) → IsSome (act_next (seen_at f m)) → Fits p (seen_at f m) → frames (expr_in p (seen_at f m)) ≡ map (frame_at p) (round_of m)
   seen-frames (focus.Begun n) m some fits = cc
   seen-frames focus.Form m some fits = cc
@@ -53,13 +54,13 @@ module _ (p : ProgramParts) where
   seen-fit (focus.Fault k) m some fits = absurd (let wrong : ⊥ = cc in wrong)
 
   -- a body that is entered, or its value
-  pub entry-expr : (m : Machine) (k : ℕ) (n : NodeId) (o : Option Datum) (vs : List Datum) (round : List FrameView) → m.focus ≡ entry_of n o → arc_value m.env ≡ vs → round_of m ≡ round → IsBodyEntry p k vs n o → expr_in p (view_of m) ≡ within_forms p round (called (body p) k vs)
-  entry-expr m k n None vs round looks envs rounds entry =
-      expr-by p m (focus.Begun n) looks
-      ∙ ap (λ e. within_forms p (round_of m) (put (slice_get e) (expr_of (tree_at p n)))) envs
-      ∙ ap (λ r. within_forms p r (put (slice_get vs) (expr_of (tree_at p n)))) rounds
+  pub entry-expr : (r : Running) (k : ℕ) (n : NodeId) (o : Option Datum) (vs : List Datum) (round : List FrameView) → r.focus ≡ entry_of n o → arc_value r.machine.env ≡ vs → round_of r.machine ≡ round → IsBodyEntry p k vs n o → expr_in p (view_of r) ≡ within_forms p round (called (body p) k vs)
+  entry-expr r k n None vs round looks envs rounds entry =
+      expr-by p r (focus.Begun n) looks
+      ∙ ap (λ e. within_forms p (round_of r.machine) (put (slice_get e) (expr_of (tree_at p n)))) envs
+      ∙ ap (λ fs. within_forms p fs (put (slice_get vs) (expr_of (tree_at p n)))) rounds
       ∙ ap (within_forms p round) (sym entry.is_called)
-  entry-expr m k n (Some v) vs round looks envs rounds entry =
-      expr-by p m (focus.Value v) looks
-      ∙ ap (λ r. within_forms p r (expr.value v)) rounds
+  entry-expr r k n (Some v) vs round looks envs rounds entry =
+      expr-by p r (focus.Value v) looks
+      ∙ ap (λ fs. within_forms p fs (expr.value v)) rounds
       ∙ ap (within_forms p round) (sym entry)

@@ -8,7 +8,7 @@ use Rattle.stab_code.specs.Program.{ProgramParts}
 use Rattle.plain_language.specs.Expression.{Expr, failed}
 use Rattle.step_eval.specs.declared.machine.Focus.{Focus}
 use Rattle.step_eval.specs.declared.machine.Focus.TheVariants as focus
-use Rattle.step_eval.specs.declared.machine.Machine.{Machine}
+use Rattle.step_eval.specs.declared.machine.Running.{Running}
 use Rattle.step_eval.specs.declared.site.Site.{Site}
 use Rattle.step_eval.specs.declared.site.Site.TheVariants.{Form, Section}
 use Rattle.step_eval.specs.Arrival.{Arrives}
@@ -22,12 +22,12 @@ use Rattle.step_eval.specs.View.{here_of, round_of}
 abbrev pub viewed : Focus → FrameView → List FrameView → Option Seq → ControlView
 viewed f h round mk = record { focus = focus_view f h; round = round; mark = mk }
 
--- what a machine holds, from its parts
-pub view-is : (m : Machine) (f : Focus) (h : FrameView) (round : List FrameView) (mk : Option Seq) → m.focus ≡ f → here_of m ≡ h → round_of m ≡ round → m.mark ≡ mk → view_of m ≡ viewed f h round mk
-view-is m f h round mk looks here rounds marks =
-    ap (λ g. viewed g (here_of m) (round_of m) m.mark) looks
-    ∙ ap (λ v. viewed f v (round_of m) m.mark) here
-    ∙ ap (λ r. viewed f h r m.mark) rounds
+-- what a running machine holds, from its parts
+pub view-is : (r : Running) (f : Focus) (h : FrameView) (round : List FrameView) (mk : Option Seq) → r.focus ≡ f → here_of r.machine ≡ h → round_of r.machine ≡ round → r.machine.mark ≡ mk → view_of r ≡ viewed f h round mk
+view-is r f h round mk looks here rounds marks =
+    ap (λ g. viewed g (here_of r.machine) (round_of r.machine) r.machine.mark) looks
+    ∙ ap (λ v. viewed f v (round_of r.machine) r.machine.mark) here
+    ∙ ap (λ fs. viewed f h fs r.machine.mark) rounds
     ∙ ap (viewed f h round) marks
 
 pub arrives-by : (p : ProgramParts) (v w : ControlView) (e g : Expr) → v ≡ w → e ≡ g → Arrives p w e → Arrives p v g
@@ -57,8 +57,8 @@ module _ (p : ProgramParts) (f : FrameView) (v : Datum) (round : List FrameView)
       omega arith
 
 -- a fault
-pub arrives-fault : (p : ProgramParts) (m : Machine) (k : Fault) → m.focus ≡ focus.Fault k → round_of m ≡ [] → m.mark ≡ None → Arrives p (view_of m) (failed k)
-arrives-fault p m k looks rounds marks =
-    arrives-by p (view_of m) (viewed (focus.Fault k) (here_of m) [] None) (failed k) (failed k)
-    (view-is m (focus.Fault k) (here_of m) [] None looks refl rounds marks) refl
+pub arrives-fault : (p : ProgramParts) (r : Running) (k : Fault) → r.focus ≡ focus.Fault k → round_of r.machine ≡ [] → r.machine.mark ≡ None → Arrives p (view_of r) (failed k)
+arrives-fault p r k looks rounds marks =
+    arrives-by p (view_of r) (viewed (focus.Fault k) (here_of r.machine) [] None) (failed k) (failed k)
+    (view-is r (focus.Fault k) (here_of r.machine) [] None looks refl rounds marks) refl
     (record { expr = refl; fits = record { focus = refl; frames = refl }; found = tt })

@@ -28,10 +28,10 @@ focus-sync : IsSync (focuses.the_field).row
 focus-sync = search (both_send-Value, both_sync-Value, sendable, crosses) depth 60 fits 100000
 
 machine-send : IsSend (machines.the_field).row
-machine-send = search (focus-send, stack-send, frame-send, both_send-Value, both_sync-Value, sendable, crosses) depth 60 fits 100000
+machine-send = search (stack-send, frame-send, both_send-Value, both_sync-Value, sendable, crosses) depth 60 fits 100000
 
 machine-sync : IsSync (machines.the_field).row
-machine-sync = search (focus-sync, stack-sync, frame-sync, both_send-Value, both_sync-Value, sendable, crosses) depth 60 fits 100000
+machine-sync = search (stack-sync, frame-sync, both_send-Value, both_sync-Value, sendable, crosses) depth 60 fits 100000
 
 pub control-send : IsSend controls.the_row
 control-send = search (machine-send, machine-sync, focus-send, sendable, crosses) depth 60 fits 100000

@@ -20,7 +20,7 @@ use Rattle.plain_language.specs.Redex.{Frame, Redex, after_values, cap, first_co
 use Rattle.plain_language.proofs.Unique.{redex-within}
 use Rattle.step_eval.specs.declared.machine.Focus.{Focus}
 use Rattle.step_eval.specs.declared.machine.Focus.TheVariants as focus
-use Rattle.step_eval.specs.declared.machine.Machine.{Machine}
+use Rattle.step_eval.specs.declared.machine.Running.{Running}
 use Rattle.step_eval.specs.declared.site.Site.{Site}
 use Rattle.step_eval.specs.declared.site.Site.TheVariants.{Form, Section}
 use Rattle.step_eval.specs.ControlView.{Fits, RedexIsFound, focus_expr, focus_view, view_of}
@@ -129,8 +129,8 @@ module _ (p : ProgramParts) where
   spine_by (focus.Fault k) h round mk fits is = ap (λ fs. spine (within_forms p fs (focus_expr p (focus_view (focus.Fault k) h)))) fits.focus ∙ sym (ap length fits.focus)
 
   -- as many forms stand round the redex as there are frames
-  pub spine_is : (m : Machine) (e : Expr) → Arrives p (view_of m) e → spine e ≡ length (round_of m)
-  spine_is m e a = ap spine (sym a.expr) ∙ spine_by m.focus (here_of m) (round_of m) m.mark a.fits a.found
+  pub spine_is : (r : Running) (e : Expr) → Arrives p (view_of r) e → spine e ≡ length (round_of r.machine)
+  spine_is r e a = ap spine (sym a.expr) ∙ spine_by r.focus (here_of r.machine) (round_of r.machine) r.machine.mark a.fits a.found
 
 above : (n : ℕ) → 1000 < n → nat_lt 1000 n ≡ true
 above n h = grind (arith, nat_tests)

@@ -15,7 +15,7 @@ use Rattle.step_eval.specs.declared.site.Site.{Site}
 use Rattle.step_eval.specs.declared.site.Site.TheVariants.{Form, Section}
 use Rattle.step_eval.specs.declared.machine.Focus.{Focus}
 use Rattle.step_eval.specs.declared.machine.Focus.TheVariants as focus
-use Rattle.step_eval.specs.declared.machine.Machine.{Machine}
+use Rattle.step_eval.specs.declared.machine.Running.{Running}
 use Rattle.step_eval.specs.ControlView.{Fits, focus_expr, focus_view, view_of, expr_of as expr_in}
 use Rattle.step_eval.specs.FrameView.{FrameView}
 use Rattle.step_eval.specs.Fits.{FormFits, FrameFits, FramesFit, IsForm, IsLeft, SiteFits, outside}
@@ -172,11 +172,11 @@ found-deep p (focus.Act a) h round mk begun other fits = spine_by p (focus.Act a
 found-deep p (focus.Fault k) h round mk begun other fits = spine_by p (focus.Fault k) h round mk fits tt
 
 -- round what is no node and no value stand its frames
-pub machine-deep : (p : ProgramParts) (m : Machine) → ((n : NodeId) → m.focus ≡ focus.Begun n → ⊥) → ((v : Datum) → m.focus ≡ focus.Value v → ⊥) → Fits p (view_of m) → spine (expr_in p (view_of m)) ≡ 0 + length (round_of m)
-machine-deep p m begun other fits = found-deep p m.focus (here_of m) (round_of m) m.mark begun other fits ∙ (let same : length (round_of m) ≡ 0 + length (round_of m) = omega arith in same)
+pub machine-deep : (p : ProgramParts) (r : Running) → ((n : NodeId) → r.focus ≡ focus.Begun n → ⊥) → ((v : Datum) → r.focus ≡ focus.Value v → ⊥) → Fits p (view_of r) → spine (expr_in p (view_of r)) ≡ 0 + length (round_of r.machine)
+machine-deep p r begun other fits = found-deep p r.focus (here_of r.machine) (round_of r.machine) r.machine.mark begun other fits ∙ (let same : length (round_of r.machine) ≡ 0 + length (round_of r.machine) = omega arith in same)
 
-pub node-deep : (p : ProgramParts) → IsValid p → (m : Machine) (n : NodeId) (depth : ℕ) → m.focus ≡ focus.Begun n → Fits p (view_of m) → IsDepth p n 0 0 depth → spine (expr_in p (view_of m)) ≡ depth + length (round_of m)
-node-deep p valid m n depth is fits deep =
-    let all = fits-as p m (focus.Begun n) is fits in
-    ap spine (expr-by p m (focus.Begun n) is)
-    ∙ begun-deep p valid m.mark (round_of m) n (arc_value m.env) depth all.focus.0 all.focus.1 all.focus.2 all.frames deep
+pub node-deep : (p : ProgramParts) → IsValid p → (r : Running) (n : NodeId) (depth : ℕ) → r.focus ≡ focus.Begun n → Fits p (view_of r) → IsDepth p n 0 0 depth → spine (expr_in p (view_of r)) ≡ depth + length (round_of r.machine)
+node-deep p valid r n depth is fits deep =
+    let all = fits-as p r (focus.Begun n) is fits in
+    ap spine (expr-by p r (focus.Begun n) is)
+    ∙ begun-deep p valid r.machine.mark (round_of r.machine) n (arc_value r.machine.env) depth all.focus.0 all.focus.1 all.focus.2 all.frames deep

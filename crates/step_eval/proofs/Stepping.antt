@@ -12,7 +12,7 @@ use Rattle.plain_language.specs.Redex.{Redex, cap, redex}
 use Rattle.plain_language.specs.Table.{pure_of, pure_steps}
 use Rattle.step_eval.specs.declared.machine.Focus.{Focus}
 use Rattle.step_eval.specs.declared.machine.Focus.TheVariants as focus
-use Rattle.step_eval.specs.declared.machine.Machine.{Machine}
+use Rattle.step_eval.specs.declared.machine.Running.{Running}
 use Rattle.step_eval.specs.Arrival.{Arrives, turned}
 use Rattle.step_eval.specs.ControlView.{ControlView, Fits, RedexIsFound, expr_of, focus_expr, focus_view, view_of}
 use Rattle.step_eval.specs.FrameView.{FrameView}
@@ -40,19 +40,19 @@ module _ (p : ProgramParts) where
   step-of round (fails k) none = refl
   step-of round (acts a) none = cc
 
-  pub expr-by : (m : Machine) (f : Focus) → m.focus ≡ f → expr_of p (view_of m) ≡ within_forms p (round_of m) (focus_expr p (focus_view f (here_of m)))
-  expr-by m f is = ap (λ g. within_forms p (round_of m) (focus_expr p (focus_view g (here_of m)))) is
+  pub expr-by : (r : Running) (f : Focus) → r.focus ≡ f → expr_of p (view_of r) ≡ within_forms p (round_of r.machine) (focus_expr p (focus_view f (here_of r.machine)))
+  expr-by r f is = ap (λ g. within_forms p (round_of r.machine) (focus_expr p (focus_view g (here_of r.machine)))) is
 
-  pub fits-as : (m : Machine) (f : Focus) → m.focus ≡ f → Fits p (view_of m) → Fits p (record { focus = focus_view f (here_of m); round = round_of m; mark = m.mark })
-  fits-as m f is fits = let P : Focus → Type 0 = λ (g : Focus). Fits p (record { focus = focus_view g (here_of m); round = round_of m; mark = m.mark }) in subst P is fits
+  pub fits-as : (r : Running) (f : Focus) → r.focus ≡ f → Fits p (view_of r) → Fits p (record { focus = focus_view f (here_of r.machine); round = round_of r.machine; mark = r.machine.mark })
+  fits-as r f is fits = let P : Focus → Type 0 = λ (g : Focus). Fits p (record { focus = focus_view g (here_of r.machine); round = round_of r.machine; mark = r.machine.mark }) in subst P is fits
 
   -- a step of a settled form that is no act
-  pub step-made : (m n : Machine) → m.focus ≡ focus.Form → Fits p (view_of m) → Arrives p (view_of n) (cap (turned p (round_of m) (turn_at p (here_of m)))) → pure_of (language (body p)) (look (body p) (expr_of p (view_of m))) ≡ Some (expr_of p (view_of n))
-  step-made m n is fits arrives =
-      let all = fits-as m focus.Form is fits in
-      ap (λ e. pure_of (language (body p)) (look (body p) e)) (expr-by m focus.Form is)
-      ∙ ap (pure_of (language (body p))) (look-settled m.mark (round_of m) (here_of m) all.frames all.focus.0)
-      ∙ step-of (round_of m) (turn_at p (here_of m)) all.focus.1
+  pub step-made : (r s : Running) → r.focus ≡ focus.Form → Fits p (view_of r) → Arrives p (view_of s) (cap (turned p (round_of r.machine) (turn_at p (here_of r.machine)))) → pure_of (language (body p)) (look (body p) (expr_of p (view_of r))) ≡ Some (expr_of p (view_of s))
+  step-made r s is fits arrives =
+      let all = fits-as r focus.Form is fits in
+      ap (λ e. pure_of (language (body p)) (look (body p) e)) (expr-by r focus.Form is)
+      ∙ ap (pure_of (language (body p))) (look-settled r.machine.mark (round_of r.machine) (here_of r.machine) all.frames all.focus.0)
+      ∙ step-of (round_of r.machine) (turn_at p (here_of r.machine)) all.focus.1
       ∙ ap Some (sym arrives.expr)
 
   act-rests : (round : List FrameView) (o : Outcome) (a : _) → told o ≡ Some a → pure_of (language (body p)) (look_by (map (frame_at p) round) o) ≡ None
@@ -69,8 +69,8 @@ module _ (p : ProgramParts) where
   rests-by (focus.Fault k) h round mk other fits found = ap (λ r. pure_of (language (body p)) (look (body p) (within_forms p r (failed k)))) fits.focus
 
   -- nothing else has a pure step
-  pub rests : (m : Machine) → (m.focus ≡ focus.Form → ⊥) → Fits p (view_of m) → RedexIsFound (view_of m) → Rests p (view_of m)
-  rests m other fits found = rests-by m.focus (here_of m) (round_of m) m.mark other fits found
+  pub rests : (r : Running) → (r.focus ≡ focus.Form → ⊥) → Fits p (view_of r) → RedexIsFound (view_of r) → Rests p (view_of r)
+  rests r other fits found = rests-by r.focus (here_of r.machine) (round_of r.machine) r.machine.mark other fits found
 
   steps-on : (n : ℕ) (o : Option Expr) (f g : Expr) → option_and_then (pure_steps (language (body p)) n) o ≡ Some f → pure_of (language (body p)) (look (body p) f) ≡ Some g → option_and_then (pure_steps (language (body p)) (suc n)) o ≡ Some g
   steps-on zero None f g made next = cc

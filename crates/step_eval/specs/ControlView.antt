@@ -13,7 +13,7 @@ use Rattle.plain_language.specs.Program as plain
 use Rattle.step_eval.specs.declared.act.Act.{Act}
 use Rattle.step_eval.specs.declared.machine.Focus.{Focus}
 use Rattle.step_eval.specs.declared.machine.Focus.TheVariants as focus
-use Rattle.step_eval.specs.declared.machine.Machine.{Machine}
+use Rattle.step_eval.specs.declared.machine.Running.{Running}
 use Rattle.step_eval.specs.Acts.{act_of}
 use Rattle.step_eval.specs.FrameView.{FrameView}
 use Rattle.step_eval.specs.Fits.{FramesFit, IsForm}
@@ -45,8 +45,8 @@ focus_view (focus.Act a) here = acting a here
 focus_view (focus.Value v) here = value v
 focus_view (focus.Fault k) here = fault k
 
-abbrev pub view_of : Machine → ControlView
-view_of m = record { focus = focus_view m.focus (here_of m); round = round_of m; mark = m.mark }
+abbrev pub view_of : Running → ControlView
+view_of r = record { focus = focus_view r.focus (here_of r.machine); round = round_of r.machine; mark = r.machine.mark }
 
 module _ (p : ProgramParts) where
   -- what is looked at, as an expression

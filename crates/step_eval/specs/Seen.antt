@@ -10,7 +10,7 @@ use Rattle.step_eval.specs.View.{here_of, round_of}
 abbrev pub within_round : FocusView → Machine → ControlView
 within_round what m = record { focus = what; round = round_of m; mark = m.mark }
 
--- a control that looks at this in place of what the machine looks at; nothing stands round a fault
+-- a control that looks at this beside the machine; nothing stands round a fault
 abbrev pub seen_at : Focus → Machine → ControlView
 seen_at (focus.Begun n) m = within_round (begun n (here_of m).env) m
 seen_at focus.Form m = within_round (settled (here_of m)) m

@@ -15,7 +15,7 @@ ghost use Rattle.step_eval.specs.declared.machine.Focus.TheVariants as Focus;
 use crate::env::Env;
 use crate::frame::Frame;
 use crate::held::Held;
-use crate::machine::{Focus, Machine};
+use crate::machine::{Focus, Machine, Running};
 use crate::node::entry;
 use crate::place::{Mark, Place};
 use stab_base::{FnId, NoMemory, Seq, Value};
@@ -24,21 +24,11 @@ use std::mem;
 use std::sync::Arc;
 
 impl Machine {
-    /// A value is looked at. The values of the form at hand are then read no more.
-    fn hold(&mut self, v: Value)
-        ensures focus { self.new.focus ≡ Focus.Value v }
-        ensures env { arc_value self.new.env ≡ arc_value self.old.env }
-        ensures round { round_of self.new ≡ round_of self.old }
-        ensures mark { self.new.mark ≡ self.old.mark }
-    {
-        self.focus = Focus::Value(v);
-        self.done.clear();
-    }
-
     /// The innermost frame is shared, so that another can come before it.
     fn share_top(&mut self) -> Result<(), NoMemory>
-        ensures view { view_of self.new ≡ view_of self.old }
         ensures here { here_of self.new ≡ here_of self.old }
+        ensures round { round_of self.new ≡ round_of self.old }
+        ensures mark { self.new.mark ≡ self.old.mark }
         ensures none { OnOk result (self.new.top ≡ None) }
     {
         let Some(frame) = self.top.take() else {
@@ -57,7 +47,7 @@ impl Machine {
     fn take_env(&mut self) -> Result<Arc<Env>, NoMemory>
         ensures env { IfOk result (λ e. arc_value e ≡ self.old.done.items) }
         ensures env_kept { arc_value self.new.env ≡ arc_value self.old.env }
-        ensures back { OnErr result (view_of self.new ≡ view_of self.old) }
+        ensures back { OnErr result (here_of self.new ≡ here_of self.old) }
         ensures round { round_of self.new ≡ round_of self.old }
         ensures mark { self.new.mark ≡ self.old.mark }
         ensures top { self.new.top ≡ self.old.top }
@@ -70,20 +60,6 @@ impl Machine {
                 Err(NoMemory)
             }
         }
-    }
-
-    /// A node, or its value, takes the place of the focus.
-    fn look_at(&mut self, n: NodeId, value: Option<Value>)
-        ensures focus { self.new.focus ≡ entry_of n value }
-        ensures env { arc_value self.new.env ≡ arc_value self.old.env }
-        ensures round { round_of self.new ≡ round_of self.old }
-        ensures mark { self.new.mark ≡ self.old.mark }
-    {
-        let Some(v) = value else {
-            self.focus = Focus::Begun(n);
-            return;
-        };
-        self.hold(v);
     }
 
     /// A section becomes the innermost frame, in which the variables have these values.
@@ -102,20 +78,47 @@ impl Machine {
         self.top = Some(frame);
         self.mark = Mark::of(q);
     }
+}
+
+impl Running {
+    /// A value is looked at. The values of the form at hand are then read no more.
+    fn hold(&mut self, v: Value)
+        ensures focus { self.new.focus ≡ Focus.Value v }
+        ensures env { arc_value self.new.machine.env ≡ arc_value self.old.machine.env }
+        ensures round { round_of self.new.machine ≡ round_of self.old.machine }
+        ensures mark { self.new.machine.mark ≡ self.old.machine.mark }
+    {
+        self.focus = Focus::Value(v);
+        self.machine.done.clear();
+    }
+
+    /// A node, or its value, takes the place of the focus.
+    fn look_at(&mut self, n: NodeId, value: Option<Value>)
+        ensures focus { self.new.focus ≡ entry_of n value }
+        ensures env { arc_value self.new.machine.env ≡ arc_value self.old.machine.env }
+        ensures round { round_of self.new.machine ≡ round_of self.old.machine }
+        ensures mark { self.new.machine.mark ≡ self.old.machine.mark }
+    {
+        let Some(v) = value else {
+            self.focus = Focus::Begun(n);
+            return;
+        };
+        self.hold(v);
+    }
 
     /// The body of a function, in a section, takes the place of the act.
     pub(crate) fn enter(&mut self, p: &Program, f: FnId, q: Seq) -> Result<(), NoMemory>
         requires fits { Fits p.now (view_of self.old) }
         requires act { act_next (view_of self.old) ≡ Some (Enter f) }
         requires number { q.0 < 4294967295 }
-        ensures expr { OnOk result (expr_of p.now (view_of self.new) ≡ entered (expr_of p.now (view_of self.old)) q.0 (called (body p.now) f.0 self.old.done.items)) }
+        ensures expr { OnOk result (expr_of p.now (view_of self.new) ≡ entered (expr_of p.now (view_of self.old)) q.0 (called (body p.now) f.0 self.old.machine.done.items)) }
         ensures fits { OnOk result (Fits p.now (view_of self.new)) }
         ensures back { OnErr result (view_of self.new ≡ view_of self.old) }
     {
-        let (n, value) = entry(p, f, self.done.as_slice())?;
-        self.share_top()?;
-        let env = self.take_env()?;
-        self.open_section(q, env);
+        let (n, value) = entry(p, f, self.machine.done.as_slice())?;
+        self.machine.share_top()?;
+        let env = self.machine.take_env()?;
+        self.machine.open_section(q, env);
         self.look_at(n, value);
         self.cap_ahead(p);
         Ok(())

@@ -18,14 +18,13 @@ ghost use Rattle.step_eval.specs.declared.ask.Ask.TheVariants.{More};
 use crate::act::Act;
 use crate::ask::Ask;
 use crate::env::Env;
-use crate::machine::{Focus, Machine};
+use crate::machine::{Focus, Machine, Running};
 use crate::node::entry;
 use crate::rest::Rest;
 use stab_base::{Fault, FnId, NoMemory, Seq, Value};
 use stab_code::{NodeId, Program};
 use std::alloc::Global;
 use std::marker::Model;
-use std::mem;
 use std::sync::Arc;
 use std::sync::ledger::Ledger;
 use step_counter::Steps;
@@ -34,7 +33,7 @@ use step_counter::Steps;
 /// Controls that are kept share a machine: an answer or a fault is written beside it, and `advance` and `enter` copy it.
 #[derive(Drop)]
 pub struct Control {
-    /// What is looked at, whatever the machine looks at. Nothing stands round a fault.
+    /// What is looked at. Nothing stands round a fault, whatever frames the machine has.
     pub(crate) focus: Focus,
     pub(crate) machine: Arc<Machine>,
 }
@@ -107,26 +106,26 @@ impl Control {
     }
 
     /// The control of a machine that fits some program.
-    pub(crate) fn parted(machine: Machine) -> Result<Control, NoMemory>
-        ensures { IfOk result (λ c. (p : ProgramParts) → Fits p (view_of machine) → c ≡ view_of machine) }
+    pub(crate) fn parted(running: Running) -> Result<Control, NoMemory>
+        ensures { IfOk result (λ c. (p : ProgramParts) → Fits p (view_of running) → c ≡ view_of running) }
     {
+        let Running { focus, machine } = running;
         let mut machine = machine;
         let alloc = machine.alloc;
-        let focus = mem::replace(&mut machine.focus, Focus::Form);
         machine.spare = None;
         let machine = Arc::new(alloc, machine)?;
         Ok(Control { focus, machine })
     }
 
     /// A machine of its own, which is where the control is.
-    pub(crate) fn opened(&self) -> Result<Machine, NoMemory>
-        ensures { IfOk result (λ m. view_of m ≡ self.now) }
+    pub(crate) fn opened(&self) -> Result<Running, NoMemory>
+        ensures { IfOk result (λ r. view_of r ≡ self.now) }
     {
-        let mut machine = self.machine.copied(self.focus.copy()?)?;
+        let mut running = self.machine.copied(self.focus.copy()?)?;
         if let Focus::Fault(k) = &self.focus {
-            machine.fail(*k);
+            running.fail(*k);
         }
-        Ok(machine)
+        Ok(running)
     }
 
     /// An equal control, in one step: it shares the machine, and so all frames.
@@ -203,9 +202,9 @@ impl Control {
         match &self.focus {
             Focus::Act(Act::Enter(f)) => {
                 let f = *f;
-                let mut machine = self.opened()?;
-                machine.enter(program, f, q)?;
-                *self = Control::parted(machine)?;
+                let mut running = self.opened()?;
+                running.enter(program, f, q)?;
+                *self = Control::parted(running)?;
                 Ok(())
             }
             _ => unreachable!(),

@@ -15,7 +15,7 @@ ghost use Rattle.step_eval.specs.Searched.{HasValue, IsSearched, LooksPast};
 ghost use Rattle.step_eval.specs.View.{round_of};
 ghost use Rattle.step_eval.specs.declared.site.Site.TheVariants.{Form};
 
-use crate::machine::{Focus, Machine};
+use crate::machine::{Focus, Machine, Running};
 use crate::node::{item_of, node_at};
 use crate::site::Site;
 use plain_language::MAX_SPINE;
@@ -104,18 +104,6 @@ impl Machine {
         }
     }
 
-    /// Whether too many forms are round the redex.
-    fn is_too_deep(&self, p: &Program) -> bool
-        requires { Fits p.now (view_of self.now) }
-        ensures { result ≡ nat_lt max_spine (spine (expr_of p.now (view_of self.now))) }
-    {
-        match &self.focus {
-            Focus::Begun(n) => exceeds(depth_of(p, *n, 0, 0), self.count()),
-            Focus::Value(_v) => self.is_value_too_deep(p),
-            _ => exceeds(0, self.count()),
-        }
-    }
-
     /// What is looked at once the act has this value: a fault, where too many forms would then stand round what is next.
     pub(crate) fn replied(&self, p: &Program, v: Value) -> Focus
         requires { FramesFit p.now self.now.mark (round_of self.now) }
@@ -126,6 +114,20 @@ impl Machine {
             Focus::Fault(Fault::TooDeep)
         } else {
             Focus::Value(v)
+        }
+    }
+}
+
+impl Running {
+    /// Whether too many forms are round the redex.
+    fn is_too_deep(&self, p: &Program) -> bool
+        requires { Fits p.now (view_of self.now) }
+        ensures { result ≡ nat_lt max_spine (spine (expr_of p.now (view_of self.now))) }
+    {
+        match &self.focus {
+            Focus::Begun(n) => exceeds(depth_of(p, *n, 0, 0), self.machine.count()),
+            Focus::Value(_v) => self.machine.is_value_too_deep(p),
+            _ => exceeds(0, self.machine.count()),
         }
     }
 

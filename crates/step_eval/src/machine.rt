@@ -62,11 +62,10 @@ impl Focus {
     }
 }
 
-/// A thread's text on its way.
+/// A thread's text on its way, but for what is looked at, which stands beside it.
 #[derive(Drop)]
 pub(crate) struct Machine {
     pub(crate) alloc: Global,
-    pub(crate) focus: Focus,
     pub(crate) site: Place,
     pub(crate) done: Vec<Value>,
     pub(crate) env: Arc<Env>,
@@ -76,17 +75,22 @@ pub(crate) struct Machine {
     pub(crate) mark: Mark,
 }
 
+/// A machine that is run: what is looked at, and the machine.
+#[derive(Drop)]
+pub(crate) struct Running {
+    pub(crate) focus: Focus,
+    pub(crate) machine: Machine,
+}
+
 impl Machine {
-    /// A machine that looks at this, with these values of variables and no frames.
-    fn alone(alloc: Global, focus: Focus, n: NodeId, env: Arc<Env>) -> Machine
-        ensures focus { result.focus ≡ focus }
+    /// A machine with these values of variables and no frames.
+    fn alone(alloc: Global, n: NodeId, env: Arc<Env>) -> Machine
         ensures env { arc_value result.env ≡ arc_value env }
         ensures round { round_of result ≡ [] }
         ensures mark { result.mark ≡ None }
     {
         Machine {
             alloc,
-            focus,
             site: Place::form(n, 0),
             done: Vec::new(alloc),
             env,
@@ -103,7 +107,7 @@ impl Machine {
         ensures mark { IfOk result (λ m. (arc_value m).mark ≡ None) }
     {
         let env = Arc::new(alloc, Env::new(Vec::new(alloc)))?;
-        let machine = Arc::new(alloc, Machine::alone(alloc, Focus::Form, n, env))?;
+        let machine = Arc::new(alloc, Machine::alone(alloc, n, env))?;
         Ok(machine)
     }
 
@@ -177,18 +181,6 @@ impl Machine {
         frame.site.outside(&self.mark).seq()
     }
 
-    /// The whole is a fault.
-    pub(crate) fn fail(&mut self, k: Fault)
-        ensures round { round_of self.new ≡ [] }
-        ensures focus { self.new.focus ≡ Focus.Fault k }
-        ensures mark { self.new.mark ≡ None }
-    {
-        self.focus = Focus::Fault(k);
-        self.top = None;
-        self.frames = Stack::new();
-        self.mark = Mark::none();
-    }
-
     /// Copies of the values at hand, where what is looked at has to do with them.
     fn values_for(&self, focus: &Focus) -> Result<Vec<Value>, NoMemory>
         ensures { IfOk result (λ done. focus_view focus.now (record { site = self.now.site; done = done.items; env = arc_value self.now.env }) ≡ focus_view focus.now (here_of self.now)) }
@@ -212,18 +204,17 @@ impl Machine {
         }
     }
 
-    /// The same machine once more, which looks at this. It shares all frames but the innermost.
-    pub(crate) fn copied(&self, focus: Focus) -> Result<Machine, NoMemory>
-        ensures focus { IfOk result (λ m. m.focus ≡ focus) }
-        ensures looks { IfOk result (λ m. focus_view focus (here_of m) ≡ focus_view focus (here_of self.now)) }
-        ensures round { IfOk result (λ m. round_of m ≡ round_of self.now) }
-        ensures mark { IfOk result (λ m. m.mark ≡ self.now.mark) }
+    /// The same machine once more, run from this focus. It shares all frames but the innermost.
+    pub(crate) fn copied(&self, focus: Focus) -> Result<Running, NoMemory>
+        ensures focus { IfOk result (λ r. r.focus ≡ focus) }
+        ensures looks { IfOk result (λ r. focus_view focus (here_of r.machine) ≡ focus_view focus (here_of self.now)) }
+        ensures round { IfOk result (λ r. round_of r.machine ≡ round_of self.now) }
+        ensures mark { IfOk result (λ r. r.machine.mark ≡ self.now.mark) }
     {
         let done = self.values_for(&focus)?;
         let top = self.top_copy()?;
-        Ok(Machine {
+        let machine = Machine {
             alloc: self.alloc,
-            focus,
             site: self.site.copy(),
             done,
             env: Arc::try_clone(&self.env)?,
@@ -231,6 +222,21 @@ impl Machine {
             frames: self.frames.keep()?,
             spare: None,
             mark: self.mark.copy(),
-        })
+        };
+        Ok(Running { focus, machine })
+    }
+}
+
+impl Running {
+    /// The whole is a fault.
+    pub(crate) fn fail(&mut self, k: Fault)
+        ensures round { round_of self.new.machine ≡ [] }
+        ensures focus { self.new.focus ≡ Focus.Fault k }
+        ensures mark { self.new.machine.mark ≡ None }
+    {
+        self.focus = Focus::Fault(k);
+        self.machine.top = None;
+        self.machine.frames = Stack::new();
+        self.machine.mark = Mark::none();
     }
 }

@@ -9,7 +9,7 @@ ghost use Rattle.step_eval.specs.Progress.{Advances, Rests};
 ghost use Rattle.step_eval.specs.declared.machine.Focus.TheVariants as Focus;
 
 use crate::control::Control;
-use crate::machine::{Focus, Machine};
+use crate::machine::{Focus, Running};
 use stab_base::NoMemory;
 use stab_code::Program;
 use std::marker::Model;
@@ -90,7 +90,7 @@ pub struct AdvanceRefused {
     pub control: Control,
 }
 
-impl Machine {
+impl Running {
     /// Finds the redex.
     fn find(&mut self, p: &Program) -> Result<(), NoMemory>
         requires { Fits p.now (view_of self.old) }
@@ -139,10 +139,10 @@ fn advanced(p: &Program, control: &Control, quantum: u32) -> Result<(u32, Contro
     ensures within { IfOk result (λ r. r.0 ≤ quantum) }
     ensures stops { IfOk result (λ r. r.0 < quantum → Rests p.now r.1) }
 {
-    let mut machine = control.opened()?;
-    machine.find(p)?;
-    let steps = machine.run(p, quantum)?;
-    let end = Control::parted(machine)?;
+    let mut running = control.opened()?;
+    running.find(p)?;
+    let steps = running.run(p, quantum)?;
+    let end = Control::parted(running)?;
     Ok((steps, end))
 }
 

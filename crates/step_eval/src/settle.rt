@@ -21,7 +21,7 @@ ghost use Rattle.step_eval.specs.declared.site.Site.TheVariants.{Form};
 use crate::act::{Act, act_at};
 use crate::frame::Frame;
 use crate::held::{Held, make_room};
-use crate::machine::{Focus, Machine};
+use crate::machine::{Focus, Machine, Running};
 use crate::node::{head_at, item_of, leaf, node_at};
 use crate::place::Place;
 use crate::site::Site;
@@ -132,35 +132,6 @@ impl Machine {
         }
     }
 
-    /// Looks at the form at hand, as an act where it is one.
-    fn look(&mut self, act: Option<Act>)
-        ensures focus { self.new.focus ≡ form_focus act }
-        ensures here { here_of self.new ≡ here_of self.old }
-        ensures round { round_of self.new ≡ round_of self.old }
-        ensures mark { self.new.mark ≡ self.old.mark }
-    {
-        let Some(act) = act else {
-            self.focus = Focus::Form;
-            return;
-        };
-        self.focus = Focus::Act(act);
-    }
-
-    /// Finds the redex in the form at hand.
-    #[inline(always)]
-    pub(crate) fn arrive(&mut self, p: &Program, n: NodeId, from: usize) -> Result<(), NoMemory>
-        requires site { self.old.site ≡ Form n from }
-        requires fits { FormFits p.now n from (length (arc_value self.old.env)) }
-        requires few { length self.old.done.items ≤ strict_at p.now (Form n from) }
-        requires frames { FramesFit p.now self.old.mark (round_of self.old) }
-        ensures { OnOk result (Arrives p.now (view_of self.new) (within_forms p.now (round_of self.old) (form_at p.now (here_of self.old)))) }
-    {
-        self.settle(p, n, from)?;
-        let act = self.act(p);
-        self.look(act);
-        Ok(())
-    }
-
     /// The innermost frame, which is no longer round the focus.
     #[inline(always)]
     fn pop_frame(&mut self) -> Result<Option<Popped<Frame>>, NoMemory>
@@ -228,20 +199,61 @@ impl Machine {
         Ok(())
     }
 
+    /// A node is at hand, none of whose parts has a value yet.
+    fn begin(&mut self, n: NodeId)
+        ensures here { here_of self.new ≡ at_start n (arc_value self.old.env) }
+        ensures round { round_of self.new ≡ round_of self.old }
+        ensures mark { self.new.mark ≡ self.old.mark }
+    {
+        self.site = Place::form(n, 0);
+        self.done.clear();
+    }
+}
+
+impl Running {
+    /// Looks at the form at hand, as an act where it is one.
+    fn look(&mut self, act: Option<Act>)
+        ensures focus { self.new.focus ≡ form_focus act }
+        ensures here { here_of self.new.machine ≡ here_of self.old.machine }
+        ensures round { round_of self.new.machine ≡ round_of self.old.machine }
+        ensures mark { self.new.machine.mark ≡ self.old.machine.mark }
+    {
+        let Some(act) = act else {
+            self.focus = Focus::Form;
+            return;
+        };
+        self.focus = Focus::Act(act);
+    }
+
+    /// Finds the redex in the form at hand.
+    #[inline(always)]
+    pub(crate) fn arrive(&mut self, p: &Program, n: NodeId, from: usize) -> Result<(), NoMemory>
+        requires site { self.old.machine.site ≡ Form n from }
+        requires fits { FormFits p.now n from (length (arc_value self.old.machine.env)) }
+        requires few { length self.old.machine.done.items ≤ strict_at p.now (Form n from) }
+        requires frames { FramesFit p.now self.old.machine.mark (round_of self.old.machine) }
+        ensures { OnOk result (Arrives p.now (view_of self.new) (within_forms p.now (round_of self.old.machine) (form_at p.now (here_of self.old.machine)))) }
+    {
+        self.machine.settle(p, n, from)?;
+        let act = self.machine.act(p);
+        self.look(act);
+        Ok(())
+    }
+
     /// A value takes the place of the focus.
     pub(crate) fn give(&mut self, p: &Program, v: Value) -> Result<(), NoMemory>
-        requires { FramesFit p.now self.old.mark (round_of self.old) }
-        ensures { OnOk result (Arrives p.now (view_of self.new) (within_forms p.now (round_of self.old) (value v))) }
+        requires { FramesFit p.now self.old.machine.mark (round_of self.old.machine) }
+        ensures { OnOk result (Arrives p.now (view_of self.new) (within_forms p.now (round_of self.old.machine) (value v))) }
     {
-        let popped = self.pop_frame()?;
+        let popped = self.machine.pop_frame()?;
         let Some(frame) = popped else {
             self.focus = Focus::Value(v);
             return Ok(());
         };
-        self.open(frame, v)?;
-        match self.site.site() {
+        self.machine.open(frame, v)?;
+        match self.machine.site.site() {
             Site::Section(_m, _outer) => {
-                self.mark = self.site.outside(&self.mark);
+                self.machine.mark = self.machine.site.outside(&self.machine.mark);
                 self.focus = Focus::Form;
                 Ok(())
             }
@@ -252,27 +264,17 @@ impl Machine {
         }
     }
 
-    /// A node is at hand, none of whose parts has a value yet.
-    fn begin(&mut self, n: NodeId)
-        ensures here { here_of self.new ≡ at_start n (arc_value self.old.env) }
-        ensures round { round_of self.new ≡ round_of self.old }
-        ensures mark { self.new.mark ≡ self.old.mark }
-    {
-        self.site = Place::form(n, 0);
-        self.done.clear();
-    }
-
     /// A node takes the place of the focus.
     pub(crate) fn start(&mut self, p: &Program, n: NodeId) -> Result<(), NoMemory>
         requires there { n.0 < length p.now.nodes }
-        requires scoped { IsScoped (length (arc_value self.old.env)) (tree_at p.now n) }
-        requires frames { FramesFit p.now self.old.mark (round_of self.old) }
-        ensures { OnOk result (Arrives p.now (view_of self.new) (within_forms p.now (round_of self.old) (put (slice_get (arc_value self.old.env)) (expr_of (tree_at p.now n))))) }
+        requires scoped { IsScoped (length (arc_value self.old.machine.env)) (tree_at p.now n) }
+        requires frames { FramesFit p.now self.old.machine.mark (round_of self.old.machine) }
+        ensures { OnOk result (Arrives p.now (view_of self.new) (within_forms p.now (round_of self.old.machine) (put (slice_get (arc_value self.old.machine.env)) (expr_of (tree_at p.now n))))) }
     {
-        match leaf(p, n, self.env.values())? {
+        match leaf(p, n, self.machine.env.values())? {
             Some(v) => self.give(p, v),
             None => {
-                self.begin(n);
+                self.machine.begin(n);
                 self.arrive(p, n, 0)?;
                 Ok(())
             }

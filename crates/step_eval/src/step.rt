@@ -20,7 +20,7 @@ ghost use Rattle.step_eval.specs.View.{here_of, round_of};
 ghost use Rattle.step_eval.specs.declared.machine.Focus.TheVariants as Focus;
 
 use crate::env::Env;
-use crate::machine::Machine;
+use crate::machine::{Machine, Running};
 use crate::node::{body_at, head_at, item_of, node_at, slot_of};
 use crate::place::Place;
 use crate::site::Site;
@@ -32,70 +32,6 @@ use std::mem;
 use std::sync::Arc;
 
 impl Machine {
-    /// Puts the value at the focus, or ends the thread with the fault.
-    fn take(&mut self, p: &Program, made: Result<Value, Fault>) -> Result<(), NoMemory>
-        requires { FramesFit p.now self.old.mark (round_of self.old) }
-        ensures { OnOk result (Arrives p.now (view_of self.new) (turned p.now (round_of self.old) (outcome_of made))) }
-    {
-        match made {
-            Ok(v) => self.give(p, v),
-            Err(k) => {
-                self.fail(k);
-                Ok(())
-            }
-        }
-    }
-
-    fn branch(&mut self, p: &Program, n: NodeId) -> Result<(), NoMemory>
-        requires at { IsStepping p.now n 0 (here_of self.old) self.old.mark (round_of self.old) }
-        requires head { (node_at p.now n).head ≡ If }
-        ensures { OnOk result (Arrives p.now (view_of self.new) (turned p.now (round_of self.old) (turn_at p.now (here_of self.old)))) }
-    {
-        let parts = node_at(p, n).parts();
-        let yes = item_of(parts, 1);
-        let no = item_of(parts, 2);
-        match condition(self.done.as_slice()) {
-            Some(true) => self.start(p, yes),
-            Some(false) => self.start(p, no),
-            None => {
-                self.fail(Fault::WrongKind);
-                Ok(())
-            }
-        }
-    }
-
-    fn both(&mut self, p: &Program, n: NodeId) -> Result<(), NoMemory>
-        requires at { IsStepping p.now n 0 (here_of self.old) self.old.mark (round_of self.old) }
-        requires head { (node_at p.now n).head ≡ Two And }
-        ensures { OnOk result (Arrives p.now (view_of self.new) (turned p.now (round_of self.old) (turn_at p.now (here_of self.old)))) }
-    {
-        let right = item_of(node_at(p, n).parts(), 1);
-        match condition(self.done.as_slice()) {
-            Some(true) => self.start(p, right),
-            Some(false) => self.give(p, Value::truth(false)),
-            None => {
-                self.fail(Fault::WrongKind);
-                Ok(())
-            }
-        }
-    }
-
-    fn either(&mut self, p: &Program, n: NodeId) -> Result<(), NoMemory>
-        requires at { IsStepping p.now n 0 (here_of self.old) self.old.mark (round_of self.old) }
-        requires head { (node_at p.now n).head ≡ Two Or }
-        ensures { OnOk result (Arrives p.now (view_of self.new) (turned p.now (round_of self.old) (turn_at p.now (here_of self.old)))) }
-    {
-        let right = item_of(node_at(p, n).parts(), 1);
-        match condition(self.done.as_slice()) {
-            Some(true) => self.give(p, Value::truth(true)),
-            Some(false) => self.start(p, right),
-            None => {
-                self.fail(Fault::WrongKind);
-                Ok(())
-            }
-        }
-    }
-
     /// The values of the form at hand become those of variables.
     fn move_in(&mut self) -> Result<(), NoMemory>
         ensures env { OnOk result (arc_value self.new.env ≡ self.old.done.items) }
@@ -109,16 +45,6 @@ impl Machine {
         }
         self.env = Arc::new(self.alloc, Env::new(args))?;
         Ok(())
-    }
-
-    fn call(&mut self, p: &Program, f: FnId) -> Result<(), NoMemory>
-        requires takes { Takes p.now f (length self.old.done.items) }
-        requires frames { FramesFit p.now self.old.mark (round_of self.old) }
-        ensures { OnOk result (Arrives p.now (view_of self.new) (within_forms p.now (round_of self.old) (called (body p.now) f.0 self.old.done.items))) }
-    {
-        let n = body_at(p, f, self.done.as_slice());
-        self.move_in()?;
-        self.start(p, n)
     }
 
     /// The value of an item goes where its slot says.
@@ -153,6 +79,82 @@ impl Machine {
         self.site = Place::form(n, from);
         self.done.clear();
     }
+}
+
+impl Running {
+    /// Puts the value at the focus, or ends the thread with the fault.
+    fn take(&mut self, p: &Program, made: Result<Value, Fault>) -> Result<(), NoMemory>
+        requires { FramesFit p.now self.old.machine.mark (round_of self.old.machine) }
+        ensures { OnOk result (Arrives p.now (view_of self.new) (turned p.now (round_of self.old.machine) (outcome_of made))) }
+    {
+        match made {
+            Ok(v) => self.give(p, v),
+            Err(k) => {
+                self.fail(k);
+                Ok(())
+            }
+        }
+    }
+
+    fn branch(&mut self, p: &Program, n: NodeId) -> Result<(), NoMemory>
+        requires at { IsStepping p.now n 0 (here_of self.old.machine) self.old.machine.mark (round_of self.old.machine) }
+        requires head { (node_at p.now n).head ≡ If }
+        ensures { OnOk result (Arrives p.now (view_of self.new) (turned p.now (round_of self.old.machine) (turn_at p.now (here_of self.old.machine)))) }
+    {
+        let parts = node_at(p, n).parts();
+        let yes = item_of(parts, 1);
+        let no = item_of(parts, 2);
+        match condition(self.machine.done.as_slice()) {
+            Some(true) => self.start(p, yes),
+            Some(false) => self.start(p, no),
+            None => {
+                self.fail(Fault::WrongKind);
+                Ok(())
+            }
+        }
+    }
+
+    fn both(&mut self, p: &Program, n: NodeId) -> Result<(), NoMemory>
+        requires at { IsStepping p.now n 0 (here_of self.old.machine) self.old.machine.mark (round_of self.old.machine) }
+        requires head { (node_at p.now n).head ≡ Two And }
+        ensures { OnOk result (Arrives p.now (view_of self.new) (turned p.now (round_of self.old.machine) (turn_at p.now (here_of self.old.machine)))) }
+    {
+        let right = item_of(node_at(p, n).parts(), 1);
+        match condition(self.machine.done.as_slice()) {
+            Some(true) => self.start(p, right),
+            Some(false) => self.give(p, Value::truth(false)),
+            None => {
+                self.fail(Fault::WrongKind);
+                Ok(())
+            }
+        }
+    }
+
+    fn either(&mut self, p: &Program, n: NodeId) -> Result<(), NoMemory>
+        requires at { IsStepping p.now n 0 (here_of self.old.machine) self.old.machine.mark (round_of self.old.machine) }
+        requires head { (node_at p.now n).head ≡ Two Or }
+        ensures { OnOk result (Arrives p.now (view_of self.new) (turned p.now (round_of self.old.machine) (turn_at p.now (here_of self.old.machine)))) }
+    {
+        let right = item_of(node_at(p, n).parts(), 1);
+        match condition(self.machine.done.as_slice()) {
+            Some(true) => self.give(p, Value::truth(true)),
+            Some(false) => self.start(p, right),
+            None => {
+                self.fail(Fault::WrongKind);
+                Ok(())
+            }
+        }
+    }
+
+    fn call(&mut self, p: &Program, f: FnId) -> Result<(), NoMemory>
+        requires takes { Takes p.now f (length self.old.machine.done.items) }
+        requires frames { FramesFit p.now self.old.machine.mark (round_of self.old.machine) }
+        ensures { OnOk result (Arrives p.now (view_of self.new) (within_forms p.now (round_of self.old.machine) (called (body p.now) f.0 self.old.machine.done.items))) }
+    {
+        let n = body_at(p, f, self.machine.done.as_slice());
+        self.machine.move_in()?;
+        self.start(p, n)
+    }
 
     fn item(
         &mut self,
@@ -161,27 +163,27 @@ impl Machine {
         from: usize,
         slots: &[Option<u32>],
     ) -> Result<(), NoMemory>
-        requires at { IsStepping p.now n from (here_of self.old) self.old.mark (round_of self.old) }
+        requires at { IsStepping p.now n from (here_of self.old.machine) self.old.machine.mark (round_of self.old.machine) }
         requires head { (node_at p.now n).head ≡ Block slots.now }
-        ensures { OnOk result (Arrives p.now (view_of self.new) (turned p.now (round_of self.old) (turn_at p.now (here_of self.old)))) }
+        ensures { OnOk result (Arrives p.now (view_of self.new) (turned p.now (round_of self.old.machine) (turn_at p.now (here_of self.old.machine)))) }
     {
         let parts = node_at(p, n).parts();
         let slot = slot_of(slots, from);
-        self.bind(slot)?;
+        self.machine.bind(slot)?;
         let next = from + 1;
         if next == slots.len() {
             let last = item_of(parts, next);
             return self.start(p, last);
         }
-        self.next_item(n, next);
+        self.machine.next_item(n, next);
         self.arrive(p, n, next)
     }
 
     fn leave(&mut self, p: &Program) -> Result<(), NoMemory>
-        requires { FramesFit p.now self.old.mark (round_of self.old) }
-        ensures { OnOk result (Arrives p.now (view_of self.new) (turned p.now (round_of self.old) (with_one self.old.done.items (λ v. becomes (value v))))) }
+        requires { FramesFit p.now self.old.machine.mark (round_of self.old.machine) }
+        ensures { OnOk result (Arrives p.now (view_of self.new) (turned p.now (round_of self.old.machine) (with_one self.old.machine.done.items (λ v. becomes (value v))))) }
     {
-        match take_one(&mut self.done) {
+        match take_one(&mut self.machine.done) {
             Some(v) => self.give(p, v),
             None => {
                 self.fail(Fault::WrongKind);
@@ -191,9 +193,9 @@ impl Machine {
     }
 
     fn step_form(&mut self, p: &Program, n: NodeId, from: usize) -> Result<(), NoMemory>
-        requires at { IsStepping p.now n from (here_of self.old) self.old.mark (round_of self.old) }
-        requires no_act { told (turn_at p.now (here_of self.old)) ≡ None }
-        ensures { OnOk result (Arrives p.now (view_of self.new) (turned p.now (round_of self.old) (turn_at p.now (here_of self.old)))) }
+        requires at { IsStepping p.now n from (here_of self.old.machine) self.old.machine.mark (round_of self.old.machine) }
+        requires no_act { told (turn_at p.now (here_of self.old.machine)) ≡ None }
+        ensures { OnOk result (Arrives p.now (view_of self.new) (turned p.now (round_of self.old.machine) (turn_at p.now (here_of self.old.machine)))) }
     {
         match head_at(p, n) {
             Head::Block(slots) => self.item(p, n, from, slots.all()),
@@ -202,7 +204,7 @@ impl Machine {
             Head::Two(Op::Or) => self.either(p, n),
             Head::Call(f) => self.call(p, *f),
             head => {
-                let made = made(self.alloc, head, &mut self.done)?;
+                let made = made(self.machine.alloc, head, &mut self.machine.done)?;
                 self.take(p, made)
             }
         }
@@ -212,9 +214,9 @@ impl Machine {
     fn turn(&mut self, p: &Program) -> Result<(), NoMemory>
         requires focus { self.old.focus ≡ Focus.Form }
         requires fits { Fits p.now (view_of self.old) }
-        ensures { OnOk result (Arrives p.now (view_of self.new) (turned p.now (round_of self.old) (turn_at p.now (here_of self.old)))) }
+        ensures { OnOk result (Arrives p.now (view_of self.new) (turned p.now (round_of self.old.machine) (turn_at p.now (here_of self.old.machine)))) }
     {
-        match self.site.site() {
+        match self.machine.site.site() {
             Site::Section(_m, _outer) => self.leave(p),
             Site::Form(n, from) => self.step_form(p, n, from),
         }
@@ -224,7 +226,7 @@ impl Machine {
     fn cap(&mut self)
         ensures { (p : ProgramParts) (e : Expr) → Arrives p (view_of self.old) e → Arrives p (view_of self.new) (cap e) }
     {
-        if self.count() > MAX_SPINE {
+        if self.machine.count() > MAX_SPINE {
             self.fail(Fault::TooDeep);
         }
     }
@@ -233,7 +235,7 @@ impl Machine {
     pub(crate) fn step(&mut self, p: &Program) -> Result<(), NoMemory>
         requires focus { self.old.focus ≡ Focus.Form }
         requires fits { Fits p.now (view_of self.old) }
-        ensures { OnOk result (Arrives p.now (view_of self.new) (cap (turned p.now (round_of self.old) (turn_at p.now (here_of self.old))))) }
+        ensures { OnOk result (Arrives p.now (view_of self.new) (cap (turned p.now (round_of self.old.machine) (turn_at p.now (here_of self.old.machine))))) }
     {
         self.turn(p)?;
         self.cap();

@@ -9,12 +9,12 @@ use Rattle.shared_stack.specs.Linked.{popped_of}
 use Rattle.step_eval.specs.View.{here_of, round_of}
 use Rattle.step_eval.proofs.Arriving.{arrives-by}
 use Rattle.step_eval.proofs.Standing.{give-form}
-use Rattle.step_eval.proofs.machine.Machine.give.Goals as goal
+use Rattle.step_eval.proofs.machine.Running.give.Goals as goal
 
 pub returns-in_ok-arrive-in-Form : goal.returns-in_ok-arrive-in-Form
 returns-in_ok-arrive-in-Form c =
     let p = c.args.p.now in
-    let popped : round_of c.args.self.now ≡ popped_of c.in-Some.frame ∷ round_of c.pop_frame.new.self = c.in_ok-popped.ensures.round ∙ ap (λ o. option_to_list (option_map popped_of o) ++ round_of c.pop_frame.new.self) c.in-Some.is in
+    let popped : round_of c.args.self.now.machine ≡ popped_of c.in-Some.frame ∷ round_of c.pop_frame.new.self = c.in_ok-popped.ensures.round ∙ ap (λ o. option_to_list (option_map popped_of o) ++ round_of c.pop_frame.new.self) c.in-Some.is in
     let same =
     ap (λ r. within_forms p r (form_at p (here_of c.open.new.self))) c.open.ensures.round
     ∙ ap (λ (h : FrameView). within_forms p (round_of c.pop_frame.new.self) (form_at p h)) c.in_ok-open.ensures.here

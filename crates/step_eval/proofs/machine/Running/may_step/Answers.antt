@@ -1,6 +1,6 @@
 use Rattle.std.proofs.Common.{rules}
 use Rattle.step_eval.proofs.Stepping.{rests}
-use Rattle.step_eval.proofs.machine.Machine.may_step.Goals as goal
+use Rattle.step_eval.proofs.machine.Running.may_step.Goals as goal
 
 pub returns-in_default : goal.returns-in_default
 returns-in_default c = record {

@@ -2,7 +2,7 @@
 use Rattle.std.proofs.Common.{◌+◌, ap, sym, ◌∙◌}
 use Rattle.std.specs.Prelude.{nat_lt}
 use Rattle.step_eval.proofs.Searching.{machine-deep, node-deep}
-use Rattle.step_eval.proofs.machine.Machine.is_too_deep.Goals as goal
+use Rattle.step_eval.proofs.machine.Running.is_too_deep.Goals as goal
 
 pub returns-in-Begun : goal.returns-in-Begun
 returns-in-Begun c =

@@ -5,7 +5,7 @@ use Rattle.plain_language.specs.Redex.{spine}
 use Rattle.step_eval.specs.ControlView.{view_of}
 use Rattle.step_eval.proofs.Arriving.{arrives-by, arrives-fault}
 use Rattle.step_eval.proofs.Redexes.{cap-over, cap-within, spine_is}
-use Rattle.step_eval.proofs.machine.Machine.cap.Goals as goal
+use Rattle.step_eval.proofs.machine.Running.cap.Goals as goal
 
 pub returns-then-count-gt-MAX_SPINE : goal.returns-then-count-gt-MAX_SPINE
 returns-then-count-gt-MAX_SPINE c = λ p e a.

@@ -3,7 +3,7 @@ use Rattle.std.proofs.Common.{◌≡◌, refl, rules}
 use Rattle.step_eval.specs.ControlView.{view_of}
 use Rattle.step_eval.specs.declared.machine.Focus.TheVariants as focus
 use Rattle.step_eval.proofs.Stepping.{advance-more, step-made}
-use Rattle.step_eval.proofs.machine.Machine.run.Goals as goal
+use Rattle.step_eval.proofs.machine.Running.run.Goals as goal
 
 pub loop-made-init : goal.loop-made-init
 loop-made-init c = record { made = refl; fits = c.requires.fits; found = c.requires.found }

@@ -5,7 +5,7 @@ use Rattle.step_eval.specs.Arrival.{Arrives}
 use Rattle.step_eval.specs.ControlView.{view_of}
 use Rattle.step_eval.specs.declared.machine.Focus.TheVariants as focus
 use Rattle.step_eval.proofs.Stepping.{expr-by}
-use Rattle.step_eval.proofs.machine.Machine.find.Goals as goal
+use Rattle.step_eval.proofs.machine.Running.find.Goals as goal
 
 pub returns-in-Begun : goal.returns-in-Begun
 returns-in-Begun c =

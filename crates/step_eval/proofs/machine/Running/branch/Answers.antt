@@ -10,15 +10,15 @@ use Rattle.step_eval.specs.Meaning.{node_at}
 use Rattle.step_eval.specs.View.{here_of, round_of}
 use Rattle.step_eval.proofs.Standing.{any-part, any-there, part-found, stepping-fits}
 use Rattle.step_eval.proofs.Turning.{branch-some, parts-are}
-use Rattle.step_eval.proofs.machine.Machine.branch.Goals as goal
+use Rattle.step_eval.proofs.machine.Running.branch.Goals as goal
 
 pub item_of-yes-requires : goal.item_of-yes-requires
 item_of-yes-requires c =
     let p = c.args.p.now in
     let n = c.args.n in
-    let here = here_of c.args.self.now in
+    let here = here_of c.args.self.now.machine in
     let at = c.requires.at in
-    let fits = stepping-fits p n 0 here c.args.self.now.mark (round_of c.args.self.now) at in
+    let fits = stepping-fits p n 0 here c.args.self.now.machine.mark (round_of c.args.self.now.machine) at in
     let valid = c.node_at.ensures.valid in
     let long : length c.parts-parts.result.now ≡ length (node_at p n).parts = ap length c.parts-parts.ensures ∙ ap (λ m. length m.parts) c.node_at.ensures.node in
     let three : length (node_at p n).parts ≡ 3 = parts-are p valid n fits.there If 3 c.requires.head refl in
@@ -28,9 +28,9 @@ pub item_of-no-requires : goal.item_of-no-requires
 item_of-no-requires c =
     let p = c.args.p.now in
     let n = c.args.n in
-    let here = here_of c.args.self.now in
+    let here = here_of c.args.self.now.machine in
     let at = c.requires.at in
-    let fits = stepping-fits p n 0 here c.args.self.now.mark (round_of c.args.self.now) at in
+    let fits = stepping-fits p n 0 here c.args.self.now.machine.mark (round_of c.args.self.now.machine) at in
     let valid = c.node_at.ensures.valid in
     let long : length c.parts-parts.result.now ≡ length (node_at p n).parts = ap length c.parts-parts.ensures ∙ ap (λ m. length m.parts) c.node_at.ensures.node in
     let three : length (node_at p n).parts ≡ 3 = parts-are p valid n fits.there If 3 c.requires.head refl in
@@ -40,9 +40,9 @@ pub start-requires-clause-there : goal.start-requires-clause-there
 start-requires-clause-there c =
     let p = c.args.p.now in
     let n = c.args.n in
-    let here = here_of c.args.self.now in
+    let here = here_of c.args.self.now.machine in
     let at = c.requires.at in
-    let fits = stepping-fits p n 0 here c.args.self.now.mark (round_of c.args.self.now) at in
+    let fits = stepping-fits p n 0 here c.args.self.now.machine.mark (round_of c.args.self.now.machine) at in
     let valid = c.node_at.ensures.valid in
     let yes : slice_get (node_at p n).parts 1 ≡ Some c.item_of-yes.result = part-found p n c.node_at.result c.parts-parts.result.now 1 1 c.item_of-yes.result c.node_at.ensures.node c.parts-parts.ensures c.item_of-yes.ensures refl in
     any-there p valid n 1 c.item_of-yes.result fits.there yes
@@ -51,9 +51,9 @@ pub start-requires-clause-scoped : goal.start-requires-clause-scoped
 start-requires-clause-scoped c =
     let p = c.args.p.now in
     let n = c.args.n in
-    let here = here_of c.args.self.now in
+    let here = here_of c.args.self.now.machine in
     let at = c.requires.at in
-    let fits = stepping-fits p n 0 here c.args.self.now.mark (round_of c.args.self.now) at in
+    let fits = stepping-fits p n 0 here c.args.self.now.machine.mark (round_of c.args.self.now.machine) at in
     let valid = c.node_at.ensures.valid in
     let yes : slice_get (node_at p n).parts 1 ≡ Some c.item_of-yes.result = part-found p n c.node_at.result c.parts-parts.result.now 1 1 c.item_of-yes.result c.node_at.ensures.node c.parts-parts.ensures c.item_of-yes.ensures refl in
     any-part p valid n (length here.env) 1 c.item_of-yes.result If fits c.requires.head refl yes
@@ -62,9 +62,9 @@ pub start-requires-in-Some-false-clause-there : goal.start-requires-in-Some-fals
 start-requires-in-Some-false-clause-there c =
     let p = c.args.p.now in
     let n = c.args.n in
-    let here = here_of c.args.self.now in
+    let here = here_of c.args.self.now.machine in
     let at = c.requires.at in
-    let fits = stepping-fits p n 0 here c.args.self.now.mark (round_of c.args.self.now) at in
+    let fits = stepping-fits p n 0 here c.args.self.now.machine.mark (round_of c.args.self.now.machine) at in
     let valid = c.node_at.ensures.valid in
     let no : slice_get (node_at p n).parts 2 ≡ Some c.item_of-no.result = part-found p n c.node_at.result c.parts-parts.result.now 2 2 c.item_of-no.result c.node_at.ensures.node c.parts-parts.ensures c.item_of-no.ensures refl in
     any-there p valid n 2 c.item_of-no.result fits.there no
@@ -73,9 +73,9 @@ pub start-requires-in-Some-false-clause-scoped : goal.start-requires-in-Some-fal
 start-requires-in-Some-false-clause-scoped c =
     let p = c.args.p.now in
     let n = c.args.n in
-    let here = here_of c.args.self.now in
+    let here = here_of c.args.self.now.machine in
     let at = c.requires.at in
-    let fits = stepping-fits p n 0 here c.args.self.now.mark (round_of c.args.self.now) at in
+    let fits = stepping-fits p n 0 here c.args.self.now.machine.mark (round_of c.args.self.now.machine) at in
     let valid = c.node_at.ensures.valid in
     let no : slice_get (node_at p n).parts 2 ≡ Some c.item_of-no.result = part-found p n c.node_at.result c.parts-parts.result.now 2 2 c.item_of-no.result c.node_at.ensures.node c.parts-parts.ensures c.item_of-no.ensures refl in
     any-part p valid n (length here.env) 2 c.item_of-no.result If fits c.requires.head refl no
@@ -84,26 +84,26 @@ pub returns-in-Some-true : goal.returns-in-Some-true
 returns-in-Some-true c =
     let p = c.args.p.now in
     let n = c.args.n in
-    let here = here_of c.args.self.now in
+    let here = here_of c.args.self.now.machine in
     let at = c.requires.at in
-    let fits = stepping-fits p n 0 here c.args.self.now.mark (round_of c.args.self.now) at in
+    let fits = stepping-fits p n 0 here c.args.self.now.machine.mark (round_of c.args.self.now.machine) at in
     let valid = c.node_at.ensures.valid in
     let yes : slice_get (node_at p n).parts 1 ≡ Some c.item_of-yes.result = part-found p n c.node_at.result c.parts-parts.result.now 1 1 c.item_of-yes.result c.node_at.ensures.node c.parts-parts.ensures c.item_of-yes.ensures refl in
     let no : slice_get (node_at p n).parts 2 ≡ Some c.item_of-no.result = part-found p n c.node_at.result c.parts-parts.result.now 2 2 c.item_of-no.result c.node_at.ensures.node c.parts-parts.ensures c.item_of-no.ensures refl in
-    let test : Some true ≡ option_and_then truth_of (one_of c.args.self.now.done.items) = sym (c.in-Some-true.is ∙ ap Some c.in-Some-true.field-0-test) ∙ c.condition.ensures ∙ ap (λ vs. option_and_then truth_of (one_of vs)) c.as_slice.ensures.value in
-    let O : Outcome → Type 0 = λ (o : Outcome). OnOk c.start.result (Arrives p (view_of c.start.new.self) (turned p (round_of c.args.self.now) o)) in
+    let test : Some true ≡ option_and_then truth_of (one_of c.args.self.now.machine.done.items) = sym (c.in-Some-true.is ∙ ap Some c.in-Some-true.field-0-test) ∙ c.condition.ensures ∙ ap (λ vs. option_and_then truth_of (one_of vs)) c.as_slice.ensures.value in
+    let O : Outcome → Type 0 = λ (o : Outcome). OnOk c.start.result (Arrives p (view_of c.start.new.self) (turned p (round_of c.args.self.now.machine) o)) in
     subst O (sym (branch-some p valid n here at.at at.settled fits.there c.item_of-yes.result c.item_of-no.result c.requires.head yes no true test)) c.start.ensures
 
 pub returns-in-Some-false : goal.returns-in-Some-false
 returns-in-Some-false c =
     let p = c.args.p.now in
     let n = c.args.n in
-    let here = here_of c.args.self.now in
+    let here = here_of c.args.self.now.machine in
     let at = c.requires.at in
-    let fits = stepping-fits p n 0 here c.args.self.now.mark (round_of c.args.self.now) at in
+    let fits = stepping-fits p n 0 here c.args.self.now.machine.mark (round_of c.args.self.now.machine) at in
     let valid = c.node_at.ensures.valid in
     let yes : slice_get (node_at p n).parts 1 ≡ Some c.item_of-yes.result = part-found p n c.node_at.result c.parts-parts.result.now 1 1 c.item_of-yes.result c.node_at.ensures.node c.parts-parts.ensures c.item_of-yes.ensures refl in
     let no : slice_get (node_at p n).parts 2 ≡ Some c.item_of-no.result = part-found p n c.node_at.result c.parts-parts.result.now 2 2 c.item_of-no.result c.node_at.ensures.node c.parts-parts.ensures c.item_of-no.ensures refl in
-    let test : Some false ≡ option_and_then truth_of (one_of c.args.self.now.done.items) = sym (c.in-Some-false.is ∙ ap Some c.in-Some-false.field-0-test) ∙ c.condition.ensures ∙ ap (λ vs. option_and_then truth_of (one_of vs)) c.as_slice.ensures.value in
-    let O : Outcome → Type 0 = λ (o : Outcome). OnOk c.start-in-Some-false.result (Arrives p (view_of c.start-in-Some-false.new.self) (turned p (round_of c.args.self.now) o)) in
+    let test : Some false ≡ option_and_then truth_of (one_of c.args.self.now.machine.done.items) = sym (c.in-Some-false.is ∙ ap Some c.in-Some-false.field-0-test) ∙ c.condition.ensures ∙ ap (λ vs. option_and_then truth_of (one_of vs)) c.as_slice.ensures.value in
+    let O : Outcome → Type 0 = λ (o : Outcome). OnOk c.start-in-Some-false.result (Arrives p (view_of c.start-in-Some-false.new.self) (turned p (round_of c.args.self.now.machine) o)) in
     subst O (sym (branch-some p valid n here at.at at.settled fits.there c.item_of-yes.result c.item_of-no.result c.requires.head yes no false test)) c.start-in-Some-false.ensures
