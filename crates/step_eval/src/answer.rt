@@ -1,5 +1,5 @@
 //! Acts that have their answers.
-ghost use Rattle.std.specs.Prelude.{◌≡◌, ◌<◌, ◌∷◌, None, Some, length, IfOk, IsSome, OnErr, OnOk};
+ghost use Rattle.std.specs.Prelude.{◌≡◌, ◌<◌, ◌∷◌, None, Some, IfOk, OnErr, OnOk};
 ghost use Rattle.std.specs.Arc.{arc_value};
 ghost use Rattle.plain_language.specs.Look.{entered};
 ghost use Rattle.plain_language.specs.Outcome.{called};
@@ -7,7 +7,6 @@ ghost use Rattle.plain_language.specs.Program.{body};
 ghost use Rattle.step_eval.specs.Asked.{act_next};
 ghost use Rattle.step_eval.specs.ControlView.{Fits, expr_of, view_of};
 ghost use Rattle.step_eval.specs.Sections.{entry_of, section_frame};
-ghost use Rattle.step_eval.specs.Turns.{Takes};
 ghost use Rattle.step_eval.specs.View.{here_of, round_of};
 ghost use Rattle.step_eval.specs.declared.act.Act.TheVariants.{Enter};
 ghost use Rattle.step_eval.specs.declared.machine.Focus.TheVariants as Focus;

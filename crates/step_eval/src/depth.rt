@@ -1,5 +1,5 @@
 //! How many forms are round a redex that is still to be found. This takes no memory.
-ghost use Rattle.std.specs.Prelude.{◌≡◌, ◌+◌, ◌<◌, ℕ, IfSome, List, Option, length, nat_lt};
+ghost use Rattle.std.specs.Prelude.{◌≡◌, ◌+◌, ◌<◌, IfSome, List, Option, length, nat_lt};
 ghost use Rattle.std.specs.Bool.{OnFalse, OnTrue};
 ghost use Rattle.stab_base.specs.Datum.{Datum};
 ghost use Rattle.stab_base.specs.declared.numbers.Seq.{Seq};

@@ -156,8 +156,8 @@ impl Schedule {
                 _ => format!(in alloc; "{word} {t} {n}")?,
             };
             let made = match kind {
-                ActKind::Send => self.meet(alloc, t, n)?,
-                ActKind::Recv | ActKind::Pick => self.meet(alloc, n, t)?,
+                ActKind::Send(_) => self.meet(alloc, t, n)?,
+                ActKind::Recv(_) | ActKind::Pick(..) => self.meet(alloc, n, t)?,
                 _ => self.step(alloc, label, words)?,
             };
             if made {
@@ -311,8 +311,8 @@ fn label_of(kind: ActKind, t: u32, n: u32) -> (Label, &'static str) {
         ActKind::Spawn => (Label::Spawn(t, ThreadId(n)), "spawn"),
         ActKind::NewChan => (Label::NewChan(t, ChanId(n)), "newchan"),
         ActKind::NewRef => (Label::NewRef(t, RefId(n)), "newref"),
-        ActKind::Get => (Label::Get(t, RefId(n)), "get"),
-        ActKind::Set => (Label::Set(t, RefId(n)), "set"),
+        ActKind::Get(_) => (Label::Get(t, RefId(n)), "get"),
+        ActKind::Set(_) => (Label::Set(t, RefId(n)), "set"),
         ActKind::Enter => (Label::Enter(t), "enter"),
         ActKind::Cut => (Label::Cut(t), "cut"),
         ActKind::Pin => (Label::Pin(t), "pin"),

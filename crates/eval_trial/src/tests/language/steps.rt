@@ -142,15 +142,15 @@ const LOOKS: &str = "\
 ((), 1 + 2) | Pure
 (idle(), recv(c)) | Pure
 send(1, 2) | Pure
-((), send(c, 5)) | Act(Send)
+((), send(c, 5)) | Act(Send(ChanId(1)))
 spawn idle() | Act(Spawn)
 chan[int]() | Act(NewChan)
 ref(7) | Act(NewRef)
-get(r) | Act(Get)
-set(r, 7) | Act(Set)
-send(c, 7) | Act(Send)
-recv(c) | Act(Recv)
-pick(c, d) | Act(Pick)
+get(r) | Act(Get(RefId(1)))
+set(r, 7) | Act(Set(RefId(1)))
+send(c, 7) | Act(Send(ChanId(1)))
+recv(c) | Act(Recv(ChanId(1)))
+pick(c, d) | Act(Pick(ChanId(1), ChanId(2)))
 stable idle() | Act(Enter)
 stabilize() | Act(Stabilize)
 cut() | Act(Cut)
