@@ -94,7 +94,8 @@ fn run_shown<
     run_on::<Watched<'_, K, R>, C, S, R>(rt, alloc, state, commits, stale, plan)
 }
 
-fn passes_of(
+// Passes of so many readers.
+pub(crate) fn passes_of(
     alloc: Global,
     board: &Board,
     writer: &mut WritePass,
@@ -112,7 +113,7 @@ fn passes_of(
 }
 
 // Each reader reads in a thread of its own until the turns are done. The answer is how often all of them have read.
-fn read_all<R: Threads + Wait + Sync>(
+pub(crate) fn read_all<R: Threads + Wait + Sync>(
     rt: &R,
     board: &Board,
     passes: Vec<ReadPass>,
@@ -149,9 +150,10 @@ fn read_until<R: Wait>(
         board.read(rt, pass);
         readings = readings.saturating_add(1);
         sum = work(between, sum);
-        if done.load(Ordering::SeqCst) > 0 {
-            // The sum is used, so that the work can't be left out.
-            return readings.max(sum % 2);
+        let ended = done.load(Ordering::SeqCst);
+        if ended > 0 {
+            // The sum is used, so that the work can't be left out. `ended` is 1, which no compiler knows.
+            return readings.max(sum & ended);
         }
     }
     unreachable!()

@@ -1,14 +1,16 @@
 //! What no run of the program shows: how long the containers and the graph of a run take with many entries, the lexer with long texts,
 //! a program of many nodes, turns of a floor, by one worker alone, and by one, two and four with work beside, and turns that a board
-//! shows.
+//! shows; and commits of a book, which a board may show.
 //!
-//! Without a word it prints the times of all but the turns, and with `turns` those of the turns. With `counts` it prints, for few
-//! entries, how many calls found what they were for, and how many calls committed in some turns; with `bytes` and the name of a
-//! container, how many bytes that takes for an entry.
+//! Without a word it prints the times of all but the turns, with `turns` those of the turns, and with `commits` those of the commits.
+//! With `counts` it prints, for few entries, how many calls found what they were for, how many calls committed in some turns, and how
+//! many events some commits made; with `bytes` and the name of a container, how many bytes that takes for an entry.
 #![tactic(auto)]
 
 mod adder;
 mod boards;
+mod commit_table;
+mod commits;
 mod events;
 mod graphs;
 mod offers;
@@ -30,9 +32,11 @@ fn main(rt: HostRuntime) -> io::Result<()> {
     match words.next() {
         Some(word) if word.as_str() == "counts" => {
             table::print_counts(&rt)?;
-            turn_table::print_counts(&rt)
+            turn_table::print_counts(&rt)?;
+            commit_table::print_counts(&rt)
         }
         Some(word) if word.as_str() == "turns" => turn_table::print_times(&rt),
+        Some(word) if word.as_str() == "commits" => commit_table::print_times(&rt),
         Some(word) if word.as_str() == "bytes" => match words.next() {
             Some(name) => table::print_bytes(&rt, name.as_str()),
             None => Ok(()),

@@ -30,7 +30,8 @@ const BESIDE: u32 = 3;
 /// How many readings are timed.
 const READINGS: u32 = 1_000_000;
 
-fn blank(workers: u32) -> Blank
+/// What so many workers count from.
+pub fn blank(workers: u32) -> Blank
     ensures { result.parts ≡ workers }
 {
     Blank::new(u64::from(workers))
