@@ -9,7 +9,7 @@ use Rattle.stab_words.specs.declared.reading.Expects.{Expects}
 use Rattle.stab_words.specs.declared.reading.Expects.TheVariants.{AnyWord, ValueOf, PlainWord}
 use Rattle.stab_words.specs.declared.request.Request.{Request}
 use Rattle.stab_words.specs.declared.request.WordFault.{WordFault}
-use Rattle.stab_words.specs.declared.request.WordFault.TheVariants.{NoMemory, NoValue, UnknownOption}
+use Rattle.stab_words.specs.declared.request.WordFault.TheVariants.{NoValue, UnknownOption}
 use Rattle.stab_words.specs.Asked.{Gives, and_then, has_dash, has_dashes, name_of, next_value, option_of, option_value, optional, or_fault, plain, read, read_plain, request, valued, written_value}
 use Rattle.stab_words.specs.Given.{nothing}
 use Rattle.stab_words.specs.Steps.{begun, finished, goes_on, option_step, read_from, step, with_value}

@@ -1,17 +1,12 @@
 -- What the commands and options are called, and what each command takes.
-use Rattle.std.specs.Prelude.{ℕ, Bool, true, false, List, [], ◌∷◌, Option, Some, None, codes, if◌then◌else◌}
-use Rattle.std.specs.Str.{bytes_eq}
+use Rattle.std.specs.Prelude.{ℕ, Bool, true, false, List, [], ◌∷◌, Option, codes}
+use Rattle.text_lines.specs.Table.{named_in}
 use Rattle.stab_words.specs.declared.command.Command.{Command}
 use Rattle.stab_words.specs.declared.command.Command.TheVariants.{Run, Trace, Verify, Drill, Check, Mill, Types, Save, Resume, Watch}
 use Rattle.stab_words.specs.declared.command.Setting.{Setting}
 use Rattle.stab_words.specs.declared.command.Setting.TheVariants.{Probes, Workers, Fuel, Quantum}
 use Rattle.stab_words.specs.declared.command.Place.{Place}
 use Rattle.stab_words.specs.declared.command.Place.TheVariants.{File, Second, Number}
-
--- what a table has for a word
-abbrev pub value_in : {T : Type 0} → List (List ℕ × T) → List ℕ → Option T
-value_in [] word = None
-value_in (row ∷ rows) word = if bytes_eq row.0 word then Some row.1 else value_in rows word
 
 -- the commands
 abbrev pub commands : List (List ℕ × Command)
@@ -21,7 +16,7 @@ commands =
     ∷ (codes "resume", Resume) ∷ (codes "watch", Watch) ∷ []
 
 abbrev pub command_named : List ℕ → Option Command
-command_named word = value_in commands word
+command_named word = named_in commands word
 
 -- the options
 abbrev pub options : List (List ℕ × Setting)
@@ -29,7 +24,7 @@ options =
     (codes "--probes", Probes) ∷ (codes "--workers", Workers) ∷ (codes "--fuel", Fuel) ∷ (codes "--quantum", Quantum) ∷ []
 
 abbrev pub option_named : List ℕ → Option Setting
-option_named word = value_in options word
+option_named word = named_in options word
 
 -- the places of each command
 abbrev pub places : Command → List Place

@@ -1,10 +1,7 @@
 -- Numbers in words.
-use Rattle.std.specs.Prelude.{ℕ, ◌+◌, ◌-◌, ◌*◌, ◌&&◌, Bool, nat_le, List, length, Option, Some, None, if◌then◌else◌, fold}
+use Rattle.std.specs.Prelude.{ℕ, ◌&&◌, Bool, nat_le, List, length, Option, Some, None, if◌then◌else◌}
 use Rattle.std.specs.Str.{all_ascii_digits}
-
--- the value of decimal digits
-abbrev pub value_of : List ℕ → ℕ
-value_of digits = fold (λ value digit. value * 10 + (digit - 48)) 0 digits
+use Rattle.text_lines.specs.Digits.{value_of}
 
 -- 1 to 10 digits with a value from 1 to `most`; leading zeros are allowed
 abbrev pub is_number : ℕ → List ℕ → Bool

@@ -1,5 +1,5 @@
 -- Words are read one by one. What they ask for is `asked`, which doesn't depend on this.
-use Rattle.std.specs.Prelude.{ℕ, suc, Bool, List, [], ◌∷◌, Option, Some, None, Result, Ok, Err, codes, if◌then◌else◌}
+use Rattle.std.specs.Prelude.{ℕ, suc, List, [], ◌∷◌, Option, Some, None, Result, Ok, Err, codes, if◌then◌else◌}
 use Rattle.std.specs.Str.{bytes_eq}
 use Rattle.stab_words.specs.declared.command.Command.{Command}
 use Rattle.stab_words.specs.declared.command.Setting.{Setting}

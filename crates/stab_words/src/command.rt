@@ -1,6 +1,8 @@
 //! What the commands are called, and what each of them takes.
-ghost use Rattle.std.specs.Prelude.{◌≡◌, map};
-ghost use Rattle.stab_words.specs.Command.{command_named, option_named, places, takes, value_in};
+ghost use Rattle.std.specs.Prelude.{◌≡◌};
+ghost use Rattle.stab_words.specs.Command.{command_named, option_named, places, takes};
+
+use text_lines::named_in;
 
 /// A command of the program.
 #[derive(Clone, Copy, PartialEq, Eq)]
@@ -61,26 +63,14 @@ const OPTIONS: [(&str, Setting); 4] = [
 pub fn command_named(word: &str) -> Option<Command>
     ensures { result ≡ command_named word.now }
 {
-    value_in(&COMMANDS, word)
+    named_in(&COMMANDS, word.as_bytes())
 }
 
 /// The option of this name.
 pub fn option_named(word: &str) -> Option<Setting>
     ensures { result ≡ option_named word.now }
 {
-    value_in(&OPTIONS, word)
-}
-
-// The table's entry for the word.
-fn value_in<T: Copy>(table: &[(&str, T)], word: &str) -> Option<T>
-    ensures { result ≡ value_in (map (λ row. (row.0.now, row.1)) table.now) word.now }
-{
-    for (text, value) in table {
-        if text.as_bytes() == word.as_bytes() {
-            return Some(*value);
-        }
-    }
-    None
+    named_in(&OPTIONS, word.as_bytes())
 }
 
 impl Command {
