@@ -1,4 +1,8 @@
 //! What a journal records.
+ghost use Rattle.std.specs.Prelude.{◌≡◌, ◌||◌, ℕ, Bool, nat_eq};
+ghost use Rattle.std.specs.List.{list_any};
+ghost use Rattle.stab_journal.specs.Label.{actors, touched};
+ghost use Rattle.stab_journal.specs.Names.{has};
 
 use stab_base::{ChanId, RefId, Seq, ThreadId};
 
@@ -28,6 +32,41 @@ pub enum Label {
     Pin(ThreadId),
     /// How often the thread was put back so far.
     Attempt(ThreadId, u64),
+}
+
+impl Label {
+    /// The threads that act in the step; one that acts alone is given twice.
+    pub fn actors(self) -> (ThreadId, ThreadId)
+        ensures has { (t : ℕ) → has (actors self) t ≡ (nat_eq t result.0.0 || nat_eq t result.1.0) }
+        ensures any { (p : ℕ → Bool) → list_any p (actors self) ≡ (p result.0.0 || p result.1.0) }
+    {
+        match self {
+            Label::Comm(s, r, _) => (s, r),
+            Label::Local(t, _)
+            | Label::Spawn(t, _)
+            | Label::NewChan(t, _)
+            | Label::NewRef(t, _)
+            | Label::Get(t, _)
+            | Label::Set(t, _)
+            | Label::Enter(t)
+            | Label::Cut(t)
+            | Label::Print(t)
+            | Label::Probe(t, _)
+            | Label::Refuse(t)
+            | Label::Pin(t)
+            | Label::Attempt(t, _) => (t, t),
+        }
+    }
+
+    /// The threads that the step touches, its actors and the one that it starts; one that it touches alone is given twice.
+    pub fn touched(self) -> (ThreadId, ThreadId)
+        ensures { (t : ℕ) → has (touched self) t ≡ (nat_eq t result.0.0 || nat_eq t result.1.0) }
+    {
+        match self {
+            Label::Spawn(t, u) => (t, u),
+            _ => self.actors(),
+        }
+    }
 }
 
 /// What happened at an event.
