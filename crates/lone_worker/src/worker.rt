@@ -54,6 +54,7 @@ fn turn(book: &mut Book) -> Option<RunEnd>
     ensures says { IfSome result (λ end. EndSays end book.new) }
     ensures shown { IsShown book.new }
 {
+    // Read for its clause that a book shows a run.
     let _before = book.job();
     match book.lease(WORKER) {
         Ok(Turn::Work(lease, control)) => work(book, lease, control),
@@ -79,6 +80,7 @@ fn work(book: &mut Book, lease: Lease, control: Control) -> Option<RunEnd>
     let quantum = book.job().quantum();
     match advance(book.job().program(), control, quantum) {
         Ok(progress) => {
+            // Read for its clause that these steps lead there.
             let _end = progress.end();
             commit(book, lease, progress)
         }
@@ -107,6 +109,7 @@ fn commit(book: &mut Book, lease: Lease, progress: Progress) -> Option<RunEnd>
         Ok(Done::Taken { .. }) => None,
         Ok(Done::Parked { .. }) => None,
         Ok(Done::Undone { .. }) => {
+            // Read for its clause on how many threads there are.
             let _last = book.last_thread();
             None
         }

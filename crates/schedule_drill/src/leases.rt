@@ -73,11 +73,13 @@ impl Leases {
         ensures shown { IsShown book.new }
     {
         let Leases { mut out } = self;
+        // Read for its clause that the numbers are in order.
         let _few = out.len();
         while let Some((_k, held)) = out.pop_first() {
             book.give_back(held.into_lease());
         }
         out.destroy_empty();
+        // Read for its clause that a book shows a run.
         let _shown = book.job();
     }
 }

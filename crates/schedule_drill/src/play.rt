@@ -38,6 +38,7 @@ pub(crate) fn play(
     ensures faulty { IfErr result (IsFaultOf leases.old line.now) }
     ensures shown { IsShown book.new }
 {
+    // Read for its clause that a book shows a run.
     let _shown = book.job();
     let Some(order) = line.order else {
         return Err(DrillFault::BadLine(line.at));
@@ -134,6 +135,7 @@ fn hold(book: &mut Book, leases: &mut Leases, k: u32, held: Held) -> Result<(), 
     ensures book { OnOk result (book.new ≡ book.old) }
     ensures shown { IsShown book.new }
 {
+    // Read for its clause that a book shows a run.
     let _shown = book.job();
     match leases.put(k, held) {
         Ok(()) => Ok(()),

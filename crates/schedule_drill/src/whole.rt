@@ -58,6 +58,7 @@ fn play_all(
     ensures stopped { IfErr result (IsStopped (stand book.old leases.old) script.now) }
     ensures shown { IsShown book.new }
 {
+    // Read for its clause that a book shows a run.
     let _shown = book.job();
     let mut lines = Vec::new(alloc);
     for line in script {

@@ -48,6 +48,7 @@ fn at_rest(book: &Book) -> Status
         + in_state Parked book.now) 0 then IsDone else IsHeld) }
     ensures valid { IsValid book.now.job.program }
 {
+    // Read for its clause that a program is valid.
     let _texts = book.job().program().texts();
     let counts = book.counts();
     if counts.faulted > 0 || counts.parked > 0 {

@@ -76,6 +76,7 @@ impl Typed {
             → IfSome (standing s t) (λ e. look_in self.now e ≡ fault WrongKind → ⊥) }
     {
         forms_fit();
+        // Read for its clause that a program is valid.
         let _count = self.program.functions();
     }
 }

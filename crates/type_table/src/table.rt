@@ -69,6 +69,7 @@ impl TypeTable {
     fn begins(&self)
         ensures { IsLonger base_types self.now }
     {
+        // Read for what is kept of every table.
         let _count = self.shapes.len();
     }
 
@@ -131,6 +132,7 @@ impl TypeTable {
         ensures { (all : List Written) → IsLonger self.now all → (m n : Number) → m.0 < length self.now → n.0 < length self.now
             → type_at all m ≡ type_at all n → m ≡ n }
     {
+        // Read for what is kept of every table.
         let _count = self.shapes.len();
     }
 }

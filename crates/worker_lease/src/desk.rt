@@ -49,6 +49,7 @@ impl Desk {
         ensures by_one { AreByOne result.history.events }
     {
         let Desk { book } = self;
+        // Read for its clause that a book shows a run.
         let _shown = book.job();
         book
     }
