@@ -11,7 +11,7 @@ use Rattle.stab_code.specs.Trees.{Tree, Trees, tree, none as no_trees, more as m
 use Rattle.stab_code.specs.Program.{ProgramParts, FunctionParts, body_of}
 use Rattle.plain_language.specs.declared.head.Head.{Head}
 use Rattle.plain_language.specs.declared.head.Head.TheVariants.{Section}
-use Rattle.plain_language.specs.Expression.{Expr, value, variable, failed, form, Parts, none, part, put_value, put, put_parts, only}
+use Rattle.plain_language.specs.Expression.{Expr, value, variable, failed, form, Parts, none, part, put_variable, put, put_parts, only}
 use Rattle.plain_language.specs.Redex.{first_counts_alone, Frame, after_values, within, Redex, redex_of, redex_in, redex, frames_of, frames, rebuild, spine, max_spine, cap}
 use Rattle.plain_language.specs.Program.{form_of, expr_of, exprs_of, body_by, body}
 use Rattle.plain_language.specs.Numbers.{fits_word}
@@ -43,7 +43,7 @@ mutual
   more_parts j k m (part e ps) i = (more_expr j k m e i.0, more_parts j k m ps i.1)
 
 module _ (k : Known) where
-  some_value : (o : Option Datum) (x : ℕ) → ((v : Datum) → o ≡ Some v → IsIn k v) → IsExprIn k (put_value o x)
+  some_value : (o : Option Datum) (x : ℕ) → ((v : Datum) → o ≡ Some v → IsIn k v) → IsExprIn k (put_variable o x)
   some_value None x f = tt
   some_value (Some v) x f = f v refl
 

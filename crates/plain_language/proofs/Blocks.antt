@@ -9,7 +9,7 @@ use Rattle.plain_language.specs.Expression.{Expr, value, variable, failed, form,
 use Rattle.plain_language.specs.Busy.{values_in, waiting_parts}
 use Rattle.plain_language.specs.Given.{given_to, value_of}
 use Rattle.plain_language.specs.Operands.{one_of, truth_of}
-use Rattle.plain_language.specs.Pures.{left_of}
+use Rattle.plain_language.specs.Pures.{left_of_block}
 use Rattle.plain_language.specs.Outcome.{Outcome, becomes, fails, with_one, with_truth, after_item, block_of, branch_of, waiting_one}
 use Rattle.plain_language.proofs.Operands.{with_truth-some}
 use Rattle.plain_language.proofs.Putting.{put-nothing}
@@ -58,7 +58,7 @@ pub branched_wrong : (es : List Expr) (b : Bool) → Some b ≡ option_and_then 
 branched_wrong es b h size = not_three b es size ∙ sym (branch_by (values_in (take 1 es)) (λ c. branch_of c (parts_of (drop 1 es))) b h)
 
 -- what is left of a block
-pub block_of-left : (slots : List (Option ℕ)) (ps : Parts) → block_of slots ps ≡ becomes (left_of slots ps)
+pub block_of-left : (slots : List (Option ℕ)) (ps : Parts) → block_of slots ps ≡ becomes (left_of_block slots ps)
 block_of-left [] none = refl
 block_of-left [] (part e none) = refl
 block_of-left [] (part e (part x ps)) = refl
@@ -68,13 +68,13 @@ empty_is : (b : Bool) → b ≡ nat_eq 0 0 → b ≡ false → ⊥
 empty_is b is h = cc
 
 -- more than the last part is left
-pub left_many : (slots : List (Option ℕ)) (ps : List Expr) → (length ps ≡ 1 → ⊥) → form (Block slots) (parts_of ps) ≡ left_of slots (parts_of ps)
+pub left_many : (slots : List (Option ℕ)) (ps : List Expr) → (length ps ≡ 1 → ⊥) → form (Block slots) (parts_of ps) ≡ left_of_block slots (parts_of ps)
 left_many [] [] h = refl
 left_many [] (e ∷ []) h = absurd (h refl)
 left_many [] (e ∷ x ∷ es) h = refl
 left_many (s ∷ slots) ps h = refl
 
-pub left_items : (slots : List (Option ℕ)) (ps : List Expr) (b : Bool) → b ≡ nat_eq (length slots) 0 → b ≡ false → form (Block slots) (parts_of ps) ≡ left_of slots (parts_of ps)
+pub left_items : (slots : List (Option ℕ)) (ps : List Expr) (b : Bool) → b ≡ nat_eq (length slots) 0 → b ≡ false → form (Block slots) (parts_of ps) ≡ left_of_block slots (parts_of ps)
 left_items [] ps b is h = absurd (empty_is b is h)
 left_items (s ∷ slots) ps b is h = refl
 

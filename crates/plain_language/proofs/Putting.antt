@@ -3,7 +3,7 @@ use Rattle.std.proofs.Common.{arith, zero, suc, ◌≡◌, ℕ, ◌+◌, ◌<◌
 use Rattle.std.proofs.lemmas.List.{map-append, take_all, take_more}
 use Rattle.stab_base.specs.Datum.{Datum}
 use Rattle.plain_language.specs.Size.{size_of, size_of_parts}
-use Rattle.plain_language.specs.Expression.{Expr, Parts, value, variable, failed, form, none, part, parts_of, put_value, put, put_parts}
+use Rattle.plain_language.specs.Expression.{Expr, Parts, value, variable, failed, form, none, part, parts_of, put_variable, put, put_parts}
 
 pub put_parts-map : (f : ℕ → Option Datum) (es : List Expr) → parts_of (map (put f) es) ≡ put_parts f (parts_of es)
 put_parts-map f [] = refl
@@ -14,7 +14,7 @@ module _ (f g : ℕ → Option Datum) (same : (x : ℕ) → f x ≡ g x) where
     -- equal values, equal expressions
     pub put-agree : (e : Expr) → put f e ≡ put g e
     put-agree (value v) = refl
-    put-agree (variable x) = ap (λ o. put_value o x) (same x)
+    put-agree (variable x) = ap (λ o. put_variable o x) (same x)
     put-agree (failed k) = refl
     put-agree (form h ps) = ap (form h) (put_parts-agree ps)
 

@@ -21,15 +21,15 @@ abbrev pub parts_of : List Expr → Parts
 parts_of [] = none
 parts_of (e ∷ es) = part e (parts_of es)
 
-abbrev pub put_value : Option Datum → ℕ → Expr
-put_value (Some v) x = value v
-put_value None x = variable x
+abbrev pub put_variable : Option Datum → ℕ → Expr
+put_variable (Some v) x = value v
+put_variable None x = variable x
 
 -- an expression with values in place of its variables, by their slots
 abbrev mutual
   pub put : (ℕ → Option Datum) → Expr → Expr
   put vs (value v) = value v
-  put vs (variable x) = put_value (vs x) x
+  put vs (variable x) = put_variable (vs x) x
   put vs (failed k) = failed k
   put vs (form h ps) = form h (put_parts vs ps)
 

@@ -5,9 +5,9 @@ use Rattle.plain_language.specs.declared.expr.Node.{Node}
 use Rattle.plain_language.specs.declared.expr.Node.TheVariants.{Value, Var, Fault, Form}
 use Rattle.plain_language.specs.declared.expr.Expr.TheDeep.{deep-Node}
 use Rattle.plain_language.specs.Size.{size_of, most_le-size_of_parts}
-use Rattle.plain_language.specs.View.{expr_of}
+use Rattle.plain_language.specs.View.{node_expr}
 
-pub deep_le-size : (n : Node) → max (deep-Node n) 0 ≤ size_of (expr_of n)
+pub deep_le-size : (n : Node) → max (deep-Node n) 0 ≤ size_of (node_expr n)
 deep_le-size (Value v) = omega arith
 deep_le-size (Var x) = omega arith
 deep_le-size (Fault k) = omega arith

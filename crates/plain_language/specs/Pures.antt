@@ -22,9 +22,9 @@ made_in waiting (Makes p) = made_of p
 made_in waiting (Passes slots) = block_of slots waiting
 
 -- what is left of a block
-abbrev pub left_of : List (Option ℕ) → Parts → Expr
-left_of [] (part e none) = e
-left_of slots ps = form (Block slots) ps
+abbrev pub left_of_block : List (Option ℕ) → Parts → Expr
+left_of_block [] (part e none) = e
+left_of_block slots ps = form (Block slots) ps
 
 abbrev pub waiting_in : Option Redex → Parts
 waiting_in None = none
@@ -34,4 +34,4 @@ waiting_in (Some r) = r.waiting
 abbrev pub changed : Instead → Option Redex → Expr
 changed (Put e) r = e
 changed (Pass slots) None = failed WrongKind
-changed (Pass slots) (Some r) = left_of slots r.waiting
+changed (Pass slots) (Some r) = left_of_block slots r.waiting

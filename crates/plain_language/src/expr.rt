@@ -41,9 +41,9 @@ impl Model for Expr {
 
     ghost coded = { coded_expr fault.the_row.coded head.the_row.coded };
 
-    ghost use Rattle.plain_language.specs.View.{expr_of};
+    ghost use Rattle.plain_language.specs.View.{node_expr};
 
-    ghost view = { λ e. expr_of e.node };
+    ghost view = { λ e. node_expr e.node };
 
     ghost size = { size_of };
 

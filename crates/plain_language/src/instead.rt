@@ -2,7 +2,7 @@
 ghost use Rattle.std.specs.Prelude.{◌≡◌, Some, None, []};
 ghost use Rattle.plain_language.specs.Busy.{redex_with, waiting_parts};
 ghost use Rattle.plain_language.specs.Expression.{parts_of};
-ghost use Rattle.plain_language.specs.Pures.{changed, left_of};
+ghost use Rattle.plain_language.specs.Pures.{changed, left_of_block};
 ghost use Rattle.plain_language.specs.Redex.{first_counts_alone};
 
 use crate::expr::Expr;
@@ -54,7 +54,7 @@ fn waiting(head: &Head, mut parts: Vec<Expr>) -> Vec<Expr>
 
 /// What is left of a block with these items' slots and these parts: the last one alone where there is no other.
 pub(crate) fn left(slots: Slots, mut parts: Vec<Expr>) -> Expr
-    ensures { result ≡ left_of slots (parts_of parts.items) }
+    ensures { result ≡ left_of_block slots (parts_of parts.items) }
 {
     if slots.all().is_empty() && parts.len() == 1 {
         parts.remove(0)

@@ -4,7 +4,7 @@ use Rattle.std.proofs.lemmas.Bool.{eqb-true}
 use Rattle.std.proofs.lemmas.Bool.Decides.{nat_tests}
 use Rattle.stab_base.specs.Datum.{Datum}
 use Rattle.stab_code.specs.Program.{FunctionParts}
-use Rattle.plain_language.specs.Expression.{Expr, value, variable, failed, form, Parts, none, part, put_value, put, put_parts, only}
+use Rattle.plain_language.specs.Expression.{Expr, value, variable, failed, form, Parts, none, part, put_variable, put, put_parts, only}
 use Rattle.stab_types.specs.ExprType.{ExprType}
 use Rattle.stab_types.specs.Typed.{Seen, behind}
 use Rattle.stab_types.proofs.World.{World, FitsType, AllFit, IsUnder, under_refl}
@@ -17,22 +17,22 @@ module _ (functions : List FunctionParts) (w : World) (vs : ℕ → Option Datum
   -- the values have the types that variables have in the first, and what has no value is seen in the second as in the first
   pub record ArePut (seen left : Seen) : Type 0 where
     pub free : (x : ℕ) → seen x ≡ None → (vs x ≡ None) × (left x ≡ None)
-    pub put : (x : ℕ) (t : ExprType) → seen x ≡ Some t → Runs functions w left (put_value (vs x) x) t
+    pub put : (x : ℕ) (t : ExprType) → seen x ≡ Some t → Runs functions w left (put_variable (vs x) x) t
 
   free_behind : (t : ExprType) (seen left : Seen) → ArePut seen left → (y : ℕ) (b : Bool) → cond b (Some t) (seen y) ≡ None → (vs y ≡ None) × (cond b (Some t) (left y) ≡ None)
   free_behind t seen left p y true h = absurd (cc)
   free_behind t seen left p y false h = p.free y h
 
-  kept : (x y : ℕ) (t u : ExprType) (left : Seen) (o : Option Datum) → nat_eq y x ≡ false → Runs functions w left (put_value o y) u → Runs functions w (behind (Some x) t left) (put_value o y) u
+  kept : (x y : ℕ) (t u : ExprType) (left : Seen) (o : Option Datum) → nat_eq y x ≡ false → Runs functions w left (put_variable o y) u → Runs functions w (behind (Some x) t left) (put_variable o y) u
   kept x y t u left (Some v) apart r = r
   kept x y t u left None apart r = (r.0, ap (λ b. cond b (Some t) (left y)) apart ∙ r.1, r.2)
 
-  own : (x y : ℕ) (t u : ExprType) (left : Seen) (o : Option Datum) → o ≡ None → nat_eq y x ≡ true → t ≡ u → Runs functions w (behind (Some x) t left) (put_value o y) u
+  own : (x y : ℕ) (t u : ExprType) (left : Seen) (o : Option Datum) → o ≡ None → nat_eq y x ≡ true → t ≡ u → Runs functions w (behind (Some x) t left) (put_variable o y) u
   own x y t u left (Some v) e at same = absurd (cc)
   own x y t u left None e at same = (t, ap (λ b. cond b (Some t) (left y)) at, subst (IsUnder t) same (under_refl t))
 
   put_behind : (x : ℕ) (t : ExprType) (seen left : Seen) → seen x ≡ None → ArePut seen left → (y : ℕ) (u : ExprType) (b : Bool) → nat_eq y x ≡ b → cond b (Some t) (seen y) ≡ Some u →
-      Runs functions w (behind (Some x) t left) (put_value (vs y) y) u
+      Runs functions w (behind (Some x) t left) (put_variable (vs y) y) u
   put_behind x t seen left new p y u true at h = own x y t u left (vs y) (ap vs (eqb-true y x at) ∙ (p.free x new).0) at (some_is h)
   put_behind x t seen left new p y u false at h = kept x y t u left (vs y) at (p.put y u h)
 
@@ -45,7 +45,7 @@ module _ (functions : List FunctionParts) (w : World) (vs : ℕ → Option Datum
   mutual
     pub put_runs : (seen left : Seen) → ArePut seen left → (e : Expr) (t : ExprType) → Runs functions w seen e t → Runs functions w left (put vs e) t
     put_runs seen left p (value v) t r = r
-    put_runs seen left p (variable x) t r = runs_under functions w left (put_value (vs x) x) r.0 t r.2 (p.put x r.0 r.1)
+    put_runs seen left p (variable x) t r = runs_under functions w left (put_variable (vs x) x) r.0 t r.2 (p.put x r.0 r.1)
     put_runs seen left p (failed k) t r = absurd r
     put_runs seen left p (form h ps) t r = (r.0, r.1, put_all seen left p (slots_in h) ps r.0 r.2, r.3, r.4)
 
@@ -69,7 +69,7 @@ module _ (functions : List FunctionParts) (w : World) where
   no_argument (v ∷ vs) (t ∷ ts) zero fit h = absurd (cc)
   no_argument (v ∷ vs) (t ∷ ts) (suc x) fit h = no_argument vs ts x fit.1 h
 
-  argument : (vs : List Datum) (ts : List ExprType) (x y : ℕ) (t : ExprType) → AllFit w vs ts → slice_get ts x ≡ Some t → Runs functions w nothing_seen (put_value (slice_get vs x) y) t
+  argument : (vs : List Datum) (ts : List ExprType) (x y : ℕ) (t : ExprType) → AllFit w vs ts → slice_get ts x ≡ Some t → Runs functions w nothing_seen (put_variable (slice_get vs x) y) t
   argument [] [] x y t fit h = absurd (cc)
   argument [] (u ∷ ts) x y t fit h = absurd fit
   argument (v ∷ vs) [] x y t fit h = absurd fit
@@ -84,11 +84,11 @@ module _ (functions : List FunctionParts) (w : World) where
   only_free x y v t true at h = absurd (cc)
   only_free x y v t false at h = let swapped : nat_eq x y ≡ false = grind (arith, nat_tests) in ap (λ b. if b then Some v else None) swapped
 
-  only_put : (x y : ℕ) (v : Datum) (t u : ExprType) (b : Bool) → FitsType w v t → nat_eq y x ≡ b → cond b (Some t) None ≡ Some u → Runs functions w nothing_seen (put_value (only x v y) y) u
+  only_put : (x y : ℕ) (v : Datum) (t u : ExprType) (b : Bool) → FitsType w v t → nat_eq y x ≡ b → cond b (Some t) None ≡ Some u → Runs functions w nothing_seen (put_variable (only x v y) y) u
   only_put x y v t u true fit at h =
       let swapped : nat_eq x y ≡ true = grind (arith, nat_tests) in
       let there : only x v y ≡ Some v = ap (λ b. if b then Some v else None) swapped in
-      subst (λ (o : Option Datum). Runs functions w nothing_seen (put_value o y) u) (sym there) (subst (FitsType w v) (some_is h) fit)
+      subst (λ (o : Option Datum). Runs functions w nothing_seen (put_variable o y) u) (sym there) (subst (FitsType w v) (some_is h) fit)
   only_put x y v t u false fit at h = absurd (cc)
 
   -- the value of a let

@@ -4,7 +4,7 @@ use Rattle.std.proofs.lemmas.Bool.{false≢true}
 use Rattle.std.proofs.lemmas.List.Folds.{list_any-append}
 use Rattle.stab_base.specs.Datum.{Datum}
 use Rattle.stab_code.specs.Program.{ProgramParts}
-use Rattle.plain_language.specs.Expression.{Expr, value, variable, failed, form, Parts, none, part, put_value, put, put_parts}
+use Rattle.plain_language.specs.Expression.{Expr, value, variable, failed, form, Parts, none, part, put_variable, put, put_parts}
 use Rattle.expression_text.specs.Spelling.{count, items_of}
 use Rattle.standing_runs.specs.Whole.{is_bound, bound_by, IsValue, IsForm, IsWhole, AreWhole}
 
@@ -40,7 +40,7 @@ pub count_put : (vs : ℕ → Option Datum) (ps : Parts) → count (put_parts vs
 count_put vs none = refl
 count_put vs (part e ps) = ap suc (count_put vs ps)
 
-height_value : (o : Option Datum) (x : ℕ) → height (put_value o x) ≡ 1
+height_value : (o : Option Datum) (x : ℕ) → height (put_variable o x) ≡ 1
 height_value None x = refl
 height_value (Some v) x = refl
 
@@ -56,14 +56,14 @@ mutual
   heights_put vs (part e ps) = ap (λ n. max n (heights (put_parts vs ps))) (height_put vs e) ∙ ap (max (height e)) (heights_put vs ps)
 
 module _ (p : ProgramParts) (vs : ℕ → Option Datum) (values : (x : ℕ) (v : Datum) → vs x ≡ Some v → IsValue p v) where
-  put_variable : (after : List ℕ) (x : ℕ) (o : Option Datum) → vs x ≡ o → (vs x ≡ None → is_bound after x ≡ true) → x < 2 ^ 32 → IsWhole p after (put_value o x)
-  put_variable after x None is f small = (f is, small)
-  put_variable after x (Some v) is f small = values x v is
+  variable_whole : (after : List ℕ) (x : ℕ) (o : Option Datum) → vs x ≡ o → (vs x ≡ None → is_bound after x ≡ true) → x < 2 ^ 32 → IsWhole p after (put_variable o x)
+  variable_whole after x None is f small = (f is, small)
+  variable_whole after x (Some v) is f small = values x v is
 
   mutual
     pub put_whole : (bound after : List ℕ) → Covers vs bound after → (e : Expr) → IsWhole p bound e → IsWhole p after (put vs e)
     put_whole bound after c (value v) h = h
-    put_whole bound after c (variable x) h = put_variable after x (vs x) refl (c x h.0) h.1
+    put_whole bound after c (variable x) h = variable_whole after x (vs x) refl (c x h.0) h.1
     put_whole bound after c (failed k) h = h
     put_whole bound after c (form h ps) w = (subst (IsForm p h) (sym (count_put vs ps)) w.0, put_all bound after c (items_of h) ps w.1)
 

@@ -8,7 +8,7 @@ use Rattle.stab_code.specs.Nodes.{NodeParts}
 use Rattle.stab_code.specs.Program.{ProgramParts, tree_at, trees_at}
 use Rattle.stab_code.specs.Trees.{tree}
 use Rattle.stab_code.specs.Valid.{IsValid}
-use Rattle.plain_language.specs.Expression.{value, form, Parts, put, put_parts, put_value}
+use Rattle.plain_language.specs.Expression.{value, form, Parts, put, put_parts, put_variable}
 use Rattle.plain_language.specs.Program.{expr_of, exprs_of, form_of}
 use Rattle.step_eval.specs.Meaning.{node_at, head_of, form_at, at_start}
 use Rattle.step_eval.specs.Fits.{IsForm, IsLeft, FormFits}
@@ -45,7 +45,7 @@ module _ (p : ProgramParts) (valid : IsValid p) (n : NodeId) (there : n.0 < leng
 
   pub leaf-variable : (env : List Datum) (x : ℕ) (v : Datum) → (node_at p n).head ≡ Var x → slice_get env x ≡ Some v → put (slice_get env) (expr_of (tree_at p n)) ≡ value v
   leaf-variable env x v is found =
-      ap (put (slice_get env)) (expr_is ∙ ap (λ h. form_of h (exprs_of (trees_at p (node_at p n).parts))) is) ∙ ap (λ o. put_value o x) found
+      ap (put (slice_get env)) (expr_is ∙ ap (λ h. form_of h (exprs_of (trees_at p (node_at p n).parts))) is) ∙ ap (λ o. put_variable o x) found
 
   -- the variable's slot has a value
   pub slot-there : (size x : ℕ) → (node_at p n).head ≡ Var x → IsScoped size (tree_at p n) → x < size

@@ -16,7 +16,7 @@ use Rattle.stab_code.specs.Syntax.{left_open, lets_from, lets_of, one_or_none, o
 use Rattle.stab_code.specs.Trees.{Tree, Trees, tree, none, more, fold_all}
 use Rattle.stab_code.proofs.Lists.{All-left, All-right, slice_get-left, slice_get-right}
 use Rattle.plain_language.specs.declared.head.Head.TheVariants as head
-use Rattle.plain_language.specs.Expression.{form, only, put, put_parts, put_value, part}
+use Rattle.plain_language.specs.Expression.{form, only, put, put_parts, put_variable, part}
 use Rattle.plain_language.specs.Program.{expr_of, exprs_of}
 use Rattle.step_eval.specs.Meaning.{head_of}
 use Rattle.step_eval.specs.Scoped.{bound, IsScoped, SlotsRise}
@@ -101,7 +101,7 @@ pub slot-ahead : (size x : ℕ) (own : List (Option ℕ)) (t : Tree) (ts : Trees
 slot-ahead size x own t ts s = s.ahead.0
 
 -- two substitutions that agree on each variable of a form
-module _ (P : ℕ → Type 0) (f g h : ℕ → Option Datum) (same : (x : ℕ) → P x → put_value (f x) x ≡ put h (put_value (g x) x)) where
+module _ (P : ℕ → Type 0) (f g h : ℕ → Option Datum) (same : (x : ℕ) → P x → put_variable (f x) x ≡ put h (put_variable (g x) x)) where
   mutual
     put-composed : (t : Tree) → All P (open_in t) → All P (lets_of t) → put f (expr_of t) ≡ put h (put g (expr_of t))
     put-composed (tree Unit ts) seen lets = refl
@@ -145,19 +145,19 @@ module _ (env : List Datum) (x : ℕ) (v : Datum) (ahead : length env ≤ x) whe
   above : (y : ℕ) → x < y → slice_get (bound env x v) y ≡ None
   above y h = slice_get_past (bound env x v) y (let l : length (bound env x v) ≡ x + 1 = length-bound env x v ahead in omega arith)
 
-  at-inside : (y : ℕ) → y < length env → ((u : Datum) × (y < length env) × (slice_get env y ≡ Some u) × (get_or env y u ≡ u)) ⊎ ((length env ≤ y) × (slice_get env y ≡ None)) → put_value (slice_get (bound env x v) y) y ≡ put (only x v) (put_value (slice_get env y) y)
-  at-inside y h (inl found) = ap (λ o. put_value o y) (inside y h ∙ found.2) ∙ ap (λ o. put (only x v) (put_value o y)) (sym found.2)
+  at-inside : (y : ℕ) → y < length env → ((u : Datum) × (y < length env) × (slice_get env y ≡ Some u) × (get_or env y u ≡ u)) ⊎ ((length env ≤ y) × (slice_get env y ≡ None)) → put_variable (slice_get (bound env x v) y) y ≡ put (only x v) (put_variable (slice_get env y) y)
+  at-inside y h (inl found) = ap (λ o. put_variable o y) (inside y h ∙ found.2) ∙ ap (λ o. put (only x v) (put_variable o y)) (sym found.2)
   at-inside y h (inr past) = let more : length env ≤ y = past.0 in absurd (omega arith)
 
-  at-or-above : (y : ℕ) → x ≤ y → ((nat_eq x y ≡ true) × (x ≡ y)) ⊎ ((nat_eq x y ≡ false) × (x ≡ y → ⊥)) → put_value (slice_get (bound env x v) y) y ≡ put_value (only x v y) y
-  at-or-above y h (inl same) = ap (λ o. put_value o y) (at y same.1 ∙ sym (ap (λ b. cond b (Some v) None) same.0))
-  at-or-above y h (inr other) = let apart : x ≡ y → ⊥ = other.1 in ap (λ o. put_value o y) (above y (omega (arith, apart)) ∙ sym (ap (λ b. cond b (Some v) None) other.0))
+  at-or-above : (y : ℕ) → x ≤ y → ((nat_eq x y ≡ true) × (x ≡ y)) ⊎ ((nat_eq x y ≡ false) × (x ≡ y → ⊥)) → put_variable (slice_get (bound env x v) y) y ≡ put_variable (only x v y) y
+  at-or-above y h (inl same) = ap (λ o. put_variable o y) (at y same.1 ∙ sym (ap (λ b. cond b (Some v) None) same.0))
+  at-or-above y h (inr other) = let apart : x ≡ y → ⊥ = other.1 in ap (λ o. put_variable o y) (above y (omega (arith, apart)) ∙ sym (ap (λ b. cond b (Some v) None) other.0))
 
-  bound-at : (y : ℕ) → InScope (length env) x y → put_value (slice_get (bound env x v) y) y ≡ put (only x v) (put_value (slice_get env y) y)
+  bound-at : (y : ℕ) → InScope (length env) x y → put_variable (slice_get (bound env x v) y) y ≡ put (only x v) (put_variable (slice_get env y) y)
   bound-at y (inl h) = at-inside y h (slice_get_cases env y).1
   bound-at y (inr h) =
       let past : length env ≤ y = omega arith in
-      at-or-above y h (eqb_tells x y) ∙ ap (λ o. put (only x v) (put_value o y)) (sym (slice_get_past env y past))
+      at-or-above y h (eqb_tells x y) ∙ ap (λ o. put (only x v) (put_variable o y)) (sym (slice_get_past env y past))
 
   -- an item's value, put in behind the values of the other variables
   pub put_parts-bound : (own : List (Option ℕ)) (t : Tree) (ts : Trees) → AreScoped (length env) (Some x ∷ own) (more t ts) → put_parts (slice_get (bound env x v)) (exprs_of ts) ≡ put_parts (only x v) (put_parts (slice_get env) (exprs_of ts))
