@@ -11,11 +11,11 @@ abbrev pub kind_of : table.Act Expr → ActKind
 kind_of (spawns body) = kind.Spawn
 kind_of makes_chan = kind.NewChan
 kind_of (makes_ref v) = kind.NewRef
-kind_of (gets r) = kind.Get
-kind_of (sets r v) = kind.Set
-kind_of (sends c v) = kind.Send
-kind_of (receives c) = kind.Recv
-kind_of (picks c d) = kind.Pick
+kind_of (gets r) = kind.Get (record { 0 = r })
+kind_of (sets r v) = kind.Set (record { 0 = r })
+kind_of (sends c v) = kind.Send (record { 0 = c })
+kind_of (receives c) = kind.Recv (record { 0 = c })
+kind_of (picks c d) = kind.Pick (record { 0 = c }) (record { 0 = d })
 kind_of (enters body) = kind.Enter
 kind_of stabilizes = kind.Stabilize
 kind_of cuts = kind.Cut

@@ -30,7 +30,7 @@ pub use laws::{
     shown_text_is_determined, states_without_steps_are_quiet, steps_change_what_they_name,
     text_of_a_state,
 };
-pub use look::{ActKind, Look};
+pub use look::{ActKind, Look, MAX_SPINE};
 pub use operators::{negated, number_of, operate};
 pub use play::PlayFault;
 pub use pure::as_truth;

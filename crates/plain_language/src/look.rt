@@ -1,5 +1,5 @@
 //! What is next for an expression, and its next pure step.
-ghost use Rattle.std.specs.Prelude.{◌≡◌, ℕ, None, IfOk, IfSome, IsSome, MatchOption, option_map};
+ghost use Rattle.std.specs.Prelude.{◌≡◌, ℕ, None, nat_lt, IfOk, IfSome, IsSome, MatchOption, option_map};
 ghost use Rattle.plain_language.specs.declared.head.Head.TheVariants.{Section};
 ghost use Rattle.plain_language.specs.Acts.{HasValues, act_in, act_of};
 ghost use Rattle.plain_language.specs.Expression.{Expr as Expression, form, none, part};
@@ -7,7 +7,7 @@ ghost use Rattle.plain_language.specs.Look.{answered, entered, language, look};
 ghost use Rattle.plain_language.specs.Next.{IsNext, after_next};
 ghost use Rattle.plain_language.specs.Pures.{made_in, waiting_in};
 ghost use Rattle.plain_language.specs.Program.{body};
-ghost use Rattle.plain_language.specs.Redex.{cap, redex};
+ghost use Rattle.plain_language.specs.Redex.{cap, max_spine, redex, spine};
 ghost use Rattle.plain_language.specs.Seen.{kind_of, seen};
 ghost use Rattle.plain_language.specs.Table.{pure_of, pure_steps};
 
@@ -16,21 +16,21 @@ use crate::expr::{Expr, Node};
 use crate::head::Head;
 use crate::instead::Instead;
 use crate::pure::{Next, Pure, next_at};
-use stab_base::{Fault, NoMemory, Seq, Value};
+use stab_base::{ChanId, Fault, NoMemory, RefId, Seq, Value};
 use stab_code::Program;
 use std::alloc::Global;
 
-/// The kinds of acts.
+/// The kinds of acts, with the channels and the reference that they name.
 #[derive(Clone, Copy, PartialEq, Eq, Debug)]
 pub enum ActKind {
     Spawn,
     NewChan,
     NewRef,
-    Get,
-    Set,
-    Send,
-    Recv,
-    Pick,
+    Get(RefId),
+    Set(RefId),
+    Send(ChanId),
+    Recv(ChanId),
+    Pick(ChanId, ChanId),
     Enter,
     Stabilize,
     Cut,
@@ -54,7 +54,7 @@ pub enum Look {
 }
 
 /// How many forms may be round a redex.
-const MAX_SPINE: usize = 1000;
+pub const MAX_SPINE: usize = 1000;
 
 impl Act<'_> {
     /// The kind of the act.
@@ -65,11 +65,11 @@ impl Act<'_> {
             Act::Spawn(_, _) => ActKind::Spawn,
             Act::NewChan => ActKind::NewChan,
             Act::NewRef(_) => ActKind::NewRef,
-            Act::Get(_) => ActKind::Get,
-            Act::Set(_, _) => ActKind::Set,
-            Act::Send(_, _) => ActKind::Send,
-            Act::Recv(_) => ActKind::Recv,
-            Act::Pick(_, _) => ActKind::Pick,
+            Act::Get(r) => ActKind::Get(r),
+            Act::Set(r, _) => ActKind::Set(r),
+            Act::Send(c, _) => ActKind::Send(c),
+            Act::Recv(c) => ActKind::Recv(c),
+            Act::Pick(c, d) => ActKind::Pick(c, d),
             Act::Enter(_, _) => ActKind::Enter,
             Act::Stabilize => ActKind::Stabilize,
             Act::Cut => ActKind::Cut,
@@ -109,13 +109,21 @@ impl Expr {
         act_at(head, parts)
     }
 
+    /// Whether more forms are round the redex than may.
+    pub fn is_over(&self) -> bool
+        ensures { result ≡ nat_lt max_spine (spine self.now) }
+    {
+        matches!(self.passes(MAX_SPINE), Some(true))
+    }
+
     /// The expression, or a fault where too many forms are round its redex.
     pub(crate) fn capped(self) -> Expr
         ensures { result ≡ cap self }
     {
-        match self.passes(MAX_SPINE) {
-            Some(true) => Expr::fault(Fault::TooDeep),
-            _ => self,
+        if self.is_over() {
+            Expr::fault(Fault::TooDeep)
+        } else {
+            self
         }
     }
 

@@ -54,12 +54,10 @@ impl PlainState {
         ensures { (q : ℕ) → Plays self.old self.new q (Label.Local t 1) result }
     {
         let state = &*self;
-        let Some(e) = state.expr(t) else {
-            return Err(PlayFault::NoStep);
-        };
-        let Some(next) = e.next_pure(alloc, &state.program)? else {
-            return Err(PlayFault::NoStep);
-        };
+        let e = state.expr(t).ok_or(PlayFault::NoStep)?;
+        let next = e
+            .next_pure(alloc, &state.program)?
+            .ok_or(PlayFault::NoStep)?;
         self.make(t.0, next);
         Ok(())
     }
@@ -83,12 +81,10 @@ impl PlainState {
     fn get(&mut self, alloc: Global, t: ThreadId, r: RefId) -> Result<(), PlayFault>
         ensures { (q : ℕ) → Plays self.old self.new q (Label.Get t r) result }
     {
-        let Some(e) = self.expr(t) else {
-            return Err(PlayFault::NoStep);
-        };
-        let Some(next) = e.after_get(alloc, r, self.reference(r))? else {
-            return Err(PlayFault::NoStep);
-        };
+        let e = self.expr(t).ok_or(PlayFault::NoStep)?;
+        let next = e
+            .after_get(alloc, r, self.reference(r))?
+            .ok_or(PlayFault::NoStep)?;
         self.stand(t.0, next);
         Ok(())
     }
@@ -98,12 +94,10 @@ impl PlainState {
         ensures { Plays self.old self.new q.0 (Label.Enter t) result }
     {
         let state = &*self;
-        let Some(e) = state.expr(t) else {
-            return Err(PlayFault::NoStep);
-        };
-        let Some(next) = e.after_enter(alloc, &state.program, q)? else {
-            return Err(PlayFault::NoStep);
-        };
+        let e = state.expr(t).ok_or(PlayFault::NoStep)?;
+        let next = e
+            .after_enter(alloc, &state.program, q)?
+            .ok_or(PlayFault::NoStep)?;
         self.stand(t.0, next);
         Ok(())
     }
@@ -112,12 +106,8 @@ impl PlainState {
     fn cut(&mut self, alloc: Global, t: ThreadId) -> Result<(), PlayFault>
         ensures { (q : ℕ) → Plays self.old self.new q (Label.Cut t) result }
     {
-        let Some(e) = self.expr(t) else {
-            return Err(PlayFault::NoStep);
-        };
-        let Some(next) = e.after_cut(alloc)? else {
-            return Err(PlayFault::NoStep);
-        };
+        let e = self.expr(t).ok_or(PlayFault::NoStep)?;
+        let next = e.after_cut(alloc)?.ok_or(PlayFault::NoStep)?;
         self.stand(t.0, next);
         Ok(())
     }
@@ -126,12 +116,8 @@ impl PlainState {
     fn probe(&mut self, alloc: Global, t: ThreadId, i: i64) -> Result<(), PlayFault>
         ensures { (q : ℕ) → Plays self.old self.new q (Label.Probe t i) result }
     {
-        let Some(e) = self.expr(t) else {
-            return Err(PlayFault::NoStep);
-        };
-        let Some(next) = e.after_probe(alloc, i)? else {
-            return Err(PlayFault::NoStep);
-        };
+        let e = self.expr(t).ok_or(PlayFault::NoStep)?;
+        let next = e.after_probe(alloc, i)?.ok_or(PlayFault::NoStep)?;
         self.stand(t.0, next);
         Ok(())
     }
@@ -140,12 +126,8 @@ impl PlainState {
     fn refuse(&mut self, t: ThreadId) -> Result<(), PlayFault>
         ensures { (q : ℕ) → Plays self.old self.new q (Label.Refuse t) result }
     {
-        let Some(e) = self.expr(t) else {
-            return Err(PlayFault::NoStep);
-        };
-        let Some(next) = e.after_refuse() else {
-            return Err(PlayFault::NoStep);
-        };
+        let e = self.expr(t).ok_or(PlayFault::NoStep)?;
+        let next = e.after_refuse().ok_or(PlayFault::NoStep)?;
         self.stand(t.0, next);
         Ok(())
     }
@@ -154,12 +136,8 @@ impl PlainState {
     fn pin(&mut self, alloc: Global, t: ThreadId) -> Result<(), PlayFault>
         ensures { (q : ℕ) → Plays self.old self.new q (Label.Pin t) result }
     {
-        let Some(e) = self.expr(t) else {
-            return Err(PlayFault::NoStep);
-        };
-        let Some(next) = e.after_pin(alloc)? else {
-            return Err(PlayFault::NoStep);
-        };
+        let e = self.expr(t).ok_or(PlayFault::NoStep)?;
+        let next = e.after_pin(alloc)?.ok_or(PlayFault::NoStep)?;
         self.stand(t.0, next);
         Ok(())
     }
@@ -168,12 +146,8 @@ impl PlainState {
     fn attempt(&mut self, alloc: Global, t: ThreadId, n: u64) -> Result<(), PlayFault>
         ensures { (q : ℕ) → Plays self.old self.new q (Label.Attempt t n) result }
     {
-        let Some(e) = self.expr(t) else {
-            return Err(PlayFault::NoStep);
-        };
-        let Some(next) = e.after_attempt(alloc, n)? else {
-            return Err(PlayFault::NoStep);
-        };
+        let e = self.expr(t).ok_or(PlayFault::NoStep)?;
+        let next = e.after_attempt(alloc, n)?.ok_or(PlayFault::NoStep)?;
         self.stand(t.0, next);
         Ok(())
     }
@@ -189,9 +163,9 @@ impl PlainState {
         let Some(e) = state.expr(t) else {
             return Err(PlayFault::NoStep);
         };
-        let Some((next, inner)) = e.after_spawn(alloc, &state.program)? else {
-            return Err(PlayFault::NoStep);
-        };
+        let (next, inner) = e
+            .after_spawn(alloc, &state.program)?
+            .ok_or(PlayFault::NoStep)?;
         self.put_thread(u.0, inner)?;
         self.stand(t.0, next);
         Ok(())
@@ -204,12 +178,8 @@ impl PlainState {
         if self.has_channel(c) {
             return Err(PlayFault::NoStep);
         }
-        let Some(e) = self.expr(t) else {
-            return Err(PlayFault::NoStep);
-        };
-        let Some(next) = e.after_new_chan(alloc, c)? else {
-            return Err(PlayFault::NoStep);
-        };
+        let e = self.expr(t).ok_or(PlayFault::NoStep)?;
+        let next = e.after_new_chan(alloc, c)?.ok_or(PlayFault::NoStep)?;
         self.put_channel(c.0)?;
         self.stand(t.0, next);
         Ok(())
@@ -222,15 +192,9 @@ impl PlainState {
         let Some(a) = self.expr(s) else {
             return Err(PlayFault::NoStep);
         };
-        let Some(b) = self.expr(r) else {
-            return Err(PlayFault::NoStep);
-        };
-        let Some(v) = a.sent(c) else {
-            return Err(PlayFault::NoStep);
-        };
-        let Some(other) = b.after_receive(alloc, c, v)? else {
-            return Err(PlayFault::NoStep);
-        };
+        let b = self.expr(r).ok_or(PlayFault::NoStep)?;
+        let v = a.sent(c).ok_or(PlayFault::NoStep)?;
+        let other = b.after_receive(alloc, c, v)?.ok_or(PlayFault::NoStep)?;
         let next = a.answered(alloc, Value::unit())?;
         self.stand(r.0, other);
         self.stand(s.0, next);
@@ -244,12 +208,8 @@ impl PlainState {
         if self.reference(r).is_some() {
             return Err(PlayFault::NoStep);
         }
-        let Some(e) = self.expr(t) else {
-            return Err(PlayFault::NoStep);
-        };
-        let Some((next, v)) = e.after_new_ref(alloc, r)? else {
-            return Err(PlayFault::NoStep);
-        };
+        let e = self.expr(t).ok_or(PlayFault::NoStep)?;
+        let (next, v) = e.after_new_ref(alloc, r)?.ok_or(PlayFault::NoStep)?;
         self.put_reference(r.0, v)?;
         self.stand(t.0, next);
         Ok(())
@@ -262,12 +222,8 @@ impl PlainState {
         if self.reference(r).is_none() {
             return Err(PlayFault::NoStep);
         }
-        let Some(e) = self.expr(t) else {
-            return Err(PlayFault::NoStep);
-        };
-        let Some((next, v)) = e.after_set(alloc, r)? else {
-            return Err(PlayFault::NoStep);
-        };
+        let e = self.expr(t).ok_or(PlayFault::NoStep)?;
+        let (next, v) = e.after_set(alloc, r)?.ok_or(PlayFault::NoStep)?;
         self.hold(r.0, v);
         self.stand(t.0, next);
         Ok(())
@@ -277,12 +233,8 @@ impl PlainState {
     fn print(&mut self, alloc: Global, t: ThreadId) -> Result<(), PlayFault>
         ensures { (q : ℕ) → Plays self.old self.new q (Label.Print t) result }
     {
-        let Some(e) = self.expr(t) else {
-            return Err(PlayFault::NoStep);
-        };
-        let Some(v) = e.printed()? else {
-            return Err(PlayFault::NoStep);
-        };
+        let e = self.expr(t).ok_or(PlayFault::NoStep)?;
+        let v = e.printed()?.ok_or(PlayFault::NoStep)?;
         self.put_printed(v)?;
         self.answer(t.0, Value::unit());
         Ok(())

@@ -57,7 +57,7 @@ pub(crate) fn busy_part(head: &Head, parts: &[Expr]) -> Option<usize>
 
 impl Expr {
     /// The head and the parts of the redex, if there is one.
-    pub(crate) fn redex(&self) -> Option<(&Head, &[Expr])>
+    pub fn redex(&self) -> Option<(&Head, &[Expr])>
         ensures { MatchOption result (redex self.now ≡ None) (λ r. IsRedexOf self.now r.0.now r.1.now) }
     {
         match &self.node {
