@@ -137,7 +137,7 @@ impl Rollback {
         ensures places { length self.new.own.steps ≡ length self.old.own.steps }
         ensures rest { self.new ≡ record self.old { own = self.new.own } }
     {
-        let (first, second) = actors_of(label);
+        let (first, second) = label.actors();
         self.own.push(first, q);
         if second.0 != first.0 {
             self.own.push(second, q);
@@ -186,28 +186,6 @@ pub(crate) fn live_step(history: &History, q: Seq) -> Option<Label>
     match history.get(q)?.what {
         What::Step(label) => Some(label),
         _ => None,
-    }
-}
-
-// The threads that act in a step; one that acts alone is there twice.
-fn actors_of(label: Label) -> (ThreadId, ThreadId)
-    ensures { (t : ℕ) → has (actors label) t ≡ (nat_eq t result.0.0 || nat_eq t result.1.0) }
-{
-    match label {
-        Label::Comm(s, r, _) => (s, r),
-        Label::Local(t, _)
-        | Label::Spawn(t, _)
-        | Label::NewChan(t, _)
-        | Label::NewRef(t, _)
-        | Label::Get(t, _)
-        | Label::Set(t, _)
-        | Label::Enter(t)
-        | Label::Cut(t)
-        | Label::Print(t)
-        | Label::Probe(t, _)
-        | Label::Refuse(t)
-        | Label::Pin(t)
-        | Label::Attempt(t, _) => (t, t),
     }
 }
 

@@ -93,29 +93,9 @@ pub(crate) fn restore(
 fn touched(alloc: Global, steps: &[Numbered]) -> Result<BTreeSet<u32>, NoMemory> {
     let mut threads = BTreeSet::new(alloc);
     for step in steps {
-        let (t, u) = touched_by(step.label);
+        let (t, u) = step.label.touched();
         threads.insert(t.0)?;
         threads.insert(u.0)?;
     }
     Ok(threads)
-}
-
-// The threads that a step touches; one that it touches alone stands twice.
-fn touched_by(label: Label) -> (ThreadId, ThreadId) {
-    match label {
-        Label::Comm(s, r, _) => (s, r),
-        Label::Spawn(t, u) => (t, u),
-        Label::Local(t, _)
-        | Label::NewChan(t, _)
-        | Label::NewRef(t, _)
-        | Label::Get(t, _)
-        | Label::Set(t, _)
-        | Label::Enter(t)
-        | Label::Cut(t)
-        | Label::Print(t)
-        | Label::Probe(t, _)
-        | Label::Refuse(t)
-        | Label::Pin(t)
-        | Label::Attempt(t, _) => (t, t),
-    }
 }

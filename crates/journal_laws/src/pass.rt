@@ -1,6 +1,6 @@
 //! The pass that finds what is reached.
 
-ghost use Rattle.std.specs.Prelude.{◌≡◌, ℕ, false, cond, not, ◌||◌, nat_eq, [], ◌∷◌, ◌++◌, IfOk, OnOk, map};
+ghost use Rattle.std.specs.Prelude.{◌≡◌, ℕ, false, cond, not, ◌||◌, [], ◌∷◌, ◌++◌, IfOk, OnOk, map};
 ghost use Rattle.std.specs.List.{list_any};
 ghost use Rattle.std.specs.Ordering.{nat_cmp};
 ghost use Rattle.std.specs.BTreeSet.{contains};
@@ -26,22 +26,8 @@ pub struct Divided {
 fn acts_among(threads: &BTreeSet<u32>, label: Label) -> bool
     ensures { result ≡ list_any (contains nat_cmp threads.now) (actors label) }
 {
-    match label {
-        Label::Comm(s, r, _) => threads.contains(&s.0) || threads.contains(&r.0),
-        Label::Local(t, _) => threads.contains(&t.0),
-        Label::Spawn(t, _) => threads.contains(&t.0),
-        Label::NewChan(t, _) => threads.contains(&t.0),
-        Label::NewRef(t, _) => threads.contains(&t.0),
-        Label::Get(t, _) => threads.contains(&t.0),
-        Label::Set(t, _) => threads.contains(&t.0),
-        Label::Enter(t) => threads.contains(&t.0),
-        Label::Cut(t) => threads.contains(&t.0),
-        Label::Print(t) => threads.contains(&t.0),
-        Label::Probe(t, _) => threads.contains(&t.0),
-        Label::Refuse(t) => threads.contains(&t.0),
-        Label::Pin(t) => threads.contains(&t.0),
-        Label::Attempt(t, _) => threads.contains(&t.0),
-    }
+    let (t, u) = label.actors();
+    threads.contains(&t.0) || threads.contains(&u.0)
 }
 
 fn reads_among(references: &BTreeSet<u32>, label: Label) -> bool
@@ -53,36 +39,14 @@ fn reads_among(references: &BTreeSet<u32>, label: Label) -> bool
     }
 }
 
-// The threads that a step touches; one that it touches alone is given twice.
-fn threads_of(label: Label) -> (u32, u32)
-    ensures { (q : ℕ) → has (touched label) q ≡ (nat_eq q result.0 || nat_eq q result.1) }
-{
-    match label {
-        Label::Comm(s, r, _) => (s.0, r.0),
-        Label::Spawn(t, u) => (t.0, u.0),
-        Label::Local(t, _) => (t.0, t.0),
-        Label::NewChan(t, _) => (t.0, t.0),
-        Label::NewRef(t, _) => (t.0, t.0),
-        Label::Get(t, _) => (t.0, t.0),
-        Label::Set(t, _) => (t.0, t.0),
-        Label::Enter(t) => (t.0, t.0),
-        Label::Cut(t) => (t.0, t.0),
-        Label::Print(t) => (t.0, t.0),
-        Label::Probe(t, _) => (t.0, t.0),
-        Label::Refuse(t) => (t.0, t.0),
-        Label::Pin(t) => (t.0, t.0),
-        Label::Attempt(t, _) => (t.0, t.0),
-    }
-}
-
 // The threads of a lost step are touched.
 fn touch(threads: &mut BTreeSet<u32>, label: Label, lost: bool) -> Result<(), NoMemory>
     ensures { OnOk result ((q : ℕ) → contains nat_cmp threads.new q ≡ (cond lost (has (touched label) q) false || contains nat_cmp threads.old q)) }
 {
     if lost {
-        let (t, u) = threads_of(label);
-        threads.insert(t)?;
-        threads.insert(u)?;
+        let (t, u) = label.touched();
+        threads.insert(t.0)?;
+        threads.insert(u.0)?;
     }
     Ok(())
 }
@@ -113,7 +77,7 @@ fn note(found: &mut Vec<Seq>, q: Seq, lost: bool) -> Result<(), NoMemory>
     Ok(())
 }
 
-fn is_hit(threads: &BTreeSet<u32>, references: &BTreeSet<u32>, step: Numbered, m: Seq) -> bool
+fn is_lost(threads: &BTreeSet<u32>, references: &BTreeSet<u32>, step: Numbered, m: Seq) -> bool
     ensures { result ≡ is_reached m.0 step (lost_in threads.now.keys references.now.keys) }
 {
     m.0 == step.seq.0 || acts_among(threads, step.label) || reads_among(references, step.label)
@@ -127,7 +91,7 @@ pub fn reached(alloc: Global, run: &[Numbered], m: Seq) -> Result<Vec<Seq>, NoMe
     let mut references = BTreeSet::new(alloc);
     let mut found = Vec::new(alloc);
     for step in run {
-        let lost = is_hit(&threads, &references, *step, m);
+        let lost = is_lost(&threads, &references, *step, m);
         note(&mut found, step.seq, lost)?;
         touch(&mut threads, step.label, lost)?;
         write(&mut references, step.label, lost)?;
@@ -146,7 +110,7 @@ pub fn divide(alloc: Global, run: &[Numbered], m: Seq) -> Result<Divided, NoMemo
     let mut stays = Vec::new(alloc);
     let mut goes = Vec::new(alloc);
     for step in run {
-        let lost = is_hit(&threads, &references, *step, m);
+        let lost = is_lost(&threads, &references, *step, m);
         put(&mut stays, *step, !lost)?;
         put(&mut goes, *step, lost)?;
         touch(&mut threads, step.label, lost)?;

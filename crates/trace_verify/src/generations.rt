@@ -1,12 +1,12 @@
 //! How often each thread was put back.
-ghost use Rattle.std.specs.Prelude.{◌≡◌, ℕ, ◌+◌, ◌||◌, cond, nat_eq, suc, OnOk};
+ghost use Rattle.std.specs.Prelude.{◌≡◌, ℕ, ◌+◌, cond, suc, OnOk};
 ghost use Rattle.std.specs.List.{list_any};
 ghost use Rattle.stab_journal.specs.Label.{actors};
 ghost use Rattle.stab_journal.specs.Names.{has};
 ghost use Rattle.trace_verify.specs.Generations.{AreBefore, Counts, last, times};
 
 use stab_base::{NoMemory, Seq, ThreadId};
-use stab_journal::{Label, Numbered};
+use stab_journal::Numbered;
 use std::alloc::Global;
 use std::collections::BTreeMap;
 
@@ -52,7 +52,7 @@ impl Generations {
             ≡ cond (list_any (λ n. has (actors n.label) t) goes.now) (suc (times self.old t)) (times self.old t)) }
     {
         for step in goes {
-            let (t, u) = actors_of(step.label);
+            let (t, u) = step.label.actors();
             self.count(undo, t)?;
             self.count(undo, u)?;
         }
@@ -82,27 +82,5 @@ impl Generations {
             Some(put_back) => put_back.last,
             None => 0,
         }
-    }
-}
-
-// The threads that act in a step; one that acts alone is given twice.
-fn actors_of(label: Label) -> (ThreadId, ThreadId)
-    ensures { (q : ℕ) → has (actors label) q ≡ (nat_eq q result.0.0 || nat_eq q result.1.0) }
-{
-    match label {
-        Label::Comm(s, r, _) => (s, r),
-        Label::Local(t, _)
-        | Label::Spawn(t, _)
-        | Label::NewChan(t, _)
-        | Label::NewRef(t, _)
-        | Label::Get(t, _)
-        | Label::Set(t, _)
-        | Label::Enter(t)
-        | Label::Cut(t)
-        | Label::Print(t)
-        | Label::Probe(t, _)
-        | Label::Refuse(t)
-        | Label::Pin(t)
-        | Label::Attempt(t, _) => (t, t),
     }
 }

@@ -12,5 +12,5 @@ pub loop-step-preserved : goal.loop-step-preserved
 loop-step-preserved c =
     divide_on c.args.m.0 c.loop-step.step-index (has (reached c.args.run.now c.args.m.0)) c.args.run.now _ _
     (lost_in c.loop-step.threads.keys c.loop-step.references.keys) (lost_in c.touch.new.threads.keys c.write.new.references.keys)
-    c.is_hit-lost.result _ _ _ _ c.loop-step-test.true refl c.is_hit-lost.ensures c.in_ok-touch.ensures c.in_ok-write.ensures
+    c.is_lost-lost.result _ _ _ _ c.loop-step-test.true refl c.is_lost-lost.ensures c.in_ok-touch.ensures c.in_ok-write.ensures
     c.in_ok-put.ensures c.in_ok-put-2.ensures c.loop-step.invariant
