@@ -6,7 +6,7 @@ use Rattle.text_lines.proofs.Numerals.{number_in-some}
 use Rattle.stab_base.specs.Datum.{Datum}
 use Rattle.plain_language.specs.Depth.{max_expr_depth}
 use Rattle.plain_language.specs.Expression.{Expr, value, variable, failed, form}
-use Rattle.trace_text.proofs.Lines.{value_in-some}
+use Rattle.trace_text.proofs.Lines.{named_in-some}
 use Rattle.expression_text.specs.Spelling.{spell}
 use Rattle.image_text.specs.declared.fault.LineFault.TheVariants.{BadLine, BadNumber}
 use Rattle.image_text.specs.ExpressionIn.{expression_in}
@@ -152,7 +152,7 @@ pieces_were [] l h = no_ok BadLine l h
 pieces_were (n ∷ ps) l given =
     elim (begin_named n) as (λ o. begin_named n ≡ o → line_begun o ps ≡ Ok l → IsRead (n ∷ ps) l) [
       | None ↦ λ is h. no_ok BadLine l h
-      | (Some b) ↦ λ is h. begun_was b n ps l (value_in-some begin_text begins n b (refl, (refl, (refl, (refl, (refl, tt))))) is) h
+      | (Some b) ↦ λ is h. begun_was b n ps l (named_in-some begin_text begins n b (refl, (refl, (refl, (refl, (refl, tt))))) is) h
     ] refl given
 
 pub bytes_were : (bytes : List ℕ) (l : Line) → line_in (split 32 bytes) ≡ Ok l → (bytes ≡ line_text l) × IsLine l

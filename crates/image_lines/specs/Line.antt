@@ -4,7 +4,7 @@ use Rattle.stab_base.specs.Datum.{Datum}
 use Rattle.plain_language.specs.Depth.{max_expr_depth}
 use Rattle.plain_language.specs.Expression.{Expr}
 use Rattle.plain_language.specs.Given.{value_of}
-use Rattle.trace_text.specs.Form as form
+use Rattle.text_lines.specs.Table.{named_in}
 use Rattle.image_text.specs.declared.fault.LineFault.{LineFault}
 use Rattle.image_text.specs.declared.fault.LineFault.TheVariants.{BadLine, BadNumber}
 use Rattle.image_text.specs.ExpressionIn.{expression_in}
@@ -26,7 +26,7 @@ begins =
     (codes "chan", begin.Chan) ∷ (codes "ref", begin.Ref) ∷ (codes "out", begin.Out) ∷ (codes "thread", begin.Thread) ∷ (codes "end", begin.End) ∷ []
 
 abbrev pub begin_named : List ℕ → Option Begin
-begin_named name = form.value_in begins name
+begin_named name = named_in begins name
 
 -- u, t, f, i, s, c, r, p
 abbrev pub is_value_mark : ℕ → Bool

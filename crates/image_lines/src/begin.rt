@@ -2,7 +2,7 @@
 ghost use Rattle.std.specs.Prelude.{◌≡◌};
 ghost use Rattle.image_lines.specs.Line.{begin_named};
 
-use image_text::value_in;
+use text_lines::named_in;
 
 /// The name with which a line begins.
 #[derive(Clone, Copy)]
@@ -26,5 +26,5 @@ const BEGINS: [(&str, Begin); 5] = [
 pub(crate) fn begin_named(name: &[u8]) -> Option<Begin>
     ensures { result ≡ begin_named name.now }
 {
-    value_in(&BEGINS, name)
+    named_in(&BEGINS, name)
 }

@@ -8,9 +8,9 @@ use Rattle.std.proofs.lemmas.Bool.{and_from, and_parts, false≢true}
 use Rattle.stab_base.specs.declared.fault.Fault.{Fault}
 use Rattle.stab_base.specs.FaultName.{fault_name}
 use Rattle.text_lines.proofs.Numerals.{IsNumber, number_in-some}
-use Rattle.trace_text.specs.Form.{value_in}
+use Rattle.text_lines.specs.Table.{named_in}
 use Rattle.trace_text.specs.Number.{signed_in}
-use Rattle.trace_text.proofs.Lines.{value_in-some}
+use Rattle.trace_text.proofs.Lines.{named_in-some}
 use Rattle.trace_text.proofs.Numerals.{signed_in-some}
 use Rattle.expression_text.specs.declared.word.Word.{Word}
 use Rattle.expression_text.specs.declared.word.Word.TheVariants as w
@@ -55,22 +55,22 @@ IsBare (Whole word) = (numbers word ≡ []) × IsInRange word
 IsBare form = Unit {0}
 
 -- what holds of each row of a table holds of what it has for a text
-value_in-all : {T : Type 0} (P : T → Type 0) (rows : List (List ℕ × T)) (word : List ℕ) (x : T) → AllByRecursion (λ (row : List ℕ × T). P row.1) rows → value_in rows word ≡ Some x → P x
-value_in-all P [] word x all e = absurd (let no : None ≡ Some x = e in cc)
-value_in-all P (row ∷ rows) word x all given =
-    (elim (bytes_eq row.0 word) as (λ b. cond b (Some row.1) (value_in rows word) ≡ Some x → P x) [
+named_in-all : {T : Type 0} (P : T → Type 0) (rows : List (List ℕ × T)) (word : List ℕ) (x : T) → AllByRecursion (λ (row : List ℕ × T). P row.1) rows → named_in rows word ≡ Some x → P x
+named_in-all P [] word x all e = absurd (let no : None ≡ Some x = e in cc)
+named_in-all P (row ∷ rows) word x all given =
+    (elim (bytes_eq row.0 word) as (λ b. cond b (Some row.1) (named_in rows word) ≡ Some x → P x) [
       | true ↦ λ e. let here : row.1 ≡ x = cc in subst P here all.0
-      | false ↦ λ e. value_in-all P rows word x all.1 e
+      | false ↦ λ e. named_in-all P rows word x all.1 e
     ]) given
 
 form_was : (n : List ℕ) (form : Form) → form_named n ≡ Some form → n ≡ form_text form
-form_was n form e = value_in-some form_text forms n form (refl, (refl, (refl, (refl, (refl, (refl, (refl, (refl, (refl, (refl, (refl, (refl, (refl, (refl, (refl, (refl, (refl, (refl, (refl, (refl, (refl, (refl, (refl, (refl, (refl, (refl, (refl, (refl, (refl, (refl, (refl, (refl, (refl, (refl, (refl, (refl, (refl, (refl, (refl, (refl, (refl, (refl, (refl, (refl, (refl, (refl, (refl, (refl, (refl, tt))))))))))))))))))))))))))))))))))))))))))))))))) e
+form_was n form e = named_in-some form_text forms n form (refl, (refl, (refl, (refl, (refl, (refl, (refl, (refl, (refl, (refl, (refl, (refl, (refl, (refl, (refl, (refl, (refl, (refl, (refl, (refl, (refl, (refl, (refl, (refl, (refl, (refl, (refl, (refl, (refl, (refl, (refl, (refl, (refl, (refl, (refl, (refl, (refl, (refl, (refl, (refl, (refl, (refl, (refl, (refl, (refl, (refl, (refl, (refl, (refl, tt))))))))))))))))))))))))))))))))))))))))))))))))) e
 
 bare : (n : List ℕ) (form : Form) → form_named n ≡ Some form → IsBare form
-bare n form e = value_in-all IsBare forms n form ((refl, tt), ((refl, tt), ((refl, tt), (tt, (tt, (tt, (tt, ((refl, tt), (tt, (tt, (tt, ((refl, tt), ((refl, tt), ((refl, tt), ((refl, tt), ((refl, tt), ((refl, tt), ((refl, tt), ((refl, tt), ((refl, tt), ((refl, tt), ((refl, tt), ((refl, tt), ((refl, tt), ((refl, tt), ((refl, tt), ((refl, tt), ((refl, tt), ((refl, tt), ((refl, tt), ((refl, tt), (tt, (tt, (tt, ((refl, tt), ((refl, tt), ((refl, tt), ((refl, tt), ((refl, tt), ((refl, tt), ((refl, tt), ((refl, tt), ((refl, tt), ((refl, tt), ((refl, tt), ((refl, tt), ((refl, tt), (tt, (tt, tt))))))))))))))))))))))))))))))))))))))))))))))))) e
+bare n form e = named_in-all IsBare forms n form ((refl, tt), ((refl, tt), ((refl, tt), (tt, (tt, (tt, (tt, ((refl, tt), (tt, (tt, (tt, ((refl, tt), ((refl, tt), ((refl, tt), ((refl, tt), ((refl, tt), ((refl, tt), ((refl, tt), ((refl, tt), ((refl, tt), ((refl, tt), ((refl, tt), ((refl, tt), ((refl, tt), ((refl, tt), ((refl, tt), ((refl, tt), ((refl, tt), ((refl, tt), ((refl, tt), ((refl, tt), (tt, (tt, (tt, ((refl, tt), ((refl, tt), ((refl, tt), ((refl, tt), ((refl, tt), ((refl, tt), ((refl, tt), ((refl, tt), ((refl, tt), ((refl, tt), ((refl, tt), ((refl, tt), ((refl, tt), (tt, (tt, tt))))))))))))))))))))))))))))))))))))))))))))))))) e
 
 fault_was : (n : List ℕ) (k : Fault) → fault_named n ≡ Some k → n ≡ fault_name k
-fault_was n k e = value_in-some fault_name faults n k (refl, (refl, (refl, (refl, (refl, (refl, tt)))))) e
+fault_was n k e = named_in-some fault_name faults n k (refl, (refl, (refl, (refl, (refl, (refl, tt)))))) e
 
 -- the pieces with which others begin are those of a word in range
 pub record IsFirst (x : Filled) (ps rest : List (List ℕ)) : Type 0 where

@@ -2,7 +2,7 @@
 use Rattle.std.specs.Prelude.{ℕ, true, false, List, [], ◌∷◌, Option, codes}
 use Rattle.stab_base.specs.declared.fault.Fault.{Fault}
 use Rattle.stab_base.specs.declared.fault.Fault.TheVariants.{WrongKind, Overflow, ZeroDivisor, TooDeep, DeepValue, NoSection}
-use Rattle.trace_text.specs.Form.{value_in}
+use Rattle.text_lines.specs.Table.{named_in}
 use Rattle.stab_code.specs.declared.head.Op.TheVariants.{Or, And, Eq, Ne, Lt, Le, Gt, Ge, Add, Sub, Mul, Div, Rem}
 use Rattle.expression_text.specs.declared.word.Word.TheVariants as w
 use Rattle.image_text.specs.declared.names.Kind.TheVariants.{Int, Text, Chan, Ref, Var, Block, Let, Section}
@@ -27,7 +27,7 @@ forms =
     ∷ (codes "probe", Whole w.Probe) ∷ (codes "attempt", Whole w.Attempt) ∷ (codes "sect", Numbered Section) ∷ (codes "fault", Failed) ∷ []
 
 abbrev pub form_named : List ℕ → Option Form
-form_named text = value_in forms text
+form_named text = named_in forms text
 
 abbrev pub faults : List (List ℕ × Fault)
 faults =
@@ -35,4 +35,4 @@ faults =
     ∷ (codes "DeepValue", DeepValue) ∷ (codes "NoSection", NoSection) ∷ []
 
 abbrev pub fault_named : List ℕ → Option Fault
-fault_named text = value_in faults text
+fault_named text = named_in faults text

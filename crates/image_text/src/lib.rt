@@ -15,7 +15,6 @@ mod writing;
 pub use expression::expression_in;
 pub use fault::LineFault;
 pub use laws::{expressions_read_back, words_read_back};
-pub use names::value_in;
 pub use number::{count_in, name_in, signed_in};
 pub use pieces::next_piece;
 pub use words::{Words, words_in};

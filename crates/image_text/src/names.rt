@@ -1,11 +1,11 @@
 //! The names of words.
-ghost use Rattle.std.specs.Prelude.{◌≡◌, map};
-ghost use Rattle.trace_text.specs.Form.{value_in};
+ghost use Rattle.std.specs.Prelude.{◌≡◌};
 ghost use Rattle.image_text.specs.Names.{fault_named, form_named};
 
 use expression_text::Word;
 use stab_base::Fault;
 use stab_code::Op;
+use text_lines::named_in;
 
 /// A word with one number.
 #[derive(Clone, Copy)]
@@ -104,24 +104,12 @@ const FAULTS: [(&str, Fault); 6] = [
 pub(crate) fn form_named(name: &[u8]) -> Option<Form>
     ensures { result ≡ form_named name.now }
 {
-    value_in(&FORMS, name)
+    named_in(&FORMS, name)
 }
 
 /// The fault of this name.
 pub(crate) fn fault_named(name: &[u8]) -> Option<Fault>
     ensures { result ≡ fault_named name.now }
 {
-    value_in(&FAULTS, name)
-}
-
-/// What the table has for the text: the first row that has it counts.
-pub fn value_in<T: Copy>(table: &[(&str, T)], text: &[u8]) -> Option<T>
-    ensures { result ≡ value_in (map (λ row. (row.0.now, row.1)) table.now) text.now }
-{
-    for (named, value) in table {
-        if named.as_bytes() == text {
-            return Some(*value);
-        }
-    }
-    None
+    named_in(&FAULTS, name)
 }

@@ -23,8 +23,9 @@ use Rattle.trace_text.specs.declared.form.Verb.TheVariants as verbs
 use Rattle.trace_text.specs.declared.line.Entry.{Entry}
 use Rattle.trace_text.specs.declared.line.Line.{Line}
 use Rattle.trace_text.specs.declared.line.Line.TheVariants as is
-use Rattle.trace_text.specs.Form.{arity, fits, header_named, header_text, is_step_sign, sign_named, sign_text, signs, value_in, verb_named, verb_text, verbs as verb_rows}
-use Rattle.trace_text.specs.Reading.{IsEntry, end_is, event_is, in_place, is_end, is_in_order, is_struck, line_is, numbers, or_line, second}
+use Rattle.text_lines.specs.Table.{named_in}
+use Rattle.trace_text.specs.Form.{arity, fits, header_named, header_text, is_step_sign, sign_named, sign_text, signs, verb_named, verb_text, verbs as verb_rows}
+use Rattle.trace_text.specs.Reading.{IsEntryAt, end_is, event_is, in_place, is_end, is_in_order, is_struck, line_is, numbers, or_line, second}
 use Rattle.trace_text.specs.Shape.{Shape, after_w, are_words, checked, is_shape, is_word, seq_in, shape_of, what_of}
 use Rattle.trace_text.specs.Text.{IsNoRelease, end_line, event_line, label_verb, numbers_of, sign_of, verb_of}
 use Rattle.text_lines.specs.Lines.{separated, split}
@@ -70,21 +71,21 @@ sign_plain marks.Undone = record { some = refl; no_space = refl; no_feed = refl 
 sign_plain marks.Released = record { some = refl; no_space = refl; no_feed = refl }
 
 -- what a table has for a text is what the text is of
-pub value_in-some : {T : Type 0} (text : T → List ℕ) (rows : List (List ℕ × T)) (word : List ℕ) (x : T) → AllByRecursion (λ (row : List ℕ × T). row.0 ≡ text row.1) rows → value_in rows word ≡ Some x → word ≡ text x
-value_in-some text [] word x all e = cc
-value_in-some text (row ∷ rows) word x all given =
-    elim (bytes_eq row.0 word) as (λ b. bytes_eq row.0 word ≡ b → cond b (Some row.1) (value_in rows word) ≡ Some x → word ≡ text x) [
+pub named_in-some : {T : Type 0} (text : T → List ℕ) (rows : List (List ℕ × T)) (word : List ℕ) (x : T) → AllByRecursion (λ (row : List ℕ × T). row.0 ≡ text row.1) rows → named_in rows word ≡ Some x → word ≡ text x
+named_in-some text [] word x all e = cc
+named_in-some text (row ∷ rows) word x all given =
+    elim (bytes_eq row.0 word) as (λ b. bytes_eq row.0 word ≡ b → cond b (Some row.1) (named_in rows word) ≡ Some x → word ≡ text x) [
       | true ↦ λ same e.
           let here : row.1 ≡ x = cc in
           sym ((bytes_eq-Decides row.0 word).0 same) ∙ all.0 ∙ ap text here
-      | false ↦ λ _ e. value_in-some text rows word x all.1 e
+      | false ↦ λ _ e. named_in-some text rows word x all.1 e
     ] refl given
 
 sign_was : (word : List ℕ) (s : Sign) → sign_named word ≡ Some s → word ≡ sign_text s
-sign_was word s e = value_in-some sign_text signs word s (refl, (refl, (refl, (refl, tt)))) e
+sign_was word s e = named_in-some sign_text signs word s (refl, (refl, (refl, (refl, tt)))) e
 
 verb_was : (word : List ℕ) (v : Verb) → verb_named word ≡ Some v → word ≡ verb_text v
-verb_was word v e = value_in-some verb_text verb_rows word v (refl, (refl, (refl, (refl, (refl, (refl, (refl, (refl, (refl, (refl, (refl, (refl, (refl, (refl, (refl, (refl, tt)))))))))))))))) e
+verb_was word v e = named_in-some verb_text verb_rows word v (refl, (refl, (refl, (refl, (refl, (refl, (refl, (refl, (refl, (refl, (refl, (refl, (refl, (refl, (refl, (refl, tt)))))))))))))))) e
 
 worker_was : (word worker : List ℕ) → after_w word ≡ Some worker → word ≡ 119 ∷ worker
 worker_was [] worker e = cc
@@ -172,7 +173,7 @@ words_behind q e = decimal q ∷ (119 ∷ decimal e.event.worker) ∷ verb_text 
 abbrev shape : ℕ → Entry → Shape
 shape q e = record { sign = sign_of e.struck e.event.what; seq = decimal q; worker = decimal e.event.worker; verb = verb_of e.event.what; numbers = numbers_of e.event.what }
 
-module _ (h : Header) (q : ℕ) (e : Entry) (some : 1 ≤ q) (small : q < 2 ^ 64) (entry : IsEntry q e) (allowed : Allowed h e.event.what) where
+module _ (h : Header) (q : ℕ) (e : Entry) (some : 1 ≤ q) (small : q < 2 ^ 64) (entry : IsEntryAt q e) (allowed : Allowed h e.event.what) where
   worker_plain : IsPlain (decimal e.event.worker)
   worker_plain = let within = entry.event.worker.1 in plain e.event.worker (omega arith)
 
@@ -244,7 +245,7 @@ module _ (h : Header) (n : ℕ) (small : n < 2 ^ 64) where
 -- what a line that is an event came from
 pub record IsLine (h : Header) (q : ℕ) (words : List (List ℕ)) (e : Entry) : Type 0 where
   pub words_are : words ≡ sign_text (sign_of e.struck e.event.what) ∷ words_behind q e
-  pub entry : IsEntry q e
+  pub entry : IsEntryAt q e
   pub allowed : Allowed h e.event.what
 
 line_from : {A : Type 0} (o : Option A) (line : Line) (next : A → Line) (e : Line) → or_line o line next ≡ e → (line ≡ e → ⊥) → (a : A) × (o ≡ Some a) × (next a ≡ e)

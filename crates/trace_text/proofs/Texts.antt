@@ -15,17 +15,17 @@ use Rattle.trace_text.specs.declared.line.Entry.{Entry}
 use Rattle.trace_text.specs.declared.line.Line.{Line}
 use Rattle.trace_text.specs.declared.line.Line.TheVariants as is
 use Rattle.trace_text.specs.Form.{header_named, header_text, headers}
-use Rattle.trace_text.specs.Reading.{IsEntry, after, follow, line_is, nothing_more, read_behind, read_lines, read_text, reading}
+use Rattle.trace_text.specs.Reading.{IsEntryAt, after, follow, line_is, nothing_more, read_behind, read_lines, read_text, reading}
 use Rattle.trace_text.specs.Text.{IsNoRelease, NoRelease, IsTextOf, end_line, ended, entries, entries_from, event_line, event_lines, text, trace}
 use Rattle.text_lines.specs.Lines.{separated, split}
-use Rattle.trace_text.proofs.Lines.{Allowed, IsEndLine, IsLine, end-one, end-read, end-written, line-one, line-read, line-written, value_in-some, words_behind}
+use Rattle.trace_text.proofs.Lines.{Allowed, IsEndLine, IsLine, end-one, end-read, end-written, line-one, line-read, line-written, named_in-some, words_behind}
 use Rattle.text_lines.proofs.Splits.{lacks, all_lack, pieces, rejoined}
 use Rattle.trace_text.proofs.Ended.{separated-ended, split-ended}
 
 -- events that can stand from the number q on
 abbrev pub AreEntries : Header → ℕ → List Entry → Type 0
 AreEntries h q [] = Unit {0}
-AreEntries h q (e ∷ es) = (IsEntry q e × Allowed h e.event.what) × AreEntries h (suc q) es
+AreEntries h q (e ∷ es) = (IsEntryAt q e × Allowed h e.event.what) × AreEntries h (suc q) es
 
 -- the lines of events from q on and of the end, and the empty rest behind them
 abbrev lines : ℕ → ℕ → List Entry → List (List ℕ)
@@ -155,7 +155,7 @@ rest_from h at q (line ∷ next ∷ ls) es k =
     ] refl k
 
 header_from : (line : List ℕ) (h : Header) → header_named line ≡ Some h → line ≡ header_text h
-header_from line h e = value_in-some header_text headers line h (refl, (refl, tt)) e
+header_from line h e = named_in-some header_text headers line h (refl, (refl, tt)) e
 
 behind_from : (o : Option Header) (at : ℕ) (ls : List (List ℕ)) (es : List Entry) → read_behind o at ls ≡ Ok es → (h : Header) × (o ≡ Some h) × (read_lines h at 1 ls ≡ Ok es)
 behind_from None at ls es e = cc

@@ -1,6 +1,6 @@
 -- The marks and words of a trace, and how many numbers follow each word.
 use Rattle.std.specs.Prelude.{ℕ, ◌&&◌, Bool, true, false, List, [], ◌∷◌, Option, Some, None, codes, if◌then◌else◌}
-use Rattle.std.specs.Str.{bytes_eq}
+use Rattle.text_lines.specs.Table.{named_in}
 use Rattle.trace_text.specs.declared.form.Header.{Header}
 use Rattle.trace_text.specs.declared.form.Header.TheVariants.{First, Second}
 use Rattle.trace_text.specs.declared.form.Sign.{Sign}
@@ -82,23 +82,18 @@ fits Undo sign header = is_undo_sign sign
 fits Release sign header = is_release_sign sign && is_second header
 fits _ sign header = is_step_sign sign
 
--- what a table has for a text
-abbrev pub value_in : {T : Type 0} → List (List ℕ × T) → List ℕ → Option T
-value_in [] text = None
-value_in (row ∷ rows) text = if bytes_eq row.0 text then Some row.1 else value_in rows text
-
 -- the header, the sign and the verb that a text is
 abbrev pub headers : List (List ℕ × Header)
 headers = (header_text Second, Second) ∷ (header_text First, First) ∷ []
 
 abbrev pub header_named : List ℕ → Option Header
-header_named text = value_in headers text
+header_named text = named_in headers text
 
 abbrev pub signs : List (List ℕ × Sign)
 signs = (codes "+", Live) ∷ (codes "-", Struck) ∷ (codes "!", Undone) ∷ (codes "=", Released) ∷ []
 
 abbrev pub sign_named : List ℕ → Option Sign
-sign_named text = value_in signs text
+sign_named text = named_in signs text
 
 abbrev pub verbs : List (List ℕ × Verb)
 verbs =
@@ -108,4 +103,4 @@ verbs =
     ∷ (codes "attempt", Attempt) ∷ (codes "undo", Undo) ∷ (codes "release", Release) ∷ []
 
 abbrev pub verb_named : List ℕ → Option Verb
-verb_named text = value_in verbs text
+verb_named text = named_in verbs text

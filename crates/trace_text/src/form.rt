@@ -1,6 +1,8 @@
 //! The marks and words of a trace, and how many numbers follow each word.
-ghost use Rattle.std.specs.Prelude.{◌≡◌, ◌≤◌, length, map};
-ghost use Rattle.trace_text.specs.Form.{arity, fits, header_named, sign_named, sign_text, value_in, verb_named, verb_text};
+ghost use Rattle.std.specs.Prelude.{◌≡◌, ◌≤◌, length};
+ghost use Rattle.trace_text.specs.Form.{arity, fits, header_named, sign_named, sign_text, verb_named, verb_text};
+
+use text_lines::named_in;
 
 /// The first line of a trace.
 #[derive(Clone, Copy, PartialEq, Eq)]
@@ -80,33 +82,21 @@ const SIGNS: [(&str, Sign); 4] = [
 pub fn header_named(line: &[u8]) -> Option<Header>
     ensures { result ≡ header_named line.now }
 {
-    value_in(&HEADERS, line)
+    named_in(&HEADERS, line)
 }
 
 /// The sign that a word is.
 pub fn sign_named(word: &[u8]) -> Option<Sign>
     ensures { result ≡ sign_named word.now }
 {
-    value_in(&SIGNS, word)
+    named_in(&SIGNS, word)
 }
 
 /// What the word says.
 pub fn verb_named(word: &[u8]) -> Option<Verb>
     ensures { result ≡ verb_named word.now }
 {
-    value_in(&VERBS, word)
-}
-
-// What the table has for the text.
-fn value_in<T: Copy>(table: &[(&str, T)], text: &[u8]) -> Option<T>
-    ensures { result ≡ value_in (map (λ row. (row.0.now, row.1)) table.now) text.now }
-{
-    for (named, value) in table {
-        if named.as_bytes() == text {
-            return Some(*value);
-        }
-    }
-    None
+    named_in(&VERBS, word)
 }
 
 impl Verb {
