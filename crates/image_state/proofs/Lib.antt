@@ -9,6 +9,6 @@ pub mod Fitting
 pub mod Sounding
 pub mod StateLaws
 pub mod Same
-pub mod Redexes
+pub mod Forms
 pub mod Adding
 pub mod StateSteps

@@ -8,7 +8,6 @@ mod laws;
 mod named;
 mod order;
 mod parts;
-mod redex;
 mod refined;
 mod scope;
 mod stands;

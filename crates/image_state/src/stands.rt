@@ -6,7 +6,6 @@ ghost use Rattle.image_state.specs.Held.{known_of};
 ghost use Rattle.image_state.specs.Stands.{head_stands, parts_stand, stands, takes, thread_stands};
 
 use crate::bounds::Bounds;
-use crate::redex::is_over;
 use crate::scope::Scope;
 use plain_language::{Expr, Head};
 use stab_base::{FnId, NoMemory};
@@ -22,7 +21,7 @@ impl Bounds<'_> {
         }
         let mut bound = Scope::new(alloc);
         let fits = self.stands(&mut bound, e)?;
-        Ok(fits && !is_over(e))
+        Ok(fits && !e.is_over())
     }
 
     // Whether it may stand where these slots are bound. The slots stay.

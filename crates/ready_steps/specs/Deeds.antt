@@ -1,33 +1,37 @@
 -- What a thread does next, without the values and the bodies of it.
 use Rattle.std.specs.Prelude.{ℕ, Bool, true, false, ◌||◌, nat_eq}
 use Rattle.plain_language.specs.Expression.{Expr}
-use Rattle.plain_language.specs.Table as table
-use Rattle.plain_language.specs.Table.{spawns, makes_chan, makes_ref, gets, sets, sends, receives, picks, enters, stabilizes, cuts, pins, prints, probes, attempts, Look, done, fault, act, pure}
+use Rattle.plain_language.specs.declared.look.ActKind.TheVariants as kind
+use Rattle.plain_language.specs.declared.look.Look as told
+use Rattle.plain_language.specs.declared.look.Look.TheVariants as next
+use Rattle.plain_language.specs.Seen.{seen}
+use Rattle.plain_language.specs.Table.{Look}
 use Rattle.ready_steps.specs.declared.deed.Deed.{Deed}
 use Rattle.ready_steps.specs.declared.deed.Deed.TheVariants.{Ended, Pure, Spawn, NewChan, NewRef, Get, Set, Send, Recv, Pick, Enter, Stabilize, Cut, Pin, Print, Probe, Attempt}
 
-abbrev pub deed_by : table.Act Expr → Deed
-deed_by (spawns body) = Spawn
-deed_by makes_chan = NewChan
-deed_by (makes_ref v) = NewRef
-deed_by (gets r) = Get (record { 0 = r })
-deed_by (sets r v) = Set (record { 0 = r })
-deed_by (sends c v) = Send (record { 0 = c })
-deed_by (receives c) = Recv (record { 0 = c })
-deed_by (picks c d) = Pick (record { 0 = c }) (record { 0 = d })
-deed_by (enters body) = Enter
-deed_by stabilizes = Stabilize
-deed_by cuts = Cut
-deed_by pins = Pin
-deed_by (prints v) = Print
-deed_by probes = Probe
-deed_by attempts = Attempt
+-- by what is told of its expression
+abbrev pub deed_seen : told.Look → Deed
+deed_seen next.Done = Ended
+deed_seen (next.Failed k) = Ended
+deed_seen next.Pure = Pure
+deed_seen (next.Act kind.Spawn) = Spawn
+deed_seen (next.Act kind.NewChan) = NewChan
+deed_seen (next.Act kind.NewRef) = NewRef
+deed_seen (next.Act (kind.Get r)) = Get r
+deed_seen (next.Act (kind.Set r)) = Set r
+deed_seen (next.Act (kind.Send c)) = Send c
+deed_seen (next.Act (kind.Recv c)) = Recv c
+deed_seen (next.Act (kind.Pick c d)) = Pick c d
+deed_seen (next.Act kind.Enter) = Enter
+deed_seen (next.Act kind.Stabilize) = Stabilize
+deed_seen (next.Act kind.Cut) = Cut
+deed_seen (next.Act kind.Pin) = Pin
+deed_seen (next.Act kind.Print) = Print
+deed_seen (next.Act kind.Probe) = Probe
+deed_seen (next.Act kind.Attempt) = Attempt
 
 abbrev pub deed_of : Look Expr → Deed
-deed_of (done v) = Ended
-deed_of (fault k) = Ended
-deed_of (act a) = deed_by a
-deed_of (pure e) = Pure
+deed_of k = deed_seen (seen k)
 
 -- the thread has ended, or can only step with another one
 abbrev pub is_resting : Deed → Bool

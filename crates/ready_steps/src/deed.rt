@@ -1,18 +1,11 @@
 //! What a thread does next.
-ghost use Rattle.std.specs.Prelude.{◌≡◌, ℕ, false, None, option_map};
-ghost use Rattle.std.specs.Option.{option_copied};
-ghost use Rattle.plain_language.specs.Acts.{told};
-ghost use Rattle.plain_language.specs.Busy.{busy_at, counted, values_in, waiting_parts};
+ghost use Rattle.std.specs.Prelude.{◌≡◌, ℕ};
 ghost use Rattle.plain_language.specs.Expression.{Expr as Expression};
 ghost use Rattle.plain_language.specs.Look.{look};
-ghost use Rattle.plain_language.specs.Operands.{one_of, two_values_of};
-ghost use Rattle.plain_language.specs.Outcome.{outcome};
-ghost use Rattle.plain_language.specs.Redex.{first_counts_alone};
-ghost use Rattle.ready_steps.specs.Deeds.{deed_by, deed_of, is_resting, receives_on, sends_on};
+ghost use Rattle.ready_steps.specs.Deeds.{deed_of, deed_seen, is_resting, receives_on, sends_on};
 
-use crate::redex::redex_of;
-use plain_language::{Expr, Head, as_chan, as_reference};
-use stab_base::{ChanId, RefId, Value};
+use plain_language::{ActKind, Expr, Look};
+use stab_base::{ChanId, RefId};
 
 /// What a thread does next: nothing any more, pure steps, or an act, with the channels and the reference that it names.
 #[derive(Clone, Copy)]
@@ -73,76 +66,29 @@ impl Deed {
 pub fn next_deed(e: &Expr) -> Deed
     ensures { (body : ℕ → Expression) → result ≡ deed_of (look body e.now) }
 {
-    match redex_of(e) {
-        Some((head, parts)) => match deed_at(head, parts) {
-            Some(deed) => deed,
-            None => Deed::Pure,
-        },
-        None => Deed::Ended,
-    }
+    deed_seen(e.look())
 }
 
-// The act that a redex is, if it is one.
-fn deed_at(head: &Head, parts: &[Expr]) -> Option<Deed>
-    requires { busy_at (first_counts_alone head.now) parts.now ≡ None }
-    ensures { (body : ℕ → Expression) → result ≡ option_map deed_by
-        (told (outcome body head.now (counted (first_counts_alone head.now) parts.now) (waiting_parts (first_counts_alone head.now) parts.now))) }
+fn deed_seen(look: Look) -> Deed
+    ensures { result ≡ deed_seen look }
 {
-    match head {
-        Head::Spawn(_) => Some(Deed::Spawn),
-        Head::Stable(_) => Some(Deed::Enter),
-        Head::NewChan => Some(Deed::NewChan),
-        Head::NewRef => {
-            let _value = one(parts)?;
-            Some(Deed::NewRef)
-        }
-        Head::Get => Some(Deed::Get(as_reference(one(parts)?)?)),
-        Head::Set => {
-            let (r, _) = two(parts)?;
-            Some(Deed::Set(as_reference(r)?))
-        }
-        Head::Send => {
-            let (c, _) = two(parts)?;
-            Some(Deed::Send(as_chan(c)?))
-        }
-        Head::Recv => Some(Deed::Recv(as_chan(one(parts)?)?)),
-        Head::Pick => {
-            let (c, d) = two(parts)?;
-            Some(Deed::Pick(as_chan(c)?, as_chan(d)?))
-        }
-        Head::Stabilize => Some(Deed::Stabilize),
-        Head::Cut => Some(Deed::Cut),
-        Head::Pin => Some(Deed::Pin),
-        Head::Print => {
-            let _value = one(parts)?;
-            Some(Deed::Print)
-        }
-        Head::Probe => Some(Deed::Probe),
-        Head::Attempt => Some(Deed::Attempt),
-        _ => None,
-    }
-}
-
-// The value of the only part.
-fn one(parts: &[Expr]) -> Option<&Value>
-    requires { busy_at false parts.now ≡ None }
-    ensures { option_copied result ≡ one_of (values_in parts.now) }
-{
-    if parts.len() == 1 {
-        parts[0].as_value()
-    } else {
-        None
-    }
-}
-
-// The values of the only two parts.
-fn two(parts: &[Expr]) -> Option<(&Value, &Value)>
-    requires { busy_at false parts.now ≡ None }
-    ensures { option_map (λ p. (p.0.now, p.1.now)) result ≡ two_values_of (values_in parts.now) }
-{
-    if parts.len() == 2 {
-        Some((parts[0].as_value()?, parts[1].as_value()?))
-    } else {
-        None
+    match look {
+        Look::Done | Look::Failed(_) => Deed::Ended,
+        Look::Pure => Deed::Pure,
+        Look::Act(ActKind::Spawn) => Deed::Spawn,
+        Look::Act(ActKind::NewChan) => Deed::NewChan,
+        Look::Act(ActKind::NewRef) => Deed::NewRef,
+        Look::Act(ActKind::Get(r)) => Deed::Get(r),
+        Look::Act(ActKind::Set(r)) => Deed::Set(r),
+        Look::Act(ActKind::Send(c)) => Deed::Send(c),
+        Look::Act(ActKind::Recv(c)) => Deed::Recv(c),
+        Look::Act(ActKind::Pick(c, d)) => Deed::Pick(c, d),
+        Look::Act(ActKind::Enter) => Deed::Enter,
+        Look::Act(ActKind::Stabilize) => Deed::Stabilize,
+        Look::Act(ActKind::Cut) => Deed::Cut,
+        Look::Act(ActKind::Pin) => Deed::Pin,
+        Look::Act(ActKind::Print) => Deed::Print,
+        Look::Act(ActKind::Probe) => Deed::Probe,
+        Look::Act(ActKind::Attempt) => Deed::Attempt,
     }
 }

@@ -4,7 +4,6 @@
 mod deed;
 mod label;
 mod ready;
-mod redex;
 
 pub use deed::{Deed, next_deed};
 pub use label::{Given, label_for};

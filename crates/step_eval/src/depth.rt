@@ -5,7 +5,7 @@ ghost use Rattle.stab_base.specs.Datum.{Datum};
 ghost use Rattle.stab_base.specs.declared.numbers.Seq.{Seq};
 ghost use Rattle.stab_code.specs.Valid.{IsValid};
 ghost use Rattle.plain_language.specs.Expression.{value};
-ghost use Rattle.plain_language.specs.Redex.{cap, spine};
+ghost use Rattle.plain_language.specs.Redex.{cap, max_spine, spine};
 ghost use Rattle.step_eval.specs.ControlView.{Fits, expr_of, view_of};
 ghost use Rattle.step_eval.specs.FrameView.{FrameView};
 ghost use Rattle.step_eval.specs.Fits.{FramesFit, IsForm, IsLeft};
@@ -15,9 +15,10 @@ ghost use Rattle.step_eval.specs.Searched.{HasValue, IsSearched, LooksPast};
 ghost use Rattle.step_eval.specs.View.{round_of};
 ghost use Rattle.step_eval.specs.declared.site.Site.TheVariants.{Form};
 
-use crate::machine::{Focus, MAX_SPINE, Machine};
+use crate::machine::{Focus, Machine};
 use crate::node::{item_of, node_at};
 use crate::site::Site;
+use plain_language::MAX_SPINE;
 use stab_base::{Fault, Value};
 use stab_code::{Head, NodeId, Program};
 
@@ -81,7 +82,7 @@ fn depth_of(p: &Program, n: NodeId, from: usize, taken: usize) -> usize
 
 /// Whether these forms together are too many.
 fn exceeds(depth: usize, round: usize) -> bool
-    ensures { result ≡ nat_lt 1000 (depth + round) }
+    ensures { result ≡ nat_lt max_spine (depth + round) }
 {
     round > MAX_SPINE || depth > MAX_SPINE - round
 }
@@ -90,7 +91,7 @@ impl Machine {
     /// Whether too many forms are round the redex, where a value is to go into the innermost frame.
     fn is_value_too_deep(&self, p: &Program) -> bool
         requires { FramesFit p.now self.now.mark (round_of self.now) }
-        ensures { (v : Datum) → result ≡ nat_lt 1000 (spine (within_forms p.now (round_of self.now) (value v))) }
+        ensures { (v : Datum) → result ≡ nat_lt max_spine (spine (within_forms p.now (round_of self.now) (value v))) }
     {
         if self.is_alone() {
             return false;
@@ -106,7 +107,7 @@ impl Machine {
     /// Whether too many forms are round the redex.
     fn is_too_deep(&self, p: &Program) -> bool
         requires { Fits p.now (view_of self.now) }
-        ensures { result ≡ nat_lt 1000 (spine (expr_of p.now (view_of self.now))) }
+        ensures { result ≡ nat_lt max_spine (spine (expr_of p.now (view_of self.now))) }
     {
         match &self.focus {
             Focus::Begun(n) => exceeds(depth_of(p, *n, 0, 0), self.count()),

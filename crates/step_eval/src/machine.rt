@@ -24,9 +24,6 @@ use stab_code::NodeId;
 use std::alloc::Global;
 use std::sync::Arc;
 
-/// How many forms may be round a redex.
-pub(crate) const MAX_SPINE: usize = 1000;
-
 /// What is looked at.
 #[derive(Drop)]
 pub(crate) enum Focus {

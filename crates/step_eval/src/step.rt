@@ -20,11 +20,12 @@ ghost use Rattle.step_eval.specs.View.{here_of, round_of};
 ghost use Rattle.step_eval.specs.declared.machine.Focus.TheVariants as Focus;
 
 use crate::env::Env;
-use crate::machine::{MAX_SPINE, Machine};
+use crate::machine::Machine;
 use crate::node::{body_at, item_of, node_at, slot_of};
 use crate::place::Place;
 use crate::site::Site;
 use crate::values::{condition, made, take_one};
+use plain_language::MAX_SPINE;
 use stab_base::{Fault, FnId, NoMemory, Value};
 use stab_code::{Head, NodeId, Op, Program};
 use std::mem;

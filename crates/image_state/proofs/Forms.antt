@@ -1,36 +1,20 @@
--- Forms, and the parts in which a redex stands.
-use Rattle.std.proofs.Common.{◌≡◌, ℕ, ◌<◌, Bool, true, false, not, List, [], ◌∷◌, length, suc, get_or, Some, None, refl, sym, ap, ◌∙◌, arith}
-use Rattle.std.specs.Prelude.{nat_lt, ◌&&◌, Option}
-use Rattle.std.proofs.lemmas.Bool.{false≢true}
-use Rattle.std.proofs.lemmas.Bool.Decides.{nat_tests}
+-- Whether a form stands.
+use Rattle.std.proofs.Common.{◌≡◌, ℕ, Bool, true, false, List, [], ◌∷◌, length, suc, Option, Some, None, refl, sym, ap, ◌∙◌}
+use Rattle.std.specs.Prelude.{◌&&◌}
 use Rattle.stab_code.specs.Program.{ProgramParts}
 use Rattle.journal_laws.specs.Known.{Known}
 use Rattle.plain_language.specs.declared.head.Head.{Head}
-use Rattle.plain_language.specs.Busy.{busy_at}
 use Rattle.plain_language.specs.Expression.{Expr, Parts, value, variable, failed, form, parts_of}
 use Rattle.plain_language.specs.Forms.{form_in}
-use Rattle.plain_language.specs.Redex.{first_counts_alone}
-use Rattle.plain_language.proofs.Finding.{found}
-use Rattle.plain_language.proofs.Inside.{IsPart}
 use Rattle.expression_text.specs.Spelling.{count, items_of}
 use Rattle.image_state.specs.Stands.{head_stands, parts_stand, stands}
 
 -- an expression that is a form
-pub is_form : (e : Expr) (h : Head) (ps : Parts) → Some (h, ps) ≡ form_in e → form h ps ≡ e
+is_form : (e : Expr) (h : Head) (ps : Parts) → Some (h, ps) ≡ form_in e → form h ps ≡ e
 is_form (form g qs) h ps is = let same : (h, ps) ≡ (g, qs) = cc in ap (λ (x : Head × Parts). form x.0 x.1) same
 is_form (value v) h ps is = absurd (let no : Some (h, ps) ≡ None = is in cc)
 is_form (variable x) h ps is = absurd (let no : Some (h, ps) ≡ None = is in cc)
 is_form (failed k) h ps is = absurd (let no : Some (h, ps) ≡ None = is in cc)
-
--- a part that has to be a value is there
-outside : (i n : ℕ) → i < n → nat_lt i n ≡ false → ⊥
-outside i n lt h = grind (arith, nat_tests)
-
-pub not_there : (b : Bool) (h : Head) (es : List Expr) (i : ℕ) → busy_at b es ≡ Some i → nat_lt i (length es) ≡ false → ⊥
-not_there b h es i busy none = outside i (length es) (found b h es i busy).within_list none
-
-pub part_is : (e : Expr) (h : Head) (es : List Expr) (i : ℕ) (x : Expr) → Some (h, parts_of es) ≡ form_in e → Some i ≡ busy_at (first_counts_alone h) es → x ≡ get_or es i x → IsPart e h es i x
-part_is e h es i x is busy at = record { is_form = is_form e h (parts_of es) is; busy = busy; is = at }
 
 count_is : (es : List Expr) → count (parts_of es) ≡ length es
 count_is [] = refl
