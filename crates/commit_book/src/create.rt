@@ -7,7 +7,7 @@ ghost use Rattle.rendezvous.specs.Line.{nobody};
 ghost use Rattle.plain_language.specs.Look.{entered};
 ghost use Rattle.plain_language.specs.Outcome.{called};
 ghost use Rattle.plain_language.specs.Program.{body};
-ghost use Rattle.step_eval.specs.Asked.{act_next, IsEntry, operands_of};
+ghost use Rattle.step_eval.specs.Asked.{act_next, IsEnter, operands_of};
 ghost use Rattle.step_eval.specs.ControlView.{Fits, expr_of};
 ghost use Rattle.step_eval.specs.Turns.{Takes};
 ghost use Rattle.commit_book.specs.Acting.{AreAsBefore, HasJoined, IsDone, MayAct, StandsAt, number_after};
@@ -153,7 +153,7 @@ impl Parts {
 
     fn plan_enter(&mut self, program: &Program, progress: &Progress) -> Result<Control, NoMemory>
         requires few { length self.old.history.events + 2 ≤ 4294967294 }
-        requires act { IsEntry (act_next progress.now.end) }
+        requires act { IsEnter (act_next progress.now.end) }
         requires fits { Fits program.now progress.now.end }
         ensures before { AreAsBefore self.old self.new }
         ensures spare { OnOk result (2 ≤ self.new.history.spare) }

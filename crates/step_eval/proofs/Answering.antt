@@ -16,7 +16,7 @@ use Rattle.step_eval.specs.declared.machine.Machine.{Machine}
 use Rattle.step_eval.specs.Asked.{act_at, act_next}
 use Rattle.step_eval.specs.ControlView.{Fits, focus_expr, focus_view, view_of, expr_of as expr_in}
 use Rattle.step_eval.specs.Seen.{seen_at}
-use Rattle.step_eval.specs.Entries.{IsEntry}
+use Rattle.step_eval.specs.Entries.{IsBodyEntry}
 use Rattle.step_eval.specs.Fits.{FramesFit}
 use Rattle.step_eval.specs.FrameView.{FrameView}
 use Rattle.step_eval.specs.Meaning.{frame_at, within_forms}
@@ -53,7 +53,7 @@ module _ (p : ProgramParts) where
   seen-fit (focus.Fault k) m some fits = absurd (let wrong : ⊥ = cc in wrong)
 
   -- a body that is entered, or its value
-  pub entry-expr : (m : Machine) (k : ℕ) (n : NodeId) (o : Option Datum) (vs : List Datum) (round : List FrameView) → m.focus ≡ entry_of n o → arc_value m.env ≡ vs → round_of m ≡ round → IsEntry p k vs n o → expr_in p (view_of m) ≡ within_forms p round (called (body p) k vs)
+  pub entry-expr : (m : Machine) (k : ℕ) (n : NodeId) (o : Option Datum) (vs : List Datum) (round : List FrameView) → m.focus ≡ entry_of n o → arc_value m.env ≡ vs → round_of m ≡ round → IsBodyEntry p k vs n o → expr_in p (view_of m) ≡ within_forms p round (called (body p) k vs)
   entry-expr m k n None vs round looks envs rounds entry =
       expr-by p m (focus.Begun n) looks
       ∙ ap (λ e. within_forms p (round_of m) (put (slice_get e) (expr_of (tree_at p n)))) envs

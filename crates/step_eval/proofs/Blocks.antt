@@ -16,7 +16,7 @@ use Rattle.plain_language.specs.Program.{expr_of, exprs_of}
 use Rattle.step_eval.specs.declared.site.Site.TheVariants.{Form}
 use Rattle.step_eval.specs.FrameView.{FrameView}
 use Rattle.step_eval.specs.Fits.{FormFits, IsLeft}
-use Rattle.step_eval.specs.Meaning.{at_form, form_at, head_of, left_of, node_at, rest_of}
+use Rattle.step_eval.specs.Meaning.{at_form, form_at, head_of, left_of, node_at, behind_values}
 use Rattle.step_eval.specs.Ready.{IsSettled}
 use Rattle.step_eval.specs.Scoped.{IsScoped}
 use Rattle.step_eval.specs.Turns.{IsBound, turn_at}
@@ -86,7 +86,7 @@ module _ (p : ProgramParts) (valid : IsValid p) (n : NodeId) (from : ℕ) (here 
   pub slot-is-ahead : IfSome slot (λ x. length here.env ≤ x)
   slot-is-ahead = ahead-by (length here.env) slot own (tree_at p item) behind all-scoped
 
-  behind-is : rest_of p here ≡ put_parts (slice_get here.env) (exprs_of behind)
+  behind-is : behind_values p here ≡ put_parts (slice_get here.env) (exprs_of behind)
   behind-is = rest-is p n from here at (drop (suc from) (node_at p n).parts) (ap (λ k. drop k (node_at p n).parts) (let o : length here.done ≡ 1 = one in let e : from + length here.done ≡ suc from = omega arith in e))
 
   turn-item : turn_at p here ≡ with_one here.done (λ v. after_item (slot ∷ own) v (put_parts (slice_get here.env) (exprs_of behind)))

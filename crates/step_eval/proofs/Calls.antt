@@ -14,7 +14,7 @@ use Rattle.plain_language.specs.Outcome.{called}
 use Rattle.plain_language.specs.Program.{expr_of, body, body_by}
 use Rattle.step_eval.specs.Scoped.{SlotsRise, IsScoped}
 use Rattle.step_eval.specs.Turns.{Takes}
-use Rattle.step_eval.specs.Entries.{IsBody, IsEntry, entered}
+use Rattle.step_eval.specs.Entries.{IsBody, IsBodyEntry, entered}
 use Rattle.step_eval.specs.ControlView.{ControlView, Fits, expr_of as expr_in}
 use Rattle.step_eval.specs.Ready.{IsLeaf}
 
@@ -65,23 +65,23 @@ pub takes-there : (p : ProgramParts) (f : FnId) (size : ℕ) → Takes p f size 
 takes-there p f size takes = there-by (λ g. arity_of g ≡ size) p.functions f.0 takes
 
 -- what the body is, where it is known whether it has a value at once
-pub is-entry : (p : ProgramParts) (k : ℕ) (args : List Datum) (n : NodeId) (o : Option Datum) → IsBody p k (length args) n → IsLeaf p n args o → IsEntry p k args n o
+pub is-entry : (p : ProgramParts) (k : ℕ) (args : List Datum) (n : NodeId) (o : Option Datum) → IsBody p k (length args) n → IsLeaf p n args o → IsBodyEntry p k args n o
 is-entry p k args n None b leaf = record { there = b.there; is_form = leaf; scoped = b.scoped; is_called = b.is_called args }
 is-entry p k args n (Some v) b leaf = b.is_called args ∙ leaf
 
-entered-expr : (p : ProgramParts) (k : ℕ) (args : List Datum) (n : NodeId) (o : Option Datum) → IsEntry p k args n o → expr_in p (entered n o args) ≡ called (body p) k args
+entered-expr : (p : ProgramParts) (k : ℕ) (args : List Datum) (n : NodeId) (o : Option Datum) → IsBodyEntry p k args n o → expr_in p (entered n o args) ≡ called (body p) k args
 entered-expr p k args n None e = sym e.is_called
 entered-expr p k args n (Some v) e = sym e
 
-entered-fits : (p : ProgramParts) (k : ℕ) (args : List Datum) (n : NodeId) (o : Option Datum) → IsEntry p k args n o → Fits p (entered n o args)
+entered-fits : (p : ProgramParts) (k : ℕ) (args : List Datum) (n : NodeId) (o : Option Datum) → IsBodyEntry p k args n o → Fits p (entered n o args)
 entered-fits p k args n None e = record { focus = (e.there, e.is_form, e.scoped); frames = refl }
 entered-fits p k args n (Some v) e = record { focus = tt; frames = refl }
 
-pub called-expr : {E : Type 0} (p : ProgramParts) (k : ℕ) (args : List Datum) (n : NodeId) (o : Option Datum) (r : Result ControlView E) → IsEntry p k args n o → IfOk r (λ c. c ≡ entered n o args) → IfOk r (λ c. expr_in p c ≡ called (body p) k args)
+pub called-expr : {E : Type 0} (p : ProgramParts) (k : ℕ) (args : List Datum) (n : NodeId) (o : Option Datum) (r : Result ControlView E) → IsBodyEntry p k args n o → IfOk r (λ c. c ≡ entered n o args) → IfOk r (λ c. expr_in p c ≡ called (body p) k args)
 called-expr p k args n o (Ok c) e is = ap (expr_in p) is ∙ entered-expr p k args n o e
 called-expr p k args n o (Err x) e is = tt
 
-pub called-fits : {E : Type 0} (p : ProgramParts) (k : ℕ) (args : List Datum) (n : NodeId) (o : Option Datum) (r : Result ControlView E) → IsEntry p k args n o → IfOk r (λ c. c ≡ entered n o args) → IfOk r (Fits p)
+pub called-fits : {E : Type 0} (p : ProgramParts) (k : ℕ) (args : List Datum) (n : NodeId) (o : Option Datum) (r : Result ControlView E) → IsBodyEntry p k args n o → IfOk r (λ c. c ≡ entered n o args) → IfOk r (Fits p)
 called-fits p k args n o (Ok c) e is = let P : ControlView → Type 0 = λ (x : ControlView). Fits p x in subst P (sym is) (entered-fits p k args n o e)
 called-fits p k args n o (Err x) e is = tt
 

@@ -26,7 +26,7 @@ use Rattle.step_eval.specs.declared.site.Site.TheVariants.{Form, Section}
 use Rattle.step_eval.specs.ControlView.{Fits, RedexIsFound, focus_expr, focus_view, view_of}
 use Rattle.step_eval.specs.Fits.{FramesFit, IsMarkAt, outside}
 use Rattle.step_eval.specs.FrameView.{FrameView}
-use Rattle.step_eval.specs.Meaning.{form_at, frame_at, head_at, head_of, left_of, node_at, rest_of, strict_at, waiting_at, within_forms}
+use Rattle.step_eval.specs.Meaning.{form_at, frame_at, head_at, head_of, left_of, node_at, behind_values, strict_at, waiting_at, within_forms}
 use Rattle.step_eval.specs.Ready.{IsSettled}
 use Rattle.step_eval.specs.View.{here_of, round_of}
 
@@ -89,11 +89,11 @@ module _ (p : ProgramParts) where
 
   -- the redex of a settled form is that form
   pub redex-settled : (mk : Option Seq) (fs : List FrameView) (h : FrameView) → FramesFit p mk fs → IsSettled p h →
-      redex (within_forms p fs (form_at p h)) ≡ Some (record { round = map (frame_at p) fs; head = head_at p h.site; values = h.done; waiting = rest_of p h })
+      redex (within_forms p fs (form_at p h)) ≡ Some (record { round = map (frame_at p) fs; head = head_at p h.site; values = h.done; waiting = behind_values p h })
   redex-settled mk fs h fit settled =
       redex-within (map (frame_at p) fs) (form_at p h) [] (frames mk fs fit) tt
-      ∙ ap (λ round. redex_in (after_values h.done (rest_of p h)) (head_at p h.site) [] round) (append-nil (map (frame_at p) fs))
-      ∙ found (head_at p h.site) h.done (rest_of p h) (map (frame_at p) fs) (first_counts_alone (head_at p h.site)) refl
+      ∙ ap (λ round. redex_in (after_values h.done (behind_values p h)) (head_at p h.site) [] round) (append-nil (map (frame_at p) fs))
+      ∙ found (head_at p h.site) h.done (behind_values p h) (map (frame_at p) fs) (first_counts_alone (head_at p h.site)) refl
       (λ e. settled.all ∙ alone h.site e)
       (λ e. ap (put_parts (slice_get h.env)) (rest-none h.site (length h.done) e settled.all))
 

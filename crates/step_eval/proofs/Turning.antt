@@ -21,7 +21,7 @@ use Rattle.step_eval.specs.declared.site.Site.{Site}
 use Rattle.step_eval.specs.declared.site.Site.TheVariants.{Form}
 use Rattle.step_eval.specs.FrameView.{FrameView}
 use Rattle.step_eval.specs.Fits.{FormFits, SiteFits}
-use Rattle.step_eval.specs.Meaning.{head_at, head_of, left_of, node_at, rest_of, strict_at, waiting_at}
+use Rattle.step_eval.specs.Meaning.{head_at, head_of, left_of, node_at, behind_values, strict_at, waiting_at}
 use Rattle.step_eval.specs.Operands.{HasOperands, operand_count}
 use Rattle.step_eval.specs.Ready.{IsSettled}
 use Rattle.step_eval.specs.Turns.{Takes, turn_at}
@@ -48,12 +48,12 @@ truth-some (v ∷ []) b k e = with_truth-some v b k e
 truth-some (v ∷ w ∷ vs) b k e = cc
 
 module _ (p : ProgramParts) (n : NodeId) (from : ℕ) (here : FrameView) (at : here.site ≡ Form n from) where
-  pub turn-is : (h : code.Head) → (node_at p n).head ≡ h → turn_at p here ≡ outcome (body p) (head_of (left_of from h)) here.done (rest_of p here)
+  pub turn-is : (h : code.Head) → (node_at p n).head ≡ h → turn_at p here ≡ outcome (body p) (head_of (left_of from h)) here.done (behind_values p here)
   turn-is h is =
-      ap (λ s. outcome (body p) (head_at p s) here.done (rest_of p here)) at
-      ∙ ap (λ k. outcome (body p) (head_of (left_of from k)) here.done (rest_of p here)) is
+      ap (λ s. outcome (body p) (head_at p s) here.done (behind_values p here)) at
+      ∙ ap (λ k. outcome (body p) (head_of (left_of from k)) here.done (behind_values p here)) is
 
-  pub rest-is : (ns : List NodeId) → drop (from + length here.done) (node_at p n).parts ≡ ns → rest_of p here ≡ put_parts (slice_get here.env) (exprs_of (trees_at p ns))
+  pub rest-is : (ns : List NodeId) → drop (from + length here.done) (node_at p n).parts ≡ ns → behind_values p here ≡ put_parts (slice_get here.env) (exprs_of (trees_at p ns))
   rest-is ns is =
       ap (λ s. put_parts (slice_get here.env) (waiting_at p s (length here.done))) at
       ∙ ap (λ qs. put_parts (slice_get here.env) (exprs_of (trees_at p qs))) is
@@ -68,14 +68,14 @@ parts-are p valid n there h count is are =
 
 module _ (p : ProgramParts) (valid : IsValid p) (n : NodeId) (here : FrameView) (at : here.site ≡ Form n 0) (settled : IsSettled p here) (there : n.0 < length p.nodes) where
   module _ (yes no : NodeId) (is : (node_at p n).head ≡ If) (first : slice_get (node_at p n).parts 1 ≡ Some yes) (second : slice_get (node_at p n).parts 2 ≡ Some no) where
-    branches : rest_of p here ≡ part (put (slice_get here.env) (expr_of (tree_at p yes))) (part (put (slice_get here.env) (expr_of (tree_at p no))) none)
+    branches : behind_values p here ≡ part (put (slice_get here.env) (expr_of (tree_at p yes))) (part (put (slice_get here.env) (expr_of (tree_at p no))) none)
     branches =
         let one : length here.done ≡ 1 = count-is p n 0 here at If settled is in
         let three : length (node_at p n).parts ≡ 3 = parts-are p valid n there If 3 is refl in
         rest-is p n 0 here at (yes ∷ no ∷ []) (ap (λ k. drop k (node_at p n).parts) (let k : 0 + length here.done ≡ 1 = omega arith in k) ∙ drop-two (node_at p n).parts 1 yes no first second three)
 
     pub branch-some : (b : Bool) → Some b ≡ option_and_then truth_of (one_of here.done) → turn_at p here ≡ becomes (cond b (put (slice_get here.env) (expr_of (tree_at p yes))) (put (slice_get here.env) (expr_of (tree_at p no))))
-    branch-some b e = turn-is p n 0 here at If is ∙ truth-some here.done b (λ t. branch_of t (rest_of p here)) e ∙ ap (branch_of b) branches
+    branch-some b e = turn-is p n 0 here at If is ∙ truth-some here.done b (λ t. branch_of t (behind_values p here)) e ∙ ap (branch_of b) branches
 
   module _ (right : NodeId) (second : slice_get (node_at p n).parts 1 ≡ Some right) where
     pub and-some : (node_at p n).head ≡ Two And → (b : Bool) → Some b ≡ option_and_then truth_of (one_of here.done) → turn_at p here ≡ cond b (becomes (put (slice_get here.env) (expr_of (tree_at p right)))) (truth_value false)
@@ -83,7 +83,7 @@ module _ (p : ProgramParts) (valid : IsValid p) (n : NodeId) (here : FrameView) 
         let one : length here.done ≡ 1 = count-is p n 0 here at (Two And) settled is in
         let two : length (node_at p n).parts ≡ 2 = parts-are p valid n there (Two And) 2 is refl in
         turn-is p n 0 here at (Two And) is
-        ∙ truth-some here.done b (λ t. cond t (waiting_one (rest_of p here)) (truth_value false)) e
+        ∙ truth-some here.done b (λ t. cond t (waiting_one (behind_values p here)) (truth_value false)) e
         ∙ ap (λ rest. cond b (waiting_one rest) (truth_value false)) (rest-is p n 0 here at (right ∷ []) (ap (λ k. drop k (node_at p n).parts) (let k : 0 + length here.done ≡ 1 = omega arith in k) ∙ drop-last (node_at p n).parts 1 right second two))
 
     pub or-some : (node_at p n).head ≡ Two Or → (b : Bool) → Some b ≡ option_and_then truth_of (one_of here.done) → turn_at p here ≡ cond b (truth_value true) (becomes (put (slice_get here.env) (expr_of (tree_at p right))))
@@ -91,7 +91,7 @@ module _ (p : ProgramParts) (valid : IsValid p) (n : NodeId) (here : FrameView) 
         let one : length here.done ≡ 1 = count-is p n 0 here at (Two Or) settled is in
         let two : length (node_at p n).parts ≡ 2 = parts-are p valid n there (Two Or) 2 is refl in
         turn-is p n 0 here at (Two Or) is
-        ∙ truth-some here.done b (λ t. cond t (truth_value true) (waiting_one (rest_of p here))) e
+        ∙ truth-some here.done b (λ t. cond t (truth_value true) (waiting_one (behind_values p here))) e
         ∙ ap (λ rest. cond b (truth_value true) (waiting_one rest)) (rest-is p n 0 here at (right ∷ []) (ap (λ k. drop k (node_at p n).parts) (let k : 0 + length here.done ≡ 1 = omega arith in k) ∙ drop-last (node_at p n).parts 1 right second two))
 
 takes-by : (o : Option FunctionParts) (count size : ℕ) → option_map arity_of o ≡ Some count → size ≡ count → IsSomeAnd o (λ g. arity_of g ≡ size)

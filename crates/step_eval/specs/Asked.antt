@@ -26,9 +26,9 @@ abbrev pub act_next : ControlView → Option own.Act
 act_next c = act_at c.focus
 
 -- a section that is entered
-abbrev pub IsEntry : Option own.Act → Type 0
-IsEntry (Some (Enter f)) = ⊤
-IsEntry _ = ⊥
+abbrev pub IsEnter : Option own.Act → Type 0
+IsEnter (Some (Enter f)) = ⊤
+IsEnter _ = ⊥
 
 -- the act that is next, if one is
 abbrev pub act_in : Ask → Option own.Act

@@ -25,9 +25,9 @@ pub record IsFormEntry (p : ProgramParts) (f : ℕ) (args : List Datum) (n : Nod
   pub scoped : IsScoped (length args) (tree_at p n)
   pub is_called : called (body p) f args ≡ put (slice_get args) (expr_of (tree_at p n))
 
-abbrev pub IsEntry : ProgramParts → ℕ → List Datum → NodeId → Option Datum → Type 0
-IsEntry p f args n None = IsFormEntry p f args n
-IsEntry p f args n (Some v) = called (body p) f args ≡ expr.value v
+abbrev pub IsBodyEntry : ProgramParts → ℕ → List Datum → NodeId → Option Datum → Type 0
+IsBodyEntry p f args n None = IsFormEntry p f args n
+IsBodyEntry p f args n (Some v) = called (body p) f args ≡ expr.value v
 
 abbrev pub entry_focus : NodeId → Option Datum → List Datum → FocusView
 entry_focus n None args = begun n args

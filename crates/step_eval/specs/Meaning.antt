@@ -48,12 +48,12 @@ waiting_at p (Form n from) k = exprs_of (trees_at p (drop (from + k) (node_at p 
 waiting_at p (Section m outer) k = none
 
 -- those behind the values so far, with the values of the variables
-abbrev pub rest_of : ProgramParts → FrameView → Parts
-rest_of p v = put_parts (slice_get v.env) (waiting_at p v.site (length v.done))
+abbrev pub behind_values : ProgramParts → FrameView → Parts
+behind_values p v = put_parts (slice_get v.env) (waiting_at p v.site (length v.done))
 
 -- the form, whose first parts are values
 abbrev pub form_at : ProgramParts → FrameView → Expr
-form_at p v = form (head_at p v.site) (after_values v.done (rest_of p v))
+form_at p v = form (head_at p v.site) (after_values v.done (behind_values p v))
 
 -- the form round its next part
 abbrev pub frame_at : ProgramParts → FrameView → Frame

@@ -6,12 +6,12 @@ use Rattle.stab_code.specs.Program.{ProgramParts, arity_of}
 use Rattle.plain_language.specs.Outcome.{Outcome, outcome}
 use Rattle.plain_language.specs.Program.{body}
 use Rattle.step_eval.specs.FrameView.{FrameView}
-use Rattle.step_eval.specs.Meaning.{head_at, rest_of}
+use Rattle.step_eval.specs.Meaning.{head_at, behind_values}
 use Rattle.step_eval.specs.Scoped.{bound}
 
 -- what the form at hand does
 abbrev pub turn_at : ProgramParts → FrameView → Outcome
-turn_at p here = outcome (body p) (head_at p here.site) here.done (rest_of p here)
+turn_at p here = outcome (body p) (head_at p here.site) here.done (behind_values p here)
 
 -- a function of the program that takes so many arguments
 abbrev pub Takes : ProgramParts → FnId → ℕ → Type 0

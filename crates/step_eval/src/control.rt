@@ -7,7 +7,7 @@ ghost use Rattle.plain_language.specs.Look.{answered, entered as entered_at, loo
 ghost use Rattle.plain_language.specs.Outcome.{called};
 ghost use Rattle.plain_language.specs.Program.{body};
 ghost use Rattle.plain_language.specs.Redex.{mark};
-ghost use Rattle.step_eval.specs.Asked.{AsksRightly, IsAsked, IsEntry, act_in, act_next, operands_of};
+ghost use Rattle.step_eval.specs.Asked.{AsksRightly, IsAsked, IsEnter, act_in, act_next, operands_of};
 ghost use Rattle.step_eval.specs.ControlView.{expr_of, Fits, RedexIsFound, view_of};
 ghost use Rattle.step_eval.specs.Entries.{entered};
 ghost use Rattle.step_eval.specs.Rests.{rest_of};
@@ -193,7 +193,7 @@ impl Control {
     /// has no greater number.
     pub fn enter(&mut self, program: &Program, q: Seq) -> Result<(), NoMemory>
         requires fits { Fits program.now self.old }
-        requires act { IsEntry (act_next self.old) }
+        requires act { IsEnter (act_next self.old) }
         requires number { q.0 < 4294967295 }
         ensures expr { (f : FnId) → act_next self.old ≡ Some (Enter f) →
             OnOk result (expr_of program.now self.new ≡ entered_at (expr_of program.now self.old) q.0 (called (body program.now) f.0 (operands_of self.old))) }

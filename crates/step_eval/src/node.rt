@@ -2,7 +2,7 @@
 ghost use Rattle.std.specs.Prelude.{◌≡◌, ◌<◌, Some, length, slice_get, IfOk};
 ghost use Rattle.stab_code.specs.Program.{tree_at};
 ghost use Rattle.stab_code.specs.Valid.{IsValid};
-ghost use Rattle.step_eval.specs.Entries.{IsBody, IsEntry};
+ghost use Rattle.step_eval.specs.Entries.{IsBody, IsBodyEntry};
 ghost use Rattle.step_eval.specs.Meaning.{node_at};
 ghost use Rattle.step_eval.specs.Ready.{IsLeaf};
 ghost use Rattle.step_eval.specs.Scoped.{IsScoped};
@@ -83,7 +83,7 @@ pub(crate) fn entry(
     args: &[Value],
 ) -> Result<(NodeId, Option<Value>), NoMemory>
     requires { Takes p.now f (length args.now) }
-    ensures { IfOk result (λ r. IsEntry p.now f.0 args.now r.0 r.1) }
+    ensures { IfOk result (λ r. IsBodyEntry p.now f.0 args.now r.0 r.1) }
 {
     let n = body_at(p, f, args);
     let value = leaf(p, n, args)?;

@@ -113,6 +113,6 @@ Gives seen (Err NoMemory) meant = Unit {0}
 Gives seen (Err fault) meant = meant ≡ Err fault
 
 -- what a line may stand for: an event in its range, and no struck one but a step
-pub record IsEntry (q : ℕ) (e : Entry) : Type 0 where
+pub record IsEntryAt (q : ℕ) (e : Entry) : Type 0 where
   pub event : IsEvent q e.event
   pub struck : e.struck ≡ true → IsSome (label_of e.event.what)

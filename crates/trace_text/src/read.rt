@@ -1,6 +1,6 @@
 //! Reads a trace.
 ghost use Rattle.std.specs.Prelude.{◌≡◌, ◌≤◌, ◌<◌, ◌^◌, ◌+◌, ◌++◌, [], ◌∷◌, length, OnOk};
-ghost use Rattle.trace_text.specs.Reading.{Gives, IsEntry, read_lines, reading};
+ghost use Rattle.trace_text.specs.Reading.{Gives, IsEntryAt, read_lines, reading};
 ghost use Rattle.trace_text.specs.Limits.{max_bytes};
 ghost use Rattle.trace_text.specs.Text.{entries};
 ghost use Rattle.text_lines.specs.Lines.{split};
@@ -62,7 +62,7 @@ fn read_lines(
 // Adds an event at the end.
 fn add(history: &mut History, entry: Entry) -> Result<(), NoMemory>
     requires valid { IsValid history.old }
-    requires in_range { IsEntry (length history.old.events + 1) entry }
+    requires in_range { IsEntryAt (length history.old.events + 1) entry }
     requires few { length history.old.events < 4294967294 }
     requires light { weight_of history.old.events < 2 ^ 63 }
     ensures added { OnOk result (entries history.new ≡ entries history.old ++ entry ∷ []) }

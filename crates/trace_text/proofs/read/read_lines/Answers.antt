@@ -1,6 +1,6 @@
 use Rattle.std.proofs.Common.{◌≡◌, suc, ◌+◌, ◌∷◌, [], length, sym, ap, subst, ◌∙◌, arith}
 use Rattle.std.proofs.lemmas.Bool.{eqb-false}
-use Rattle.trace_text.specs.Reading.{IsEntry, after, read_lines}
+use Rattle.trace_text.specs.Reading.{IsEntryAt, after, read_lines}
 use Rattle.trace_text.specs.Text.{entries}
 use Rattle.text_lines.specs.Lines.{split}
 use Rattle.trace_text.proofs.Lines.{line-read}
@@ -30,7 +30,7 @@ returns-in-End-2 c =
 
 pub add-requires-clause-in_range : goal.add-requires-clause-in_range
 add-requires-clause-in_range c =
-    subst (λ n. IsEntry n c.in-Event.entry) (ap (λ n. n + 1) c.len.ensures.len)
+    subst (λ n. IsEntryAt n c.in-Event.entry) (ap (λ n. n + 1) c.len.ensures.len)
     (line-read c.args.header (c.len.result + 1) (split 32 c.in-Some.line.now) c.in-Event.entry (sym c.in-Event.ensures)).entry
 
 pub loop-line-preserved : goal.loop-line-preserved

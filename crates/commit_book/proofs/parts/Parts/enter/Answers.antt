@@ -11,7 +11,7 @@ use Rattle.std.proofs.lemmas.Bool.{false≢true}
 use Rattle.checkpoint_store.specs.Saved.{Saved}
 use Rattle.step_eval.specs.ControlView.{ControlView, Fits, expr_of}
 use Rattle.std.proofs.Common.{◌≡◌}
-use Rattle.step_eval.specs.Asked.{IsEntry}
+use Rattle.step_eval.specs.Asked.{IsEnter}
 use Rattle.commit_book.proofs.Acting.Acted.{needs_fits}
 use Rattle.stab_code.specs.Program.{ProgramParts}
 use Rattle.plain_language.specs.Look.{entered}
@@ -26,7 +26,7 @@ plan_enter-requires-clause-few c =
     few_at c.args.job.now c.args.self.now c.args.lease.now c.args.progress c.requires.may
 
 pub plan_enter-requires-clause-act : goal.plan_enter-requires-clause-act
-plan_enter-requires-clause-act c = subst IsEntry (sym c.requires.at.1.next) tt
+plan_enter-requires-clause-act c = subst IsEnter (sym c.requires.at.1.next) tt
 
 pub plan_enter-requires-clause-fits : goal.plan_enter-requires-clause-fits
 plan_enter-requires-clause-fits c =

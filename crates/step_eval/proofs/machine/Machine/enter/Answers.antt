@@ -8,7 +8,7 @@ use Rattle.plain_language.specs.Outcome.{called}
 use Rattle.plain_language.specs.Program.{body}
 use Rattle.plain_language.specs.Redex.{cap, within}
 use Rattle.step_eval.specs.ControlView.{ControlView}
-use Rattle.step_eval.specs.Entries.{IsEntry}
+use Rattle.step_eval.specs.Entries.{IsBodyEntry}
 use Rattle.step_eval.specs.FrameView.{FrameView}
 use Rattle.step_eval.specs.Sections.{section_frame}
 use Rattle.step_eval.specs.View.{round_of}
@@ -20,8 +20,8 @@ returns-clause-expr c =
     let p = c.args.p.now in
     let m = c.args.self.now in
     let vs : List Datum = m.done.items in
-    let E : List Datum → Type 0 = λ (xs : List Datum). IsEntry p c.args.f.0 xs c.in_ok-n.n c.in_ok-n.value in
-    let entry : IsEntry p c.args.f.0 vs c.in_ok-n.n c.in_ok-n.value = subst E c.as_slice.ensures.value c.in_ok-n.ensures in
+    let E : List Datum → Type 0 = λ (xs : List Datum). IsBodyEntry p c.args.f.0 xs c.in_ok-n.n c.in_ok-n.value in
+    let entry : IsBodyEntry p c.args.f.0 vs c.in_ok-n.n c.in_ok-n.value = subst E c.as_slice.ensures.value c.in_ok-n.ensures in
     let env : arc_value c.look_at.new.self.env ≡ vs = c.look_at.ensures.env ∙ c.open_section.ensures.env ∙ c.in_ok-env.ensures.env ∙ ap (λ (h : FrameView). h.done) c.share_top.ensures.here in
     let rounds = c.look_at.ensures.round ∙ c.open_section.ensures.round ∙ ap (λ r. section_frame c.args.q c.take_env.new.self.mark (arc_value c.take_env.new.self.env) ∷ r) (c.take_env.ensures.round ∙ ap (λ (w : ControlView). w.round) c.share_top.ensures.view) in
     c.cap_ahead.ensures.expr
