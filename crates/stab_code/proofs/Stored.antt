@@ -1,6 +1,7 @@
 -- Nodes by the heads and the lists of parts that they are kept as.
-use Rattle.std.proofs.Common.{◌≡◌, ℕ, zero, suc, List, [], ◌∷◌, ◌++◌, length, map, slice_get, Some, refl, ap, ◌∙◌, sym, arith}
+use Rattle.std.proofs.Common.{◌≡◌, ℕ, zero, suc, List, [], ◌∷◌, ◌++◌, length, map, option_map, slice_get, Some, refl, ap, ◌∙◌, sym, arith}
 use Rattle.std.proofs.lemmas.List.{length-map}
+use Rattle.std.proofs.lemmas.Option.{slice_get-map}
 use Rattle.stab_code.specs.declared.head.Head.{Head}
 use Rattle.stab_code.specs.declared.node_id.NodeId.{NodeId}
 use Rattle.stab_code.specs.Nodes.{node_of, nodes_in}
@@ -19,6 +20,10 @@ heads_and_parts (h ∷ heads) (l ∷ lists) e = let rest = heads_and_parts heads
 
 pub count_of_nodes : (heads : List Head) (lists : List (List NodeId)) → length heads ≡ length lists → length (nodes_in heads lists) ≡ length heads
 count_of_nodes heads lists e = omega (arith, ap length (heads_and_parts heads lists e).0, length-map (nodes_in heads lists) (λ n. n.head))
+
+-- the head of a number
+pub head_at : (heads : List Head) (lists : List (List NodeId)) (i : ℕ) → length heads ≡ length lists → slice_get heads i ≡ option_map (λ node. node.head) (slice_get (nodes_in heads lists) i)
+head_at heads lists i e = ap (λ own. slice_get own i) (heads_and_parts heads lists e).0 ∙ slice_get-map (λ node. node.head) (nodes_in heads lists) i
 
 pub node_at : (heads : List Head) (lists : List (List NodeId)) (i : ℕ) (head : Head) (parts : List NodeId) → slice_get heads i ≡ Some head → slice_get lists i ≡ Some parts → slice_get (nodes_in heads lists) i ≡ Some (node_of head parts)
 node_at [] lists i head parts h p = cc

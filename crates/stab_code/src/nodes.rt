@@ -1,5 +1,6 @@
 //! The nodes of a program, and how they are kept.
-ghost use Rattle.std.specs.Prelude.{◌≡◌, ◌++◌, ◌∷◌, ◌<◌, [], Some, IfOk, MatchResult, length, slice_get};
+ghost use Rattle.std.specs.Prelude.{◌≡◌, ◌++◌, ◌∷◌, ◌<◌, [], Some, IfOk, MatchResult, length, option_map, slice_get};
+ghost use Rattle.std.specs.Option.{option_copied};
 ghost use Rattle.stab_code.specs.Nodes.{node_of, nodes_in};
 
 use crate::head::Head;
@@ -33,6 +34,13 @@ impl Model for Nodes {
     ghost view = { λ nodes. nodes_in nodes.heads.items nodes.parts };
 
     ghost invariant = { λ nodes. length nodes.heads.items ≡ length nodes.parts };
+}
+
+#[inline(always)]
+fn head_in(heads: &[Head], n: NodeId) -> Option<&Head>
+    ensures { option_copied result ≡ slice_get heads.now n.0 }
+{
+    heads.get(n.0 as usize)
 }
 
 impl Nodes {
@@ -98,6 +106,14 @@ impl Nodes {
         } else {
             None
         }
+    }
+
+    /// The head of a node by its number, where its parts aren't asked for.
+    #[inline(always)]
+    pub fn head(&self, n: NodeId) -> Option<&Head>
+        ensures { option_copied result ≡ option_map (λ node. node.head) (slice_get self.now n.0) }
+    {
+        head_in(&self.heads, n)
     }
 }
 

@@ -5,6 +5,7 @@ ghost use Rattle.stab_code.specs.Program.{arity_of, program_of};
 ghost use Rattle.stab_code.specs.Valid.{IsValid};
 
 use crate::function::Function;
+use crate::head::Head;
 use crate::node::Node;
 use crate::node_id::NodeId;
 use crate::nodes::Nodes;
@@ -81,6 +82,15 @@ impl Program {
         ensures valid { IsValid self.now }
     {
         self.nodes.get(n)
+    }
+
+    /// The head of a node by its number, where its parts aren't asked for.
+    #[inline(always)]
+    pub fn head(&self, n: NodeId) -> Option<&Head>
+        ensures value { option_copied result ≡ option_map (λ node. node.head) (slice_get self.now.nodes n.0) }
+        ensures valid { IsValid self.now }
+    {
+        self.nodes.head(n)
     }
 
     /// The function in which a run begins.

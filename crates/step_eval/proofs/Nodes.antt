@@ -1,5 +1,6 @@
 -- Nodes of a valid program, by their numbers.
-use Rattle.std.proofs.Common.{◌≡◌, ℕ, zero, suc, ◌<◌, List, [], ◌∷◌, length, slice_get, Option, Some, IsSome, is_some, option_map, unwrap_or, refl, ap, sym, ◌∙◌, arith}
+use Rattle.std.proofs.Common.{◌≡◌, ℕ, zero, suc, ◌<◌, List, [], ◌∷◌, length, slice_get, Option, None, Some, Bor, IsSome, is_some, option_map, unwrap_or, refl, ap, sym, ◌∙◌, arith}
+use Rattle.std.specs.Option.{option_copied}
 use Rattle.std.proofs.lemmas.Option.{slice_get-get_or}
 use Rattle.stab_code.specs.declared.head.Head.{Head}
 use Rattle.stab_code.specs.declared.head.Head.TheVariants.{Unit, Block}
@@ -48,3 +49,12 @@ pub body-some : {A B : Type 0} (f : A → B) (xs : List A) (k : ℕ) (o : Option
 body-some f [] k o h e = absurd (omega arith)
 body-some f (x ∷ xs) zero o h e = ap is_some e
 body-some f (x ∷ xs) (suc k) o h e = body-some f xs k o (omega arith) e
+
+-- the head of a node that is there, behind its reference
+module _ (p : ProgramParts) (n : NodeId) (there : n.0 < length p.nodes) where
+  pub head-some : (o : Option (Bor Head)) → option_copied o ≡ option_map (λ node. node.head) (slice_get p.nodes n.0) → IsSome o
+  head-some None e = body-some (λ node. node.head) p.nodes n.0 None there e
+  head-some (Some h) e = refl
+
+  pub head-found : (o : Option (Bor Head)) (h : Bor Head) → option_copied o ≡ option_map (λ node. node.head) (slice_get p.nodes n.0) → o ≡ Some h → h.now ≡ (node_at p n).head
+  head-found o h e is = ap (λ found. unwrap_or found Unit) (sym (ap option_copied is) ∙ e ∙ ap (option_map (λ node. node.head)) (node_there p n there))

@@ -22,6 +22,16 @@ pub(crate) fn node_at(p: &Program, n: NodeId) -> Node<'_>
     p.node(n).unwrap()
 }
 
+/// The head of the node of a number that is there.
+#[inline(always)]
+pub(crate) fn head_at(p: &Program, n: NodeId) -> &Head
+    requires { n.0 < length p.now.nodes }
+    ensures head { result.now ≡ (node_at p.now n).head }
+    ensures valid { IsValid p.now }
+{
+    p.head(n).unwrap()
+}
+
 /// A part among those of a node, by its place.
 #[inline(always)]
 pub(crate) fn item_of(parts: &[NodeId], k: usize) -> NodeId
@@ -56,7 +66,7 @@ pub(crate) fn leaf(p: &Program, n: NodeId, values: &[Value]) -> Result<Option<Va
     ensures value { IfOk result (IsLeaf p.now n values.now) }
     ensures valid { IsValid p.now }
 {
-    match node_at(p, n).head() {
+    match head_at(p, n) {
         Head::Unit => Ok(Some(Value::unit())),
         Head::Truth(b) => Ok(Some(Value::truth(*b))),
         Head::Int(k) => Ok(Some(Value::int(*k))),

@@ -22,7 +22,7 @@ use crate::act::{Act, act_at};
 use crate::env::add_copies;
 use crate::frame::Frame;
 use crate::machine::{Focus, Machine};
-use crate::node::{item_of, leaf, node_at};
+use crate::node::{head_at, item_of, leaf, node_at};
 use crate::place::Place;
 use crate::site::Site;
 use shared_stack::Popped;
@@ -145,7 +145,7 @@ impl Machine {
     {
         match self.site.site() {
             Site::Section(_m, _outer) => None,
-            Site::Form(n, _from) => act_at(node_at(p, n).head(), self.done.as_slice()),
+            Site::Form(n, _from) => act_at(head_at(p, n), self.done.as_slice()),
         }
     }
 

@@ -21,7 +21,7 @@ ghost use Rattle.step_eval.specs.declared.machine.Focus.TheVariants as Focus;
 
 use crate::env::Env;
 use crate::machine::Machine;
-use crate::node::{body_at, item_of, node_at, slot_of};
+use crate::node::{body_at, head_at, item_of, node_at, slot_of};
 use crate::place::Place;
 use crate::site::Site;
 use crate::values::{condition, made, take_one};
@@ -195,7 +195,7 @@ impl Machine {
         requires no_act { told (turn_at p.now (here_of self.old)) ≡ None }
         ensures { OnOk result (Arrives p.now (view_of self.new) (turned p.now (round_of self.old) (turn_at p.now (here_of self.old)))) }
     {
-        match node_at(p, n).head() {
+        match head_at(p, n) {
             Head::Block(slots) => self.item(p, n, from, slots.all()),
             Head::If => self.branch(p, n),
             Head::Two(Op::And) => self.both(p, n),
