@@ -53,12 +53,12 @@ no_space Step = refl
 no_space Commit = refl
 
 -- one word more in a row of choices
-named_or : (word text : List ℕ) (v w : Verb) (others : Option Verb) → verb_text v ≡ text → (others ≡ Some w → word ≡ verb_text w) → cond (bytes_eq word text) (Some v) others ≡ Some w → word ≡ verb_text w
+named_or : (word text : List ℕ) (v w : Verb) (others : Option Verb) → verb_text v ≡ text → (others ≡ Some w → word ≡ verb_text w) → cond (bytes_eq text word) (Some v) others ≡ Some w → word ≡ verb_text w
 named_or word text v w others spelled more given =
-    elim (bytes_eq word text) as (λ b. bytes_eq word text ≡ b → cond b (Some v) others ≡ Some w → word ≡ verb_text w) [
+    elim (bytes_eq text word) as (λ b. bytes_eq text word ≡ b → cond b (Some v) others ≡ Some w → word ≡ verb_text w) [
       | true ↦ λ same e.
           let here : v ≡ w = cc in
-          (bytes_eq-Decides word text).0 same ∙ sym spelled ∙ ap verb_text here
+          sym ((bytes_eq-Decides text word).0 same) ∙ sym spelled ∙ ap verb_text here
       | false ↦ λ _ e. more e
     ] refl given
 

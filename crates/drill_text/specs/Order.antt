@@ -1,12 +1,12 @@
 -- Orders, and their texts.
-use Rattle.std.specs.Prelude.{ℕ, ◌≤◌, List, [], ◌∷◌, ◌++◌, Option, Some, None, option_map, codes, decimal, if◌then◌else◌}
+use Rattle.std.specs.Prelude.{ℕ, ◌≤◌, List, [], ◌∷◌, ◌++◌, Option, None, option_map, codes, decimal}
 use Rattle.std.specs.Option.{option_and_then}
-use Rattle.std.specs.Str.{bytes_eq}
 use Rattle.drill_text.specs.declared.order.Verb.{Verb}
 use Rattle.drill_text.specs.declared.order.Verb.TheVariants.{Lease, Step, Commit}
 use Rattle.drill_text.specs.declared.order.Order.{Order}
 use Rattle.text_lines.specs.Lines.{split}
 use Rattle.text_lines.specs.Numeral.{number_in}
+use Rattle.text_lines.specs.Table.{named_in}
 
 -- leases are numbered from 1 to 64
 abbrev pub HasLease : Order → Type 0
@@ -21,12 +21,13 @@ verb_text Commit = codes "commit"
 abbrev pub order_text : Order → List ℕ
 order_text o = verb_text o.verb ++ 32 ∷ decimal o.lease
 
+-- the verbs
+abbrev pub verbs : List (List ℕ × Verb)
+verbs = (codes "lease", Lease) ∷ (codes "step", Step) ∷ (codes "commit", Commit) ∷ []
+
 -- the verb that a word is
 abbrev pub verb_named : List ℕ → Option Verb
-verb_named word =
-    if bytes_eq word (codes "lease") then Some Lease
-    else (if bytes_eq word (codes "step") then Some Step
-    else (if bytes_eq word (codes "commit") then Some Commit else None))
+verb_named word = named_in verbs word
 
 -- the order that two words are: a verb, and a number from 1 to 64 without leading zeros
 abbrev pub order_in : List (List ℕ) → Option Order

@@ -2,7 +2,7 @@
 ghost use Rattle.std.specs.Prelude.{◌≡◌};
 ghost use Rattle.drill_text.specs.Order.{order_of, verb_named};
 
-use text_lines::{cut, number_in};
+use text_lines::{cut, named_in, number_in};
 
 /// The greatest number of a lease, which is that of a worker.
 const MAX_LEASE: u64 = 64;
@@ -17,6 +17,12 @@ pub enum Verb {
     /// It is committed.
     Commit,
 }
+
+const VERBS: [(&str, Verb); 3] = [
+    ("lease", Verb::Lease),
+    ("step", Verb::Step),
+    ("commit", Verb::Commit),
+];
 
 /// What is done with which lease. Leases are numbered as their workers are, from 1 to 64.
 #[derive(Clone, Copy, PartialEq, Eq)]
@@ -38,13 +44,5 @@ pub(crate) fn order_of(text: &[u8]) -> Option<Order>
 fn verb_named(word: &[u8]) -> Option<Verb>
     ensures { result ≡ verb_named word.now }
 {
-    if word == b"lease".as_slice() {
-        Some(Verb::Lease)
-    } else if word == b"step".as_slice() {
-        Some(Verb::Step)
-    } else if word == b"commit".as_slice() {
-        Some(Verb::Commit)
-    } else {
-        None
-    }
+    named_in(&VERBS, word)
 }
