@@ -99,10 +99,7 @@ fn output_in(alloc: Global, rest: Option<&[u8]>) -> Result<Result<Line, LineFaul
 fn output_of(value: Result<Value, LineFault>) -> Result<Line, LineFault>
     ensures { result ≡ output_of value }
 {
-    match value {
-        Ok(v) => Ok(Line::Out(v)),
-        Err(fault) => Err(fault),
-    }
+    Ok(Line::Out(value?))
 }
 
 fn thread_in(alloc: Global, rest: Option<&[u8]>) -> Result<Result<Line, LineFault>, NoMemory>
