@@ -82,7 +82,6 @@ pub(crate) fn body_at(p: &Program, f: FnId, args: &[Value]) -> NodeId
     ensures body { IsBody p.now f.0 (length args.now) result }
     ensures valid { IsValid p.now }
 {
-    let _arguments = args.len();
     p.body(f).unwrap()
 }
 
