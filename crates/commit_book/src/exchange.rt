@@ -283,6 +283,7 @@ fn sent(sender: &Control) -> &Value
     ensures looks { (p : ProgramParts) (c : ℕ) → CanMeet p sender.now → OffersOn p (sends_on c) sender.now
         → look_in p (expr_of p sender.now) ≡ act (sends c (second_of (operands_of sender.now))) }
 {
+    // Read for its clauses: who offers to send stands at a send with two operands.
     let _ask = sender.ask();
     second(sender.operands())
 }

@@ -260,6 +260,7 @@ impl Stack {
         let more = opens(&frame);
         self.frames.reserve(1)?;
         self.frames.push_reserved(frame);
+        // Read for its clause on how many frames there are at most.
         let _at_most = self.frames.len();
         self.depth += more;
         Ok(())

@@ -22,9 +22,11 @@ fn head_fits(head: &Head)
 {
     match head {
         Head::Int(n) => {
+            // Read, since that shows that it has 64 bits.
             let _n = *n;
         }
         Head::Var(x) => {
+            // Read, since that shows that it has 32 bits.
             let _x = *x;
         }
         Head::Block(slots) => slots_fit(slots.all()),
@@ -37,6 +39,7 @@ fn slots_fit(slots: &[Option<u32>])
 {
     for slot in slots {
         if let Some(x) = *slot {
+            // Read, since that shows that it has 32 bits.
             let _x = x;
         }
     }
