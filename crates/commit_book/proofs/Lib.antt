@@ -9,10 +9,13 @@
 --
 -- The clauses of its calls:
 --
---     new, lease, give_back, recall, counts          Threads
+--     new, lease, give_back, recall                  Threads
+--     counts, due, fault_of                          Threads
 --     commit, of each act but the next, release      Acting
 --     commit, of a stabilize that is granted         Undoing
---     the laws of src/laws.rt, job, history          Lawful
+--     the laws of src/laws.rt                        Lawful
+--     released, unreleased                           Lawful (Firm)
+--     job, history, printed, reference, last_thread  no room: what the call hands out is what the view says
 
 -- Threads, states, queue and offers.
 pub mod Threads
