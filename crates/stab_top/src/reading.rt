@@ -28,10 +28,8 @@ pub fn read_program_file<F: Files>(
     ensures err { IfErr result (λ report. ReadRefused program_form report (device F.held F.faults files.old) name.now (F.faults files.new)) }
     ensures kept { F.held files.new ≡ F.held files.old }
 {
-    match load(alloc, files, Role::Program, name) {
-        Ok(bytes) => program_of(alloc, &bytes),
-        Err(report) => Err(report),
-    }
+    let bytes = load(alloc, files, Role::Program, name)?;
+    program_of(alloc, &bytes)
 }
 
 /// The program with this text, or a report of BadText or NoMemory.
@@ -58,10 +56,8 @@ pub fn read_probes_file<F: Files>(
     ensures err { IfErr result (λ report. ReadRefused probes_form report (device F.held F.faults files.old) name.now (F.faults files.new)) }
     ensures kept { F.held files.new ≡ F.held files.old }
 {
-    match load(alloc, files, Role::Probes, name) {
-        Ok(bytes) => probes_of(alloc, &bytes),
-        Err(report) => Err(report),
-    }
+    let bytes = load(alloc, files, Role::Probes, name)?;
+    probes_of(alloc, &bytes)
 }
 
 // The numbers in this text, or a report of BadProbes or NoMemory.
@@ -113,10 +109,8 @@ pub fn read_trace_file<F: Files>(
     ensures err { IfErr result (λ report. ReadRefused trace_form report (device F.held F.faults files.old) name.now (F.faults files.new)) }
     ensures kept { F.held files.new ≡ F.held files.old }
 {
-    match load(alloc, files, Role::Trace, name) {
-        Ok(bytes) => history_of(alloc, &bytes),
-        Err(report) => Err(report),
-    }
+    let bytes = load(alloc, files, Role::Trace, name)?;
+    history_of(alloc, &bytes)
 }
 
 // The history with this text, or a report of BadTrace or NoMemory.

@@ -45,10 +45,8 @@ fn read_image_file<F: Files>(alloc: Global, files: &mut F, name: &str) -> Result
     ensures err { IfErr result (λ report. ReadRefused image_form report (device F.held F.faults files.old) name.now (F.faults files.new)) }
     ensures kept { F.held files.new ≡ F.held files.old }
 {
-    match load(alloc, files, Role::Image, name) {
-        Ok(bytes) => image_of(alloc, &bytes),
-        Err(report) => Err(report),
-    }
+    let bytes = load(alloc, files, Role::Image, name)?;
+    image_of(alloc, &bytes)
 }
 
 // The image of the text, or the report of why it couldn't be read.

@@ -56,10 +56,8 @@ fn read_source_file<F: Files>(alloc: Global, files: &mut F, name: &str) -> Resul
     ensures err { IfErr result (λ report. ReadRefused source_form report (device F.held F.faults files.old) name.now (F.faults files.new)) }
     ensures kept { F.held files.new ≡ F.held files.old }
 {
-    match load(alloc, files, Role::Program, name) {
-        Ok(text) => source_of(alloc, text),
-        Err(report) => Err(report),
-    }
+    let text = load(alloc, files, Role::Program, name)?;
+    source_of(alloc, text)
 }
 
 fn source_of(alloc: Global, text: Vec<u8>) -> Result<Source, Report>
@@ -69,10 +67,8 @@ fn source_of(alloc: Global, text: Vec<u8>) -> Result<Source, Report>
     ensures fits { IfOk result (λ source. length source.text.items ≤ max_bytes ProgramFile) }
     ensures err { IfErr result (λ report. BytesRefused source_form report text.items) }
 {
-    match program_of(alloc, &text) {
-        Ok(program) => Ok(Source { text, program }),
-        Err(report) => Err(report),
-    }
+    let program = program_of(alloc, &text)?;
+    Ok(Source { text, program })
 }
 
 // Reads a script and a trace, and writes the image.
