@@ -225,8 +225,8 @@ module _ (job : JobParts) (old : Parts) (lease : LeaseView) (progress : Progress
           saved = both_saved;
         }
 
-        pub kept_exchanged : IsKept job new
-        kept_exchanged = kept_called job old lease progress may planned begins before longer rest ready m low noted withdrawn first second new two.slot mine other was_other was_mine have_called offer offering_now meets
-
-        pub done_exchanged : IsDone job old new lease progress (row_for lease.thread m)
-        done_exchanged = done_called job old lease progress may planned begins before longer rest ready m low noted withdrawn first second new two.slot mine other was_other was_mine have_called offer offering_now meets
+        pub exchange_lasts : IsDone job old new lease progress (row_for lease.thread m) × IsKept job new
+        exchange_lasts = (
+          done_called job old lease progress may planned begins before longer rest ready m low noted withdrawn first second new two.slot mine other was_other was_mine have_called offer offering_now meets,
+          kept_called job old lease progress may planned begins before longer rest ready m low noted withdrawn first second new two.slot mine other was_other was_mine have_called offer offering_now meets,
+        )

@@ -106,8 +106,8 @@ module _ (job : JobParts) (old : Parts) (lease : LeaseView) (progress : Progress
         (subst (λ (k : ℕ). HasAnswered r joined new k (answered (expr_of r control) v)) t_is answers)));
   }
 
-  pub kept_started : IsKept job new
-  kept_started = kept_spawned job old lease progress may planned begins before longer rest ready noted joined new u f child spawned
-
-  pub done_started : IsDone job old new lease progress (starts old.slots.next)
-  done_started = done_spawned job old lease progress may planned begins before longer rest ready noted joined new u f child spawned
+  pub start_lasts : IsDone job old new lease progress (starts old.slots.next) × IsKept job new
+  start_lasts = (
+    done_spawned job old lease progress may planned begins before longer rest ready noted joined new u f child spawned,
+    kept_spawned job old lease progress may planned begins before longer rest ready noted joined new u f child spawned,
+  )

@@ -87,8 +87,8 @@ module _ (job : JobParts) (old : Parts) (lease : LeaseView) (progress : Progress
   ready : IsReady (view_of job old) (view_of job (record begins { offers = old.offers })) may.kept.shown.state (thread lease.thread) (expr_of job.program progress.end)
   ready = ready_at job old lease progress may (record planned { offers = old.offers }) (record begins { offers = old.offers }) before longer (offers_kept old planned begins rest)
 
-  pub kept_aside : IsKept job new
-  kept_aside = kept_parked job old lease progress may offer offering_now planned begins new parked ready
-
-  pub done_aside : IsDone job old new lease progress (stays_or_waits (view_of job old) lease.thread offer)
-  done_aside = done_now job old lease progress may offer offering_now planned begins new parked ready
+  pub aside_lasts : IsDone job old new lease progress (stays_or_waits (view_of job old) lease.thread offer) × IsKept job new
+  aside_lasts = (
+    done_now job old lease progress may offer offering_now planned begins new parked ready,
+    kept_parked job old lease progress may offer offering_now planned begins new parked ready,
+  )

@@ -1,4 +1,4 @@
-use Rattle.std.proofs.Common.{◌<◌, refl, ap, ◌∙◌, arith}
+use Rattle.std.proofs.Common.{rules, ◌<◌, refl, ap, ◌∙◌, arith}
 use Rattle.commit_book.specs.declared.parts.Parts.{Parts}
 use Rattle.step_eval.specs.declared.act.Act.TheVariants as own
 use Rattle.commit_book.proofs.Acting.Acted.{in_ok, named_so, needs_act, needs_few, needs_fit, needs_fits, needs_there, needs_valid, reserved}
@@ -66,10 +66,7 @@ pub answer-requires-clause-act : goal.answer-requires-clause-act
 answer-requires-clause-act c =
     needs_act c.args.job.now c.args.self.now c.args.lease.now c.args.progress c.requires.may own.Attempt c.requires.at c.begin-control.result c.begin-control.ensures.end
 
-pub returns-clause-done : goal.returns-clause-done
-returns-clause-done c =
-    (attempt_lasts c.args.job.now c.args.self.now c.args.lease.now c.args.progress c.requires.may (record c.args.self.now { history = c.reserve.new.self }) c.begin-control.new.self (reserved c.args.self.now c.reserve.new.self c.reserve.ensures.rest) c.begin-control.ensures.history c.begin-control.ensures.rest c.push.new.self c.answer.new.self c.thread.result c.thread.ensures c.push.ensures.rest c.deref.result.now c.thread-2.result c.begin-control.result (c.deref.ensures ∙ c.program.ensures.value) c.thread-2.ensures c.begin-control.ensures.end c.requires.at c.generation-n.result.0 c.generation-n.ensures (let low : IsGeneration c.generation-n.result.0 = generation_named c.args.job.now c.args.self.now c.args.lease.now c.args.progress c.requires.may c.generation-n.result.0 c.generation-n.ensures in omega (arith, low)) c.push.ensures.history c.int.result (let low : IsGeneration c.generation-n.result.0 = generation_named c.args.job.now c.args.self.now c.args.lease.now c.args.progress c.requires.may c.generation-n.result.0 c.generation-n.ensures in let small : c.generation-n.result.0 < 2 ^ 63 = omega (arith, low) in c.int.ensures ∙ ap int (to_z_pos w64 c.generation-n.result.0 small)) c.answer.ensures).0
-
-pub returns-clause-kept : goal.returns-clause-kept
-returns-clause-kept c =
-    (attempt_lasts c.args.job.now c.args.self.now c.args.lease.now c.args.progress c.requires.may (record c.args.self.now { history = c.reserve.new.self }) c.begin-control.new.self (reserved c.args.self.now c.reserve.new.self c.reserve.ensures.rest) c.begin-control.ensures.history c.begin-control.ensures.rest c.push.new.self c.answer.new.self c.thread.result c.thread.ensures c.push.ensures.rest c.deref.result.now c.thread-2.result c.begin-control.result (c.deref.ensures ∙ c.program.ensures.value) c.thread-2.ensures c.begin-control.ensures.end c.requires.at c.generation-n.result.0 c.generation-n.ensures (let low : IsGeneration c.generation-n.result.0 = generation_named c.args.job.now c.args.self.now c.args.lease.now c.args.progress c.requires.may c.generation-n.result.0 c.generation-n.ensures in omega (arith, low)) c.push.ensures.history c.int.result (let low : IsGeneration c.generation-n.result.0 = generation_named c.args.job.now c.args.self.now c.args.lease.now c.args.progress c.requires.may c.generation-n.result.0 c.generation-n.ensures in let small : c.generation-n.result.0 < 2 ^ 63 = omega (arith, low) in c.int.ensures ∙ ap int (to_z_pos w64 c.generation-n.result.0 small)) c.answer.ensures).1
+pub returns : goal.returns
+returns c =
+    let lasts = attempt_lasts c.args.job.now c.args.self.now c.args.lease.now c.args.progress c.requires.may (record c.args.self.now { history = c.reserve.new.self }) c.begin-control.new.self (reserved c.args.self.now c.reserve.new.self c.reserve.ensures.rest) c.begin-control.ensures.history c.begin-control.ensures.rest c.push.new.self c.answer.new.self c.thread.result c.thread.ensures c.push.ensures.rest c.deref.result.now c.thread-2.result c.begin-control.result (c.deref.ensures ∙ c.program.ensures.value) c.thread-2.ensures c.begin-control.ensures.end c.requires.at c.generation-n.result.0 c.generation-n.ensures (let low : IsGeneration c.generation-n.result.0 = generation_named c.args.job.now c.args.self.now c.args.lease.now c.args.progress c.requires.may c.generation-n.result.0 c.generation-n.ensures in omega (arith, low)) c.push.ensures.history c.int.result (let low : IsGeneration c.generation-n.result.0 = generation_named c.args.job.now c.args.self.now c.args.lease.now c.args.progress c.requires.may c.generation-n.result.0 c.generation-n.ensures in let small : c.generation-n.result.0 < 2 ^ 63 = omega (arith, low) in c.int.ensures ∙ ap int (to_z_pos w64 c.generation-n.result.0 small)) c.answer.ensures in
+    record { done = lasts.0; back = search rules; err = search rules; kept = lasts.1 }

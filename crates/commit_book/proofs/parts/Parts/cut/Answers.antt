@@ -1,4 +1,4 @@
-use Rattle.std.proofs.Common.{◌≤◌, length, refl, sym, ap, subst, ◌∙◌}
+use Rattle.std.proofs.Common.{rules, ◌≤◌, length, refl, sym, ap, subst, ◌∙◌}
 use Rattle.commit_book.specs.declared.parts.Parts.{Parts}
 use Rattle.step_eval.specs.declared.act.Act.TheVariants as own
 use Rattle.commit_book.proofs.Acting.Acted.{in_ok, named_so, needs_act, needs_few, needs_fit, needs_fits, needs_there, needs_valid}
@@ -63,16 +63,10 @@ pub answer-requires-clause-act : goal.answer-requires-clause-act
 answer-requires-clause-act c =
     needs_act c.args.job.now c.args.self.now c.args.lease.now c.args.progress c.requires.may own.Cut c.requires.at c.begin-control.result c.begin-control.ensures.end
 
-pub returns-clause-done : goal.returns-clause-done
-returns-clause-done c =
-    (cut_lasts c.args.job.now c.args.self.now c.args.lease.now c.args.progress c.requires.may c.plan_cut.new.self c.begin-control.new.self c.plan_cut.ensures.before c.begin-control.ensures.history c.begin-control.ensures.rest c.push-q.new.self c.push-q.result c.push-q.ensures.number c.thread.result c.thread.ensures c.push-q.ensures.history c.push-q.ensures.rest
+pub returns : goal.returns
+returns c =
+    let lasts = cut_lasts c.args.job.now c.args.self.now c.args.lease.now c.args.progress c.requires.may c.plan_cut.new.self c.begin-control.new.self c.plan_cut.ensures.before c.begin-control.ensures.history c.begin-control.ensures.rest c.push-q.new.self c.push-q.result c.push-q.ensures.number c.thread.result c.thread.ensures c.push-q.ensures.history c.push-q.ensures.rest
     c.cut.new.self c.cut.ensures.nodes c.drop_before.new.self c.drop_before.ensures.rest c.cut-2.new.self c.cut-2.ensures.after
     c.cut-3.new.self c.cut-3.ensures.read c.cut-3.ensures.floor c.cut-3.ensures.own c.cut-3.ensures.lost c.cut-4.new.self c.cut-4.ensures.finals c.cut-4.ensures.recent (length c.finals.result.now) (ap length c.finals.ensures)
-    c.answer.new.self c.deref.result.now c.thread-2.result c.begin-control.result c.unit.result (c.deref.ensures ∙ c.program.ensures.value) c.thread-2.ensures c.begin-control.ensures.end c.unit.ensures c.requires.at c.answer.ensures).0
-
-pub returns-clause-kept : goal.returns-clause-kept
-returns-clause-kept c =
-    (cut_lasts c.args.job.now c.args.self.now c.args.lease.now c.args.progress c.requires.may c.plan_cut.new.self c.begin-control.new.self c.plan_cut.ensures.before c.begin-control.ensures.history c.begin-control.ensures.rest c.push-q.new.self c.push-q.result c.push-q.ensures.number c.thread.result c.thread.ensures c.push-q.ensures.history c.push-q.ensures.rest
-    c.cut.new.self c.cut.ensures.nodes c.drop_before.new.self c.drop_before.ensures.rest c.cut-2.new.self c.cut-2.ensures.after
-    c.cut-3.new.self c.cut-3.ensures.read c.cut-3.ensures.floor c.cut-3.ensures.own c.cut-3.ensures.lost c.cut-4.new.self c.cut-4.ensures.finals c.cut-4.ensures.recent (length c.finals.result.now) (ap length c.finals.ensures)
-    c.answer.new.self c.deref.result.now c.thread-2.result c.begin-control.result c.unit.result (c.deref.ensures ∙ c.program.ensures.value) c.thread-2.ensures c.begin-control.ensures.end c.unit.ensures c.requires.at c.answer.ensures).1
+    c.answer.new.self c.deref.result.now c.thread-2.result c.begin-control.result c.unit.result (c.deref.ensures ∙ c.program.ensures.value) c.thread-2.ensures c.begin-control.ensures.end c.unit.ensures c.requires.at c.answer.ensures in
+    record { done = lasts.0; back = search rules; err = search rules; kept = lasts.1 }

@@ -1,4 +1,4 @@
-use Rattle.std.proofs.Common.{◌≤◌, refl, sym, ap, subst, ◌∙◌}
+use Rattle.std.proofs.Common.{rules, ◌≤◌, refl, sym, ap, subst, ◌∙◌}
 use Rattle.commit_book.specs.declared.parts.Parts.{Parts}
 use Rattle.commit_book.proofs.Acting.Acted.{named_so, needs_few, needs_there}
 use Rattle.commit_book.proofs.Acting.Lasted.{enter_lasts}
@@ -84,10 +84,7 @@ pub go_on-requires-clause-few : goal.go_on-requires-clause-few
 go_on-requires-clause-few c =
     needs_few c.args.job.now c.args.self.now c.args.lease.now c.args.progress c.requires.may (c.plan_enter.new.self) c.begin-end.new.self (record c.push-q.new.self { store = c.save.new.self; graph = c.add.new.self }) (c.in-Ok.ensures.before) c.begin-end.ensures.rest (ap (λ k. k.slots) c.push-q.ensures.rest) (ap (λ (k : Parts). k.tallies.faulted) c.push-q.ensures.rest)
 
-pub returns-clause-done : goal.returns-clause-done
-returns-clause-done c =
-    (enter_lasts c.args.job.now c.args.self.now c.args.lease.now c.args.progress c.requires.may (c.plan_enter.new.self) c.begin-end.new.self (c.in-Ok.ensures.before) c.begin-end.ensures.history c.begin-end.ensures.rest c.push-q.new.self c.go_on.new.self c.thread.result c.thread.ensures c.push-q.ensures.rest c.thread-4.result c.thread-4.ensures c.go_on.result c.in-Ok.control (subst (λ (p : ProgramParts). Fits p c.in-Ok.control) (c.deref.ensures ∙ c.program.ensures.value) c.in-Ok.ensures.fits) c.push-q.result c.push-q.ensures.number c.thread-2.result c.thread-3.result c.thread-2.ensures c.thread-3.ensures c.save.new.self c.begin-end.result c.begin-end.ensures.end c.save.ensures.saved c.add.new.self c.go_on.ensures.before c.go_on.ensures.gone c.requires.at.0 c.requires.at.1 c.push-q.ensures.history (ap (λ (k : NodeList). k.nodes) c.add.ensures) (subst (λ (p : ProgramParts). expr_of p c.in-Ok.control ≡ entered (expr_of p c.args.progress.end) (number_after c.args.self.now.history c.args.progress) (called (body p) c.requires.at.0.0 (operands_of c.args.progress.end))) (c.deref.ensures ∙ c.program.ensures.value) (c.in-Ok.ensures.expr c.requires.at.0 c.requires.at.1.next))).0
-
-pub returns-clause-kept : goal.returns-clause-kept
-returns-clause-kept c =
-    (enter_lasts c.args.job.now c.args.self.now c.args.lease.now c.args.progress c.requires.may (c.plan_enter.new.self) c.begin-end.new.self (c.in-Ok.ensures.before) c.begin-end.ensures.history c.begin-end.ensures.rest c.push-q.new.self c.go_on.new.self c.thread.result c.thread.ensures c.push-q.ensures.rest c.thread-4.result c.thread-4.ensures c.go_on.result c.in-Ok.control (subst (λ (p : ProgramParts). Fits p c.in-Ok.control) (c.deref.ensures ∙ c.program.ensures.value) c.in-Ok.ensures.fits) c.push-q.result c.push-q.ensures.number c.thread-2.result c.thread-3.result c.thread-2.ensures c.thread-3.ensures c.save.new.self c.begin-end.result c.begin-end.ensures.end c.save.ensures.saved c.add.new.self c.go_on.ensures.before c.go_on.ensures.gone c.requires.at.0 c.requires.at.1 c.push-q.ensures.history (ap (λ (k : NodeList). k.nodes) c.add.ensures) (subst (λ (p : ProgramParts). expr_of p c.in-Ok.control ≡ entered (expr_of p c.args.progress.end) (number_after c.args.self.now.history c.args.progress) (called (body p) c.requires.at.0.0 (operands_of c.args.progress.end))) (c.deref.ensures ∙ c.program.ensures.value) (c.in-Ok.ensures.expr c.requires.at.0 c.requires.at.1.next))).1
+pub returns : goal.returns
+returns c =
+    let lasts = enter_lasts c.args.job.now c.args.self.now c.args.lease.now c.args.progress c.requires.may (c.plan_enter.new.self) c.begin-end.new.self (c.in-Ok.ensures.before) c.begin-end.ensures.history c.begin-end.ensures.rest c.push-q.new.self c.go_on.new.self c.thread.result c.thread.ensures c.push-q.ensures.rest c.thread-4.result c.thread-4.ensures c.go_on.result c.in-Ok.control (subst (λ (p : ProgramParts). Fits p c.in-Ok.control) (c.deref.ensures ∙ c.program.ensures.value) c.in-Ok.ensures.fits) c.push-q.result c.push-q.ensures.number c.thread-2.result c.thread-3.result c.thread-2.ensures c.thread-3.ensures c.save.new.self c.begin-end.result c.begin-end.ensures.end c.save.ensures.saved c.add.new.self c.go_on.ensures.before c.go_on.ensures.gone c.requires.at.0 c.requires.at.1 c.push-q.ensures.history (ap (λ (k : NodeList). k.nodes) c.add.ensures) (subst (λ (p : ProgramParts). expr_of p c.in-Ok.control ≡ entered (expr_of p c.args.progress.end) (number_after c.args.self.now.history c.args.progress) (called (body p) c.requires.at.0.0 (operands_of c.args.progress.end))) (c.deref.ensures ∙ c.program.ensures.value) (c.in-Ok.ensures.expr c.requires.at.0 c.requires.at.1.next)) in
+    record { done = lasts.0; back = search rules; err = search rules; kept = lasts.1 }

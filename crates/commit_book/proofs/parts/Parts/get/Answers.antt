@@ -1,4 +1,4 @@
-use Rattle.std.proofs.Common.{ℕ, ◌<◌, ◌≤◌, refl, sym, ap, subst, ◌∙◌}
+use Rattle.std.proofs.Common.{rules, ℕ, ◌<◌, ◌≤◌, refl, sym, ap, subst, ◌∙◌}
 use Rattle.commit_book.specs.declared.parts.Parts.{Parts}
 use Rattle.commit_book.proofs.Acting.Acted.{named_so, needs_few, needs_there}
 use Rattle.commit_book.proofs.Acting.Lasted.{get_lasts}
@@ -89,10 +89,7 @@ pub go_on-requires-clause-few : goal.go_on-requires-clause-few
 go_on-requires-clause-few c =
     needs_few c.args.job.now c.args.self.now c.args.lease.now c.args.progress c.requires.may (c.plan_get.new.self) c.begin-end.new.self (record c.push-q.new.self { store = c.save.new.self; graph = c.add.new.self }) (c.in-Ok.ensures.before) c.begin-end.ensures.rest (ap (λ k. k.slots) c.push-q.ensures.rest) (ap (λ (k : Parts). k.tallies.faulted) c.push-q.ensures.rest)
 
-pub returns-clause-done : goal.returns-clause-done
-returns-clause-done c =
-    (get_lasts c.args.job.now c.args.self.now c.args.lease.now c.args.progress c.requires.may (c.plan_get.new.self) c.begin-end.new.self (c.in-Ok.ensures.before) c.begin-end.ensures.history c.begin-end.ensures.rest c.push-q.new.self c.go_on.new.self c.thread.result c.thread.ensures c.push-q.ensures.rest c.thread-4.result c.thread-4.ensures c.go_on.result c.in-Ok.control (subst (λ (p : ProgramParts). Fits p c.in-Ok.control) (c.deref.ensures ∙ c.program.ensures.value) c.in-Ok.ensures.fits) c.push-q.result c.push-q.ensures.number c.thread-2.result c.thread-3.result c.thread-2.ensures c.thread-3.ensures c.save.new.self c.begin-end.result c.begin-end.ensures.end c.save.ensures.saved c.add.new.self c.go_on.ensures.before c.go_on.ensures.gone c.args.r c.requires.at (held_at c.args.job.now c.args.self.now c.args.lease.now c.args.progress c.requires.may (c.plan_get.new.self) c.begin-end.new.self (c.in-Ok.ensures.before) c.begin-end.ensures.history c.begin-end.ensures.rest c.args.r c.requires.at) (there_low c.args.job.now c.args.self.now c.args.lease.now c.args.progress c.requires.may (c.plan_get.new.self) c.begin-end.new.self (c.in-Ok.ensures.before) c.begin-end.ensures.history c.begin-end.ensures.rest c.args.r (got_there c.args.job.now c.args.self.now c.args.lease.now c.args.progress c.requires.may (c.plan_get.new.self) c.begin-end.new.self (c.in-Ok.ensures.before) c.begin-end.ensures.history c.begin-end.ensures.rest c.args.r c.requires.at)) c.push-q.ensures.history c.in-Ok.written (ap (λ (k : NodeList). k.nodes) c.add.ensures) (read_at c.args.job.now c.args.self.now c.args.lease.now c.args.progress c.requires.may (c.plan_get.new.self) c.begin-end.new.self (c.in-Ok.ensures.before) c.begin-end.ensures.history c.begin-end.ensures.rest c.args.r c.requires.at c.in-Ok.written.0 (expr_of c.args.job.now.program c.in-Ok.control) (λ d. answered (expr_of c.args.job.now.program c.args.progress.end) d) (subst (λ (g : ControlView). IfSome (last_of (writes_of c.args.self.now.log c.args.r.0)) (λ (w : Write). (c.in-Ok.written.0 ≡ w.number) × (expr_of c.args.job.now.program c.in-Ok.control ≡ answered (expr_of c.args.job.now.program g) w.value))) c.end.ensures.end (subst (λ (p : ProgramParts). IfSome (last_of (writes_of c.args.self.now.log c.args.r.0)) (λ (w : Write). (c.in-Ok.written.0 ≡ w.number) × (expr_of p c.in-Ok.control ≡ answered (expr_of p c.end.result.now) w.value))) (c.deref.ensures ∙ c.program.ensures.value) c.in-Ok.ensures.read)))).0
-
-pub returns-clause-kept : goal.returns-clause-kept
-returns-clause-kept c =
-    (get_lasts c.args.job.now c.args.self.now c.args.lease.now c.args.progress c.requires.may (c.plan_get.new.self) c.begin-end.new.self (c.in-Ok.ensures.before) c.begin-end.ensures.history c.begin-end.ensures.rest c.push-q.new.self c.go_on.new.self c.thread.result c.thread.ensures c.push-q.ensures.rest c.thread-4.result c.thread-4.ensures c.go_on.result c.in-Ok.control (subst (λ (p : ProgramParts). Fits p c.in-Ok.control) (c.deref.ensures ∙ c.program.ensures.value) c.in-Ok.ensures.fits) c.push-q.result c.push-q.ensures.number c.thread-2.result c.thread-3.result c.thread-2.ensures c.thread-3.ensures c.save.new.self c.begin-end.result c.begin-end.ensures.end c.save.ensures.saved c.add.new.self c.go_on.ensures.before c.go_on.ensures.gone c.args.r c.requires.at (held_at c.args.job.now c.args.self.now c.args.lease.now c.args.progress c.requires.may (c.plan_get.new.self) c.begin-end.new.self (c.in-Ok.ensures.before) c.begin-end.ensures.history c.begin-end.ensures.rest c.args.r c.requires.at) (there_low c.args.job.now c.args.self.now c.args.lease.now c.args.progress c.requires.may (c.plan_get.new.self) c.begin-end.new.self (c.in-Ok.ensures.before) c.begin-end.ensures.history c.begin-end.ensures.rest c.args.r (got_there c.args.job.now c.args.self.now c.args.lease.now c.args.progress c.requires.may (c.plan_get.new.self) c.begin-end.new.self (c.in-Ok.ensures.before) c.begin-end.ensures.history c.begin-end.ensures.rest c.args.r c.requires.at)) c.push-q.ensures.history c.in-Ok.written (ap (λ (k : NodeList). k.nodes) c.add.ensures) (read_at c.args.job.now c.args.self.now c.args.lease.now c.args.progress c.requires.may (c.plan_get.new.self) c.begin-end.new.self (c.in-Ok.ensures.before) c.begin-end.ensures.history c.begin-end.ensures.rest c.args.r c.requires.at c.in-Ok.written.0 (expr_of c.args.job.now.program c.in-Ok.control) (λ d. answered (expr_of c.args.job.now.program c.args.progress.end) d) (subst (λ (g : ControlView). IfSome (last_of (writes_of c.args.self.now.log c.args.r.0)) (λ (w : Write). (c.in-Ok.written.0 ≡ w.number) × (expr_of c.args.job.now.program c.in-Ok.control ≡ answered (expr_of c.args.job.now.program g) w.value))) c.end.ensures.end (subst (λ (p : ProgramParts). IfSome (last_of (writes_of c.args.self.now.log c.args.r.0)) (λ (w : Write). (c.in-Ok.written.0 ≡ w.number) × (expr_of p c.in-Ok.control ≡ answered (expr_of p c.end.result.now) w.value))) (c.deref.ensures ∙ c.program.ensures.value) c.in-Ok.ensures.read)))).1
+pub returns : goal.returns
+returns c =
+    let lasts = get_lasts c.args.job.now c.args.self.now c.args.lease.now c.args.progress c.requires.may (c.plan_get.new.self) c.begin-end.new.self (c.in-Ok.ensures.before) c.begin-end.ensures.history c.begin-end.ensures.rest c.push-q.new.self c.go_on.new.self c.thread.result c.thread.ensures c.push-q.ensures.rest c.thread-4.result c.thread-4.ensures c.go_on.result c.in-Ok.control (subst (λ (p : ProgramParts). Fits p c.in-Ok.control) (c.deref.ensures ∙ c.program.ensures.value) c.in-Ok.ensures.fits) c.push-q.result c.push-q.ensures.number c.thread-2.result c.thread-3.result c.thread-2.ensures c.thread-3.ensures c.save.new.self c.begin-end.result c.begin-end.ensures.end c.save.ensures.saved c.add.new.self c.go_on.ensures.before c.go_on.ensures.gone c.args.r c.requires.at (held_at c.args.job.now c.args.self.now c.args.lease.now c.args.progress c.requires.may (c.plan_get.new.self) c.begin-end.new.self (c.in-Ok.ensures.before) c.begin-end.ensures.history c.begin-end.ensures.rest c.args.r c.requires.at) (there_low c.args.job.now c.args.self.now c.args.lease.now c.args.progress c.requires.may (c.plan_get.new.self) c.begin-end.new.self (c.in-Ok.ensures.before) c.begin-end.ensures.history c.begin-end.ensures.rest c.args.r (got_there c.args.job.now c.args.self.now c.args.lease.now c.args.progress c.requires.may (c.plan_get.new.self) c.begin-end.new.self (c.in-Ok.ensures.before) c.begin-end.ensures.history c.begin-end.ensures.rest c.args.r c.requires.at)) c.push-q.ensures.history c.in-Ok.written (ap (λ (k : NodeList). k.nodes) c.add.ensures) (read_at c.args.job.now c.args.self.now c.args.lease.now c.args.progress c.requires.may (c.plan_get.new.self) c.begin-end.new.self (c.in-Ok.ensures.before) c.begin-end.ensures.history c.begin-end.ensures.rest c.args.r c.requires.at c.in-Ok.written.0 (expr_of c.args.job.now.program c.in-Ok.control) (λ d. answered (expr_of c.args.job.now.program c.args.progress.end) d) (subst (λ (g : ControlView). IfSome (last_of (writes_of c.args.self.now.log c.args.r.0)) (λ (w : Write). (c.in-Ok.written.0 ≡ w.number) × (expr_of c.args.job.now.program c.in-Ok.control ≡ answered (expr_of c.args.job.now.program g) w.value))) c.end.ensures.end (subst (λ (p : ProgramParts). IfSome (last_of (writes_of c.args.self.now.log c.args.r.0)) (λ (w : Write). (c.in-Ok.written.0 ≡ w.number) × (expr_of p c.in-Ok.control ≡ answered (expr_of p c.end.result.now) w.value))) (c.deref.ensures ∙ c.program.ensures.value) c.in-Ok.ensures.read))) in
+    record { done = lasts.0; back = search rules; err = search rules; kept = lasts.1 }

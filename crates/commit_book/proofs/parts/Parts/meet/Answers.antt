@@ -1,4 +1,4 @@
-use Rattle.std.proofs.Common.{◌≡◌, ℕ, ◌<◌, ◌≤◌, not, nat_eq, [], ◌∷◌, ◌++◌, refl, sym, ap, subst, ◌∙◌}
+use Rattle.std.proofs.Common.{rules, ◌≡◌, ℕ, ◌<◌, ◌≤◌, not, nat_eq, [], ◌∷◌, ◌++◌, refl, sym, ap, subst, ◌∙◌}
 use Rattle.std.specs.Prelude.{IsSomeAnd}
 use Rattle.std.specs.List.{All}
 use Rattle.std.specs.FinMap as map
@@ -8,7 +8,7 @@ use Rattle.comm_graph.specs.Node.{Node}
 use Rattle.step_eval.specs.ControlView.{ControlView}
 use Rattle.commit_book.specs.declared.parts.Parts.{Parts}
 use Rattle.commit_book.specs.Meetings.{CanMeetAs, partner_in}
-use Rattle.commit_book.proofs.Acting.CommCalls.{done_exchanged, few_first, few_second, kept_exchanged, mate_there, own_there, saved_low, store_still, two_apart}
+use Rattle.commit_book.proofs.Acting.CommCalls.{few_first, few_second, mate_there, own_there, saved_low, store_still, two_apart, exchange_lasts}
 use Rattle.commit_book.proofs.Acting.MeetNeeds.{may_meet, partner_may}
 use Rattle.commit_book.proofs.Acting.Narrow.{narrow}
 use Rattle.commit_book.proofs.Acting.PairNeeds.{meeting_label, nodes_low}
@@ -117,20 +117,12 @@ save_both-requires-clause-apart c =
     let noted_rest : noted ≡ record c.begin-end.new.self { history = noted.history; graph = noted.graph } = ap (λ (k : Parts). record k { graph = c.add.new.self }) c.push-q.ensures.rest in
     two_apart c.args.job.now c.args.self.now c.args.lease.now c.args.progress c.requires.may c.requires.meets.offer c.requires.meets.offers c.args.meeting c.requires.meets.meets c.plan_meeting.new.self c.begin-end.new.self noted withdrawn c.in-Ok.ensures.before c.begin-end.ensures.history c.begin-end.ensures.rest noted_rest refl c.in-Ok.mine c.in-Ok.other c.go_on-before.result c.thread-t.result.0 c.partner_of-u.result.0 c.deref.result.now c.end.result.now (c.deref.ensures ∙ c.program.ensures.value) c.thread-t.ensures c.partner_of-u.ensures c.end.ensures.end c.in-Ok.ensures.met c.go_on-before.new.self c.go_on-before.ensures.before c.go_on-before.ensures.gone
 
-pub returns-clause-done : goal.returns-clause-done
-returns-clause-done c =
+pub returns : goal.returns
+returns c =
     let noted : Parts = record c.push-q.new.self { graph = c.add.new.self } in
     let withdrawn : Parts = record noted { offers = c.withdraw.new.self } in
     let noted_rest : noted ≡ record c.begin-end.new.self { history = noted.history; graph = noted.graph } = ap (λ (k : Parts). record k { graph = c.add.new.self }) c.push-q.ensures.rest in
-    done_exchanged c.args.job.now c.args.self.now c.args.lease.now c.args.progress c.requires.may c.requires.meets.offer c.requires.meets.offers c.args.meeting c.requires.meets.meets c.plan_meeting.new.self c.begin-end.new.self noted withdrawn c.in-Ok.ensures.before c.begin-end.ensures.history c.begin-end.ensures.rest noted_rest refl c.in-Ok.mine c.in-Ok.other c.go_on-before.result c.thread-t.result.0 c.partner_of-u.result.0 c.deref.result.now c.end.result.now (c.deref.ensures ∙ c.program.ensures.value) c.thread-t.ensures c.partner_of-u.ensures c.end.ensures.end c.in-Ok.ensures.met c.go_on-before.new.self c.go_on-before.ensures.before c.go_on-before.ensures.gone c.go_on.new.self c.go_on.result c.go_on.ensures.before c.go_on.ensures.gone c.push-q.result c.push-q.ensures.number c.begin-end.result c.begin-end.ensures.end c.thread-t.result c.partner_of-u.result refl refl
+    let lasts = exchange_lasts c.args.job.now c.args.self.now c.args.lease.now c.args.progress c.requires.may c.requires.meets.offer c.requires.meets.offers c.args.meeting c.requires.meets.meets c.plan_meeting.new.self c.begin-end.new.self noted withdrawn c.in-Ok.ensures.before c.begin-end.ensures.history c.begin-end.ensures.rest noted_rest refl c.in-Ok.mine c.in-Ok.other c.go_on-before.result c.thread-t.result.0 c.partner_of-u.result.0 c.deref.result.now c.end.result.now (c.deref.ensures ∙ c.program.ensures.value) c.thread-t.ensures c.partner_of-u.ensures c.end.ensures.end c.in-Ok.ensures.met c.go_on-before.new.self c.go_on-before.ensures.before c.go_on-before.ensures.gone c.go_on.new.self c.go_on.result c.go_on.ensures.before c.go_on.ensures.gone c.push-q.result c.push-q.ensures.number c.begin-end.result c.begin-end.ensures.end c.thread-t.result c.partner_of-u.result refl refl
     c.push-q.ensures.history (ap (λ k. k.nodes) c.add.ensures ∙ ap (λ (k : Parts). k.graph.nodes ++ record { number = c.push-q.result.0; kind = node.Comm c.args.meeting.sender c.args.meeting.receiver } ∷ []) c.push-q.ensures.rest)
-    c.withdraw.ensures.lines c.withdraw.ensures.offers c.save_both.new.self c.save_both.ensures.rest c.save_both.ensures.saved
-
-pub returns-clause-kept : goal.returns-clause-kept
-returns-clause-kept c =
-    let noted : Parts = record c.push-q.new.self { graph = c.add.new.self } in
-    let withdrawn : Parts = record noted { offers = c.withdraw.new.self } in
-    let noted_rest : noted ≡ record c.begin-end.new.self { history = noted.history; graph = noted.graph } = ap (λ (k : Parts). record k { graph = c.add.new.self }) c.push-q.ensures.rest in
-    kept_exchanged c.args.job.now c.args.self.now c.args.lease.now c.args.progress c.requires.may c.requires.meets.offer c.requires.meets.offers c.args.meeting c.requires.meets.meets c.plan_meeting.new.self c.begin-end.new.self noted withdrawn c.in-Ok.ensures.before c.begin-end.ensures.history c.begin-end.ensures.rest noted_rest refl c.in-Ok.mine c.in-Ok.other c.go_on-before.result c.thread-t.result.0 c.partner_of-u.result.0 c.deref.result.now c.end.result.now (c.deref.ensures ∙ c.program.ensures.value) c.thread-t.ensures c.partner_of-u.ensures c.end.ensures.end c.in-Ok.ensures.met c.go_on-before.new.self c.go_on-before.ensures.before c.go_on-before.ensures.gone c.go_on.new.self c.go_on.result c.go_on.ensures.before c.go_on.ensures.gone c.push-q.result c.push-q.ensures.number c.begin-end.result c.begin-end.ensures.end c.thread-t.result c.partner_of-u.result refl refl
-    c.push-q.ensures.history (ap (λ k. k.nodes) c.add.ensures ∙ ap (λ (k : Parts). k.graph.nodes ++ record { number = c.push-q.result.0; kind = node.Comm c.args.meeting.sender c.args.meeting.receiver } ∷ []) c.push-q.ensures.rest)
-    c.withdraw.ensures.lines c.withdraw.ensures.offers c.save_both.new.self c.save_both.ensures.rest c.save_both.ensures.saved
+    c.withdraw.ensures.lines c.withdraw.ensures.offers c.save_both.new.self c.save_both.ensures.rest c.save_both.ensures.saved in
+    record { done = lasts.0; back = search rules; err = search rules; kept = lasts.1 }

@@ -1,4 +1,4 @@
-use Rattle.std.proofs.Common.{◌+◌, refl, ap, ◌∙◌, arith}
+use Rattle.std.proofs.Common.{rules, ◌+◌, refl, ap, ◌∙◌, arith}
 use Rattle.commit_book.specs.declared.parts.Parts.{Parts}
 use Rattle.step_eval.specs.declared.act.Act.TheVariants as own
 use Rattle.commit_book.proofs.Acting.Acted.{in_err, in_ok, named_so, needs_act, needs_few, needs_fit, needs_fits, needs_there, needs_valid}
@@ -66,10 +66,7 @@ pub answer-requires-clause-act : goal.answer-requires-clause-act
 answer-requires-clause-act c =
     needs_act c.args.job.now c.args.self.now c.args.lease.now c.args.progress c.requires.may own.NewChan c.requires.at c.begin-control.result c.begin-control.ensures.end
 
-pub returns-clause-done : goal.returns-clause-done
-returns-clause-done c =
-    (chan_lasts c.args.job.now c.args.self.now c.args.lease.now c.args.progress c.requires.may c.plan_chan.new.self c.begin-control.new.self c.push.new.self c.answer.new.self (record { 0 = c.args.self.now.next_chan }) refl (in_ok c.plan_chan.result c.is_err.result c.plan_chan.ensures.rest c.is_err.ensures.value c.if-is_err.false) (in_ok c.plan_chan.result c.is_err.result c.plan_chan.ensures.lines c.is_err.ensures.value c.if-is_err.false) (in_ok c.plan_chan.result c.is_err.result c.plan_chan.ensures.offers c.is_err.ensures.value c.if-is_err.false) c.begin-control.ensures.history c.begin-control.ensures.rest c.push.ensures.rest c.requires.at c.thread.result c.thread.ensures c.push.ensures.history c.deref.result.now c.thread-2.result c.begin-control.result c.chan.result (c.deref.ensures ∙ c.program.ensures.value) c.thread-2.ensures c.begin-control.ensures.end c.chan.ensures c.answer.ensures).0
-
-pub returns-clause-kept : goal.returns-clause-kept
-returns-clause-kept c =
-    (chan_lasts c.args.job.now c.args.self.now c.args.lease.now c.args.progress c.requires.may c.plan_chan.new.self c.begin-control.new.self c.push.new.self c.answer.new.self (record { 0 = c.args.self.now.next_chan }) refl (in_ok c.plan_chan.result c.is_err.result c.plan_chan.ensures.rest c.is_err.ensures.value c.if-is_err.false) (in_ok c.plan_chan.result c.is_err.result c.plan_chan.ensures.lines c.is_err.ensures.value c.if-is_err.false) (in_ok c.plan_chan.result c.is_err.result c.plan_chan.ensures.offers c.is_err.ensures.value c.if-is_err.false) c.begin-control.ensures.history c.begin-control.ensures.rest c.push.ensures.rest c.requires.at c.thread.result c.thread.ensures c.push.ensures.history c.deref.result.now c.thread-2.result c.begin-control.result c.chan.result (c.deref.ensures ∙ c.program.ensures.value) c.thread-2.ensures c.begin-control.ensures.end c.chan.ensures c.answer.ensures).1
+pub returns : goal.returns
+returns c =
+    let lasts = chan_lasts c.args.job.now c.args.self.now c.args.lease.now c.args.progress c.requires.may c.plan_chan.new.self c.begin-control.new.self c.push.new.self c.answer.new.self (record { 0 = c.args.self.now.next_chan }) refl (in_ok c.plan_chan.result c.is_err.result c.plan_chan.ensures.rest c.is_err.ensures.value c.if-is_err.false) (in_ok c.plan_chan.result c.is_err.result c.plan_chan.ensures.lines c.is_err.ensures.value c.if-is_err.false) (in_ok c.plan_chan.result c.is_err.result c.plan_chan.ensures.offers c.is_err.ensures.value c.if-is_err.false) c.begin-control.ensures.history c.begin-control.ensures.rest c.push.ensures.rest c.requires.at c.thread.result c.thread.ensures c.push.ensures.history c.deref.result.now c.thread-2.result c.begin-control.result c.chan.result (c.deref.ensures ∙ c.program.ensures.value) c.thread-2.ensures c.begin-control.ensures.end c.chan.ensures c.answer.ensures in
+    record { done = lasts.0; back = search rules; err = search rules; kept = lasts.1 }

@@ -1,4 +1,4 @@
-use Rattle.std.proofs.Common.{◌+◌, ◌<◌, ◌≤◌, length, refl, sym, ap, subst, ◌∙◌, arith}
+use Rattle.std.proofs.Common.{rules, ◌+◌, ◌<◌, ◌≤◌, length, refl, sym, ap, subst, ◌∙◌, arith}
 use Rattle.commit_book.specs.declared.parts.Parts.{Parts}
 use Rattle.step_eval.specs.declared.act.Act.TheVariants as own
 use Rattle.commit_book.proofs.Acting.Acted.{named_so, needs_act, needs_few, needs_fit, needs_fits, needs_there, needs_valid}
@@ -95,10 +95,7 @@ pub answer-requires-clause-act : goal.answer-requires-clause-act
 answer-requires-clause-act c =
     needs_act c.args.job.now c.args.self.now c.args.lease.now c.args.progress c.requires.may own.NewRef c.requires.at c.begin-control.result c.begin-control.ensures.end
 
-pub returns-clause-done : goal.returns-clause-done
-returns-clause-done c =
-    (ref_lasts c.args.job.now c.args.self.now c.args.lease.now c.args.progress c.requires.may (c.plan_write.new.self) c.begin-control.new.self (c.in-Ok.ensures.before) c.begin-control.ensures.history c.begin-control.ensures.rest c.push-q.new.self c.answer.new.self c.thread.result c.thread.ensures c.push-q.ensures.rest c.deref.result.now c.thread-3.result c.begin-control.result (c.deref.ensures ∙ c.program.ensures.value) c.thread-3.ensures c.begin-control.ensures.end c.push-q.result c.push-q.ensures.number c.thread-2.result c.thread-2.ensures (record { 0 = c.args.self.now.next_ref }) refl c.requires.at (ref_away c.args.job.now c.args.self.now c.args.lease.now c.args.progress c.requires.may (c.plan_write.new.self) c.begin-control.new.self (c.in-Ok.ensures.before) c.begin-control.ensures.history c.begin-control.ensures.rest) c.push-q.ensures.history c.make.new.self c.in-Ok.v (c.in-Ok.ensures.value ∙ c.first.ensures ∙ ap first_of (c.operands.ensures ∙ ap operands_of c.end.ensures.end)) c.make.ensures.after c.add.new.self (ap (λ (k : NodeList). k.nodes) c.add.ensures) c.reference.result c.reference.ensures c.answer.ensures).0
-
-pub returns-clause-kept : goal.returns-clause-kept
-returns-clause-kept c =
-    (ref_lasts c.args.job.now c.args.self.now c.args.lease.now c.args.progress c.requires.may (c.plan_write.new.self) c.begin-control.new.self (c.in-Ok.ensures.before) c.begin-control.ensures.history c.begin-control.ensures.rest c.push-q.new.self c.answer.new.self c.thread.result c.thread.ensures c.push-q.ensures.rest c.deref.result.now c.thread-3.result c.begin-control.result (c.deref.ensures ∙ c.program.ensures.value) c.thread-3.ensures c.begin-control.ensures.end c.push-q.result c.push-q.ensures.number c.thread-2.result c.thread-2.ensures (record { 0 = c.args.self.now.next_ref }) refl c.requires.at (ref_away c.args.job.now c.args.self.now c.args.lease.now c.args.progress c.requires.may (c.plan_write.new.self) c.begin-control.new.self (c.in-Ok.ensures.before) c.begin-control.ensures.history c.begin-control.ensures.rest) c.push-q.ensures.history c.make.new.self c.in-Ok.v (c.in-Ok.ensures.value ∙ c.first.ensures ∙ ap first_of (c.operands.ensures ∙ ap operands_of c.end.ensures.end)) c.make.ensures.after c.add.new.self (ap (λ (k : NodeList). k.nodes) c.add.ensures) c.reference.result c.reference.ensures c.answer.ensures).1
+pub returns : goal.returns
+returns c =
+    let lasts = ref_lasts c.args.job.now c.args.self.now c.args.lease.now c.args.progress c.requires.may (c.plan_write.new.self) c.begin-control.new.self (c.in-Ok.ensures.before) c.begin-control.ensures.history c.begin-control.ensures.rest c.push-q.new.self c.answer.new.self c.thread.result c.thread.ensures c.push-q.ensures.rest c.deref.result.now c.thread-3.result c.begin-control.result (c.deref.ensures ∙ c.program.ensures.value) c.thread-3.ensures c.begin-control.ensures.end c.push-q.result c.push-q.ensures.number c.thread-2.result c.thread-2.ensures (record { 0 = c.args.self.now.next_ref }) refl c.requires.at (ref_away c.args.job.now c.args.self.now c.args.lease.now c.args.progress c.requires.may (c.plan_write.new.self) c.begin-control.new.self (c.in-Ok.ensures.before) c.begin-control.ensures.history c.begin-control.ensures.rest) c.push-q.ensures.history c.make.new.self c.in-Ok.v (c.in-Ok.ensures.value ∙ c.first.ensures ∙ ap first_of (c.operands.ensures ∙ ap operands_of c.end.ensures.end)) c.make.ensures.after c.add.new.self (ap (λ (k : NodeList). k.nodes) c.add.ensures) c.reference.result c.reference.ensures c.answer.ensures in
+    record { done = lasts.0; back = search rules; err = search rules; kept = lasts.1 }

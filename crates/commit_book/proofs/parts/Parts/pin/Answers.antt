@@ -1,4 +1,4 @@
-use Rattle.std.proofs.Common.{◌≤◌, refl, sym, ap, subst, ◌∙◌}
+use Rattle.std.proofs.Common.{rules, ◌≤◌, refl, sym, ap, subst, ◌∙◌}
 use Rattle.commit_book.specs.declared.parts.Parts.{Parts}
 use Rattle.step_eval.specs.declared.act.Act.TheVariants as own
 use Rattle.commit_book.proofs.Acting.Acted.{in_ok, named_so, needs_act, needs_few, needs_fit, needs_fits, needs_there, needs_valid}
@@ -69,10 +69,7 @@ pub answer-requires-clause-act : goal.answer-requires-clause-act
 answer-requires-clause-act c =
     needs_act c.args.job.now c.args.self.now c.args.lease.now c.args.progress c.requires.may own.Pin c.requires.at c.begin-control.result c.begin-control.ensures.end
 
-pub returns-clause-done : goal.returns-clause-done
-returns-clause-done c =
-    (pin_lasts c.args.job.now c.args.self.now c.args.lease.now c.args.progress c.requires.may (c.plan_node.new.self) c.begin-control.new.self (c.plan_node.ensures.before) c.begin-control.ensures.history c.begin-control.ensures.rest c.push-q.new.self c.answer.new.self c.thread.result c.thread.ensures c.push-q.ensures.rest c.deref.result.now c.thread-3.result c.begin-control.result (c.deref.ensures ∙ c.program.ensures.value) c.thread-3.ensures c.begin-control.ensures.end c.push-q.result c.push-q.ensures.number c.thread-2.result c.thread-2.ensures c.requires.at c.push-q.ensures.history c.add.new.self (ap (λ (k : NodeList). k.nodes) c.add.ensures) c.unit.result c.unit.ensures c.answer.ensures).0
-
-pub returns-clause-kept : goal.returns-clause-kept
-returns-clause-kept c =
-    (pin_lasts c.args.job.now c.args.self.now c.args.lease.now c.args.progress c.requires.may (c.plan_node.new.self) c.begin-control.new.self (c.plan_node.ensures.before) c.begin-control.ensures.history c.begin-control.ensures.rest c.push-q.new.self c.answer.new.self c.thread.result c.thread.ensures c.push-q.ensures.rest c.deref.result.now c.thread-3.result c.begin-control.result (c.deref.ensures ∙ c.program.ensures.value) c.thread-3.ensures c.begin-control.ensures.end c.push-q.result c.push-q.ensures.number c.thread-2.result c.thread-2.ensures c.requires.at c.push-q.ensures.history c.add.new.self (ap (λ (k : NodeList). k.nodes) c.add.ensures) c.unit.result c.unit.ensures c.answer.ensures).1
+pub returns : goal.returns
+returns c =
+    let lasts = pin_lasts c.args.job.now c.args.self.now c.args.lease.now c.args.progress c.requires.may (c.plan_node.new.self) c.begin-control.new.self (c.plan_node.ensures.before) c.begin-control.ensures.history c.begin-control.ensures.rest c.push-q.new.self c.answer.new.self c.thread.result c.thread.ensures c.push-q.ensures.rest c.deref.result.now c.thread-3.result c.begin-control.result (c.deref.ensures ∙ c.program.ensures.value) c.thread-3.ensures c.begin-control.ensures.end c.push-q.result c.push-q.ensures.number c.thread-2.result c.thread-2.ensures c.requires.at c.push-q.ensures.history c.add.new.self (ap (λ (k : NodeList). k.nodes) c.add.ensures) c.unit.result c.unit.ensures c.answer.ensures in
+    record { done = lasts.0; back = search rules; err = search rules; kept = lasts.1 }

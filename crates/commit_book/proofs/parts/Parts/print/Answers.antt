@@ -1,4 +1,4 @@
-use Rattle.std.proofs.Common.{◌≡◌, ℕ, ◌<◌, ◌≤◌, length, refl, sym, ap, subst, ◌∙◌}
+use Rattle.std.proofs.Common.{rules, ◌≡◌, ℕ, ◌<◌, ◌≤◌, length, refl, sym, ap, subst, ◌∙◌}
 use Rattle.stab_journal.specs.Event.{IsName}
 use Rattle.stab_code.specs.Program.{ProgramParts}
 use Rattle.stab_code.specs.Valid.{IsValid}
@@ -87,10 +87,7 @@ pub answer-requires-clause-fit : goal.answer-requires-clause-fit
 answer-requires-clause-fit c =
     needs_fit c.args.job.now c.args.self.now c.args.lease.now c.args.progress c.requires.may (c.plan_print.new.self) c.begin-control.new.self (record c.push-q.new.self { printed = c.push.new.self }) (c.in-Ok.ensures.before) c.begin-control.ensures.rest (ap (λ k. k.slots) c.push-q.ensures.rest) c.deref.result.now (c.deref.ensures ∙ c.program.ensures.value)
 
-pub returns-clause-done : goal.returns-clause-done
-returns-clause-done c =
-    (print_lasts c.args.job.now c.args.self.now c.args.lease.now c.args.progress c.requires.may (c.plan_print.new.self) c.begin-control.new.self (c.in-Ok.ensures.before) c.begin-control.ensures.history c.begin-control.ensures.rest c.push-q.new.self c.answer.new.self c.thread.result c.thread.ensures c.push-q.ensures.rest c.deref.result.now c.thread-2.result c.begin-control.result (c.deref.ensures ∙ c.program.ensures.value) c.thread-2.ensures c.begin-control.ensures.end c.requires.at c.push-q.ensures.history (record c.push-q.new.self { printed = c.push.new.self }) refl c.push-q.result.0 c.push-q.ensures.number (record { finals = ap (λ (p : Prints). p.finals) c.push.ensures; recent = ap (λ (p : Prints). p.recent) c.push.ensures ∙ ap (λ v. c.push-q.new.self.printed.recent ++ record { number = c.push-q.result.0; value = v } ∷ []) (c.in-Ok.ensures.value ∙ ap (λ g. first_of (operands_of g)) c.end.ensures.end) }) c.unit.result c.unit.ensures c.answer.ensures).0
-
-pub returns-clause-kept : goal.returns-clause-kept
-returns-clause-kept c =
-    (print_lasts c.args.job.now c.args.self.now c.args.lease.now c.args.progress c.requires.may (c.plan_print.new.self) c.begin-control.new.self (c.in-Ok.ensures.before) c.begin-control.ensures.history c.begin-control.ensures.rest c.push-q.new.self c.answer.new.self c.thread.result c.thread.ensures c.push-q.ensures.rest c.deref.result.now c.thread-2.result c.begin-control.result (c.deref.ensures ∙ c.program.ensures.value) c.thread-2.ensures c.begin-control.ensures.end c.requires.at c.push-q.ensures.history (record c.push-q.new.self { printed = c.push.new.self }) refl c.push-q.result.0 c.push-q.ensures.number (record { finals = ap (λ (p : Prints). p.finals) c.push.ensures; recent = ap (λ (p : Prints). p.recent) c.push.ensures ∙ ap (λ v. c.push-q.new.self.printed.recent ++ record { number = c.push-q.result.0; value = v } ∷ []) (c.in-Ok.ensures.value ∙ ap (λ g. first_of (operands_of g)) c.end.ensures.end) }) c.unit.result c.unit.ensures c.answer.ensures).1
+pub returns : goal.returns
+returns c =
+    let lasts = print_lasts c.args.job.now c.args.self.now c.args.lease.now c.args.progress c.requires.may (c.plan_print.new.self) c.begin-control.new.self (c.in-Ok.ensures.before) c.begin-control.ensures.history c.begin-control.ensures.rest c.push-q.new.self c.answer.new.self c.thread.result c.thread.ensures c.push-q.ensures.rest c.deref.result.now c.thread-2.result c.begin-control.result (c.deref.ensures ∙ c.program.ensures.value) c.thread-2.ensures c.begin-control.ensures.end c.requires.at c.push-q.ensures.history (record c.push-q.new.self { printed = c.push.new.self }) refl c.push-q.result.0 c.push-q.ensures.number (record { finals = ap (λ (p : Prints). p.finals) c.push.ensures; recent = ap (λ (p : Prints). p.recent) c.push.ensures ∙ ap (λ v. c.push-q.new.self.printed.recent ++ record { number = c.push-q.result.0; value = v } ∷ []) (c.in-Ok.ensures.value ∙ ap (λ g. first_of (operands_of g)) c.end.ensures.end) }) c.unit.result c.unit.ensures c.answer.ensures in
+    record { done = lasts.0; back = search rules; err = search rules; kept = lasts.1 }

@@ -69,12 +69,8 @@ pub answer-requires-clause-act : goal.answer-requires-clause-act
 answer-requires-clause-act c =
     needs_act c.args.job.now c.args.self.now c.args.lease.now c.args.progress c.requires.may own.Probe c.requires.at c.begin-control.result c.begin-control.ensures.end
 
-pub returns-clause-done : goal.returns-clause-done
-returns-clause-done c =
+pub returns : goal.returns
+returns c =
     let fits : SFits w64 c.script_at-n.result = search rules in
-    (probe_lasts c.args.job.now c.args.self.now c.args.lease.now c.args.progress c.requires.may (record c.args.self.now { history = c.reserve.new.self }) c.begin-control.new.self (reserved c.args.self.now c.reserve.new.self c.reserve.ensures.rest) c.begin-control.ensures.history c.begin-control.ensures.rest c.push.new.self c.answer.new.self c.thread.result c.thread.ensures c.push.ensures.rest c.deref.result.now c.thread-2.result c.begin-control.result (c.deref.ensures ∙ c.program.ensures.value) c.thread-2.ensures c.begin-control.ensures.end c.requires.at c.script_at-n.result (c.script_at-n.ensures ∙ ap (λ s. script_at s c.begin-control.new.self.tallies.probes) c.script.ensures.value) (word_fits c.script_at-n.result fits) (subst (λ (i : ℤ). IsLonger c.begin-control.new.self.history c.push.new.self.history c.args.lease.now.worker (Probe c.thread.result i ∷ [])) (to_z-of_z w64 c.script_at-n.result fits) c.push.ensures.history) c.int.result (c.int.ensures ∙ ap int (to_z-of_z w64 c.script_at-n.result fits)) c.answer.ensures).0
-
-pub returns-clause-kept : goal.returns-clause-kept
-returns-clause-kept c =
-    let fits : SFits w64 c.script_at-n.result = search rules in
-    (probe_lasts c.args.job.now c.args.self.now c.args.lease.now c.args.progress c.requires.may (record c.args.self.now { history = c.reserve.new.self }) c.begin-control.new.self (reserved c.args.self.now c.reserve.new.self c.reserve.ensures.rest) c.begin-control.ensures.history c.begin-control.ensures.rest c.push.new.self c.answer.new.self c.thread.result c.thread.ensures c.push.ensures.rest c.deref.result.now c.thread-2.result c.begin-control.result (c.deref.ensures ∙ c.program.ensures.value) c.thread-2.ensures c.begin-control.ensures.end c.requires.at c.script_at-n.result (c.script_at-n.ensures ∙ ap (λ s. script_at s c.begin-control.new.self.tallies.probes) c.script.ensures.value) (word_fits c.script_at-n.result fits) (subst (λ (i : ℤ). IsLonger c.begin-control.new.self.history c.push.new.self.history c.args.lease.now.worker (Probe c.thread.result i ∷ [])) (to_z-of_z w64 c.script_at-n.result fits) c.push.ensures.history) c.int.result (c.int.ensures ∙ ap int (to_z-of_z w64 c.script_at-n.result fits)) c.answer.ensures).1
+    let lasts = probe_lasts c.args.job.now c.args.self.now c.args.lease.now c.args.progress c.requires.may (record c.args.self.now { history = c.reserve.new.self }) c.begin-control.new.self (reserved c.args.self.now c.reserve.new.self c.reserve.ensures.rest) c.begin-control.ensures.history c.begin-control.ensures.rest c.push.new.self c.answer.new.self c.thread.result c.thread.ensures c.push.ensures.rest c.deref.result.now c.thread-2.result c.begin-control.result (c.deref.ensures ∙ c.program.ensures.value) c.thread-2.ensures c.begin-control.ensures.end c.requires.at c.script_at-n.result (c.script_at-n.ensures ∙ ap (λ s. script_at s c.begin-control.new.self.tallies.probes) c.script.ensures.value) (word_fits c.script_at-n.result fits) (subst (λ (i : ℤ). IsLonger c.begin-control.new.self.history c.push.new.self.history c.args.lease.now.worker (Probe c.thread.result i ∷ [])) (to_z-of_z w64 c.script_at-n.result fits) c.push.ensures.history) c.int.result (c.int.ensures ∙ ap int (to_z-of_z w64 c.script_at-n.result fits)) c.answer.ensures in
+    record { done = lasts.0; back = search rules; err = search rules; kept = lasts.1 }

@@ -1,4 +1,4 @@
-use Rattle.std.proofs.Common.{refl, ap}
+use Rattle.std.proofs.Common.{rules, refl, ap}
 use Rattle.commit_book.specs.declared.parts.Parts.{Parts}
 use Rattle.commit_book.proofs.Acting.Acted.{in_ok, named_so, needs_few, needs_there, reserved}
 use Rattle.commit_book.proofs.Acting.Lasted.{refuse_lasts}
@@ -40,10 +40,7 @@ pub go_on-requires-clause-few : goal.go_on-requires-clause-few
 go_on-requires-clause-few c =
     needs_few c.args.job.now c.args.self.now c.args.lease.now c.args.progress c.requires.may (record c.args.self.now { history = c.reserve.new.self }) c.begin-control.new.self (c.push.new.self) (reserved c.args.self.now c.reserve.new.self c.reserve.ensures.rest) c.begin-control.ensures.rest (ap (λ k. k.slots) c.push.ensures.rest) (ap (λ (k : Parts). k.tallies.faulted) c.push.ensures.rest)
 
-pub returns-clause-done : goal.returns-clause-done
-returns-clause-done c =
-    (refuse_lasts c.args.job.now c.args.self.now c.args.lease.now c.args.progress c.requires.may (record c.args.self.now { history = c.reserve.new.self }) c.begin-control.new.self (reserved c.args.self.now c.reserve.new.self c.reserve.ensures.rest) c.begin-control.ensures.history c.begin-control.ensures.rest c.push.new.self c.go_on.new.self c.thread.result c.thread.ensures c.push.ensures.rest c.thread-2.result c.thread-2.ensures c.go_on.result c.fail.new.self (c.fail.ensures.fits c.args.job.now.program) c.requires.at c.requires.held c.push.ensures.history (c.fail.ensures.expr c.args.job.now.program) c.go_on.ensures.before c.go_on.ensures.gone).0
-
-pub returns-clause-kept : goal.returns-clause-kept
-returns-clause-kept c =
-    (refuse_lasts c.args.job.now c.args.self.now c.args.lease.now c.args.progress c.requires.may (record c.args.self.now { history = c.reserve.new.self }) c.begin-control.new.self (reserved c.args.self.now c.reserve.new.self c.reserve.ensures.rest) c.begin-control.ensures.history c.begin-control.ensures.rest c.push.new.self c.go_on.new.self c.thread.result c.thread.ensures c.push.ensures.rest c.thread-2.result c.thread-2.ensures c.go_on.result c.fail.new.self (c.fail.ensures.fits c.args.job.now.program) c.requires.at c.requires.held c.push.ensures.history (c.fail.ensures.expr c.args.job.now.program) c.go_on.ensures.before c.go_on.ensures.gone).1
+pub returns : goal.returns
+returns c =
+    let lasts = refuse_lasts c.args.job.now c.args.self.now c.args.lease.now c.args.progress c.requires.may (record c.args.self.now { history = c.reserve.new.self }) c.begin-control.new.self (reserved c.args.self.now c.reserve.new.self c.reserve.ensures.rest) c.begin-control.ensures.history c.begin-control.ensures.rest c.push.new.self c.go_on.new.self c.thread.result c.thread.ensures c.push.ensures.rest c.thread-2.result c.thread-2.ensures c.go_on.result c.fail.new.self (c.fail.ensures.fits c.args.job.now.program) c.requires.at c.requires.held c.push.ensures.history (c.fail.ensures.expr c.args.job.now.program) c.go_on.ensures.before c.go_on.ensures.gone in
+    record { done = lasts.0; back = search rules; err = search rules; kept = lasts.1 }

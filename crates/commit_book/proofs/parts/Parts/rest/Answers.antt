@@ -1,4 +1,4 @@
-use Rattle.std.proofs.Common.{refl}
+use Rattle.std.proofs.Common.{rules, refl}
 use Rattle.plain_language.specs.Plain.{look_in}
 use Rattle.step_eval.specs.ControlView.{expr_of}
 use Rattle.commit_book.proofs.Acting.Acted.{in_ok, needs_few, needs_there, reserved}
@@ -34,10 +34,7 @@ pub go_on-requires-clause-few : goal.go_on-requires-clause-few
 go_on-requires-clause-few c =
     needs_few c.args.job.now c.args.self.now c.args.lease.now c.args.progress c.requires.may (record c.args.self.now { history = c.reserve.new.self }) c.begin-control.new.self c.begin-control.new.self (reserved c.args.self.now c.reserve.new.self c.reserve.ensures.rest) c.begin-control.ensures.rest refl refl
 
-pub returns-clause-done : goal.returns-clause-done
-returns-clause-done c =
-    (rest_lasts c.args.job.now c.args.self.now c.args.lease.now c.args.progress c.requires.may (unoffering (look_in c.args.job.now.program (expr_of c.args.job.now.program c.args.progress.end)) c.requires.at) (record c.args.self.now { history = c.reserve.new.self }) c.begin-control.new.self (reserved c.args.self.now c.reserve.new.self c.reserve.ensures.rest) c.begin-control.ensures.history c.begin-control.ensures.rest c.go_on.new.self c.thread.result c.go_on.result c.begin-control.result c.thread.ensures c.begin-control.ensures.end c.go_on.ensures.before c.go_on.ensures.gone).0
-
-pub returns-clause-kept : goal.returns-clause-kept
-returns-clause-kept c =
-    (rest_lasts c.args.job.now c.args.self.now c.args.lease.now c.args.progress c.requires.may (unoffering (look_in c.args.job.now.program (expr_of c.args.job.now.program c.args.progress.end)) c.requires.at) (record c.args.self.now { history = c.reserve.new.self }) c.begin-control.new.self (reserved c.args.self.now c.reserve.new.self c.reserve.ensures.rest) c.begin-control.ensures.history c.begin-control.ensures.rest c.go_on.new.self c.thread.result c.go_on.result c.begin-control.result c.thread.ensures c.begin-control.ensures.end c.go_on.ensures.before c.go_on.ensures.gone).1
+pub returns : goal.returns
+returns c =
+    let lasts = rest_lasts c.args.job.now c.args.self.now c.args.lease.now c.args.progress c.requires.may (unoffering (look_in c.args.job.now.program (expr_of c.args.job.now.program c.args.progress.end)) c.requires.at) (record c.args.self.now { history = c.reserve.new.self }) c.begin-control.new.self (reserved c.args.self.now c.reserve.new.self c.reserve.ensures.rest) c.begin-control.ensures.history c.begin-control.ensures.rest c.go_on.new.self c.thread.result c.go_on.result c.begin-control.result c.thread.ensures c.begin-control.ensures.end c.go_on.ensures.before c.go_on.ensures.gone in
+    record { done = lasts.0; back = search rules; err = search rules; kept = lasts.1 }

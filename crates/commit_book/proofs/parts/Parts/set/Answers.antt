@@ -1,4 +1,4 @@
-use Rattle.std.proofs.Common.{◌≤◌, length, refl, sym, ap, subst, ◌∙◌}
+use Rattle.std.proofs.Common.{rules, ◌≤◌, length, refl, sym, ap, subst, ◌∙◌}
 use Rattle.commit_book.specs.declared.parts.Parts.{Parts}
 use Rattle.step_eval.specs.declared.act.Act.TheVariants as own
 use Rattle.commit_book.proofs.Acting.Acted.{named_so, needs_act, needs_few, needs_fit, needs_fits, needs_there, needs_valid}
@@ -87,10 +87,7 @@ pub answer-requires-clause-act : goal.answer-requires-clause-act
 answer-requires-clause-act c =
     needs_act c.args.job.now c.args.self.now c.args.lease.now c.args.progress c.requires.may (own.Set c.args.r) c.requires.at c.begin-control.result c.begin-control.ensures.end
 
-pub returns-clause-done : goal.returns-clause-done
-returns-clause-done c =
-    (set_lasts c.args.job.now c.args.self.now c.args.lease.now c.args.progress c.requires.may (c.plan_write.new.self) c.begin-control.new.self (c.in-Ok.ensures.before) c.begin-control.ensures.history c.begin-control.ensures.rest c.push-q.new.self c.answer.new.self c.thread.result c.thread.ensures c.push-q.ensures.rest c.deref.result.now c.thread-3.result c.begin-control.result (c.deref.ensures ∙ c.program.ensures.value) c.thread-3.ensures c.begin-control.ensures.end c.push-q.result c.push-q.ensures.number c.thread-2.result c.thread-2.ensures c.args.r c.requires.at (set_there c.args.job.now c.args.self.now c.args.lease.now c.args.progress c.requires.may (c.plan_write.new.self) c.begin-control.new.self (c.in-Ok.ensures.before) c.begin-control.ensures.history c.begin-control.ensures.rest c.args.r c.requires.at) (there_low c.args.job.now c.args.self.now c.args.lease.now c.args.progress c.requires.may (c.plan_write.new.self) c.begin-control.new.self (c.in-Ok.ensures.before) c.begin-control.ensures.history c.begin-control.ensures.rest c.args.r (set_there c.args.job.now c.args.self.now c.args.lease.now c.args.progress c.requires.may (c.plan_write.new.self) c.begin-control.new.self (c.in-Ok.ensures.before) c.begin-control.ensures.history c.begin-control.ensures.rest c.args.r c.requires.at)) c.push-q.ensures.history c.write.new.self c.in-Ok.v (c.in-Ok.ensures.value ∙ c.second.ensures ∙ ap second_of (c.operands.ensures ∙ ap operands_of c.end.ensures.end)) c.write.ensures.after c.add.new.self (ap (λ (k : NodeList). k.nodes) c.add.ensures) c.unit.result c.unit.ensures c.answer.ensures).0
-
-pub returns-clause-kept : goal.returns-clause-kept
-returns-clause-kept c =
-    (set_lasts c.args.job.now c.args.self.now c.args.lease.now c.args.progress c.requires.may (c.plan_write.new.self) c.begin-control.new.self (c.in-Ok.ensures.before) c.begin-control.ensures.history c.begin-control.ensures.rest c.push-q.new.self c.answer.new.self c.thread.result c.thread.ensures c.push-q.ensures.rest c.deref.result.now c.thread-3.result c.begin-control.result (c.deref.ensures ∙ c.program.ensures.value) c.thread-3.ensures c.begin-control.ensures.end c.push-q.result c.push-q.ensures.number c.thread-2.result c.thread-2.ensures c.args.r c.requires.at (set_there c.args.job.now c.args.self.now c.args.lease.now c.args.progress c.requires.may (c.plan_write.new.self) c.begin-control.new.self (c.in-Ok.ensures.before) c.begin-control.ensures.history c.begin-control.ensures.rest c.args.r c.requires.at) (there_low c.args.job.now c.args.self.now c.args.lease.now c.args.progress c.requires.may (c.plan_write.new.self) c.begin-control.new.self (c.in-Ok.ensures.before) c.begin-control.ensures.history c.begin-control.ensures.rest c.args.r (set_there c.args.job.now c.args.self.now c.args.lease.now c.args.progress c.requires.may (c.plan_write.new.self) c.begin-control.new.self (c.in-Ok.ensures.before) c.begin-control.ensures.history c.begin-control.ensures.rest c.args.r c.requires.at)) c.push-q.ensures.history c.write.new.self c.in-Ok.v (c.in-Ok.ensures.value ∙ c.second.ensures ∙ ap second_of (c.operands.ensures ∙ ap operands_of c.end.ensures.end)) c.write.ensures.after c.add.new.self (ap (λ (k : NodeList). k.nodes) c.add.ensures) c.unit.result c.unit.ensures c.answer.ensures).1
+pub returns : goal.returns
+returns c =
+    let lasts = set_lasts c.args.job.now c.args.self.now c.args.lease.now c.args.progress c.requires.may (c.plan_write.new.self) c.begin-control.new.self (c.in-Ok.ensures.before) c.begin-control.ensures.history c.begin-control.ensures.rest c.push-q.new.self c.answer.new.self c.thread.result c.thread.ensures c.push-q.ensures.rest c.deref.result.now c.thread-3.result c.begin-control.result (c.deref.ensures ∙ c.program.ensures.value) c.thread-3.ensures c.begin-control.ensures.end c.push-q.result c.push-q.ensures.number c.thread-2.result c.thread-2.ensures c.args.r c.requires.at (set_there c.args.job.now c.args.self.now c.args.lease.now c.args.progress c.requires.may (c.plan_write.new.self) c.begin-control.new.self (c.in-Ok.ensures.before) c.begin-control.ensures.history c.begin-control.ensures.rest c.args.r c.requires.at) (there_low c.args.job.now c.args.self.now c.args.lease.now c.args.progress c.requires.may (c.plan_write.new.self) c.begin-control.new.self (c.in-Ok.ensures.before) c.begin-control.ensures.history c.begin-control.ensures.rest c.args.r (set_there c.args.job.now c.args.self.now c.args.lease.now c.args.progress c.requires.may (c.plan_write.new.self) c.begin-control.new.self (c.in-Ok.ensures.before) c.begin-control.ensures.history c.begin-control.ensures.rest c.args.r c.requires.at)) c.push-q.ensures.history c.write.new.self c.in-Ok.v (c.in-Ok.ensures.value ∙ c.second.ensures ∙ ap second_of (c.operands.ensures ∙ ap operands_of c.end.ensures.end)) c.write.ensures.after c.add.new.self (ap (λ (k : NodeList). k.nodes) c.add.ensures) c.unit.result c.unit.ensures c.answer.ensures in
+    record { done = lasts.0; back = search rules; err = search rules; kept = lasts.1 }

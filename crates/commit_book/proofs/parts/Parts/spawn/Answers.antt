@@ -1,4 +1,4 @@
-use Rattle.std.proofs.Common.{ℕ, ◌<◌, ◌≤◌, [], ◌∷◌, ◌++◌, length, refl, sym, ap, subst, ◌∙◌}
+use Rattle.std.proofs.Common.{rules, ℕ, ◌<◌, ◌≤◌, [], ◌∷◌, ◌++◌, length, refl, sym, ap, subst, ◌∙◌}
 use Rattle.std.specs.Prelude.{IsSome}
 use Rattle.std.specs.List.{All}
 use Rattle.stab_base.specs.declared.numbers.ThreadId.{ThreadId}
@@ -19,7 +19,7 @@ use Rattle.commit_book.specs.Threads.{AllControls}
 use Rattle.commit_book.proofs.Acting.PairNeeds.{child_label, few_now, nodes_low, numbers_within}
 use Rattle.commit_book.proofs.Keeping.SeenAfter.{kept_same}
 use Rattle.commit_book.proofs.Acting.SingleActs.{few_at, may_begin}
-use Rattle.commit_book.proofs.Acting.SpawnCalls.{done_started, few_joined, fit_joined, kept_started, there_joined}
+use Rattle.commit_book.proofs.Acting.SpawnCalls.{few_joined, fit_joined, there_joined, start_lasts}
 use Rattle.commit_book.proofs.parts.Parts.spawn.Goals as goal
 
 pub plan_spawn-requires-clause-few : goal.plan_spawn-requires-clause-few
@@ -123,14 +123,14 @@ pub answer-requires-clause-act : goal.answer-requires-clause-act
 answer-requires-clause-act c =
     subst (λ (g : ControlView). IsSome (act_next g)) (sym c.begin-control.ensures.end) (subst (λ o. IsSome o) (sym c.requires.at.next) refl)
 
-pub returns-clause-done : goal.returns-clause-done
-returns-clause-done c =
+pub returns : goal.returns
+returns c =
     let job = c.args.job.now in
     let child = c.in-Ok.child in
     let fits : Fits job.program child = subst (λ (p : ProgramParts). Fits p child) (c.deref.ensures ∙ c.program.ensures.value) c.in-Ok.ensures.fits in
     let joins = c.join.ensures job.program c.requires.may.kept.valid fits in
     let noted : Parts = record c.push-q.new.self { graph = c.add.new.self } in
-    done_started job c.args.self.now c.args.lease.now c.args.progress c.requires.may c.args.f c.requires.at
+    let lasts = start_lasts job c.args.self.now c.args.lease.now c.args.progress c.requires.may c.args.f c.requires.at
     c.plan_spawn.new.self c.begin-control.new.self noted c.join.new.self c.answer.new.self c.in-Ok.ensures.before c.begin-control.ensures.history c.begin-control.ensures.rest
     child c.begin-control.result c.thread-t.result c.next_thread-u.result c.push-q.result c.unit.result c.deref.result.now c.deref-2.result.now
     (c.deref.ensures ∙ c.program.ensures.value) (c.deref-2.ensures ∙ c.program-2.ensures.value) c.thread-t.ensures c.next_thread-u.ensures
@@ -138,21 +138,5 @@ returns-clause-done c =
     c.push-q.ensures.history
     (ap (λ k. k.nodes) c.add.ensures ∙ ap (λ (k : Parts). k.graph.nodes ++ record { number = c.push-q.result.0; kind = node.Spawn c.thread-t.result c.next_thread-u.result } ∷ []) c.push-q.ensures.rest)
     (ap (λ (k : Parts). record k { graph = c.add.new.self }) c.push-q.ensures.rest) joins
-    c.begin-control.ensures.end c.unit.ensures c.answer.ensures
-
-pub returns-clause-kept : goal.returns-clause-kept
-returns-clause-kept c =
-    let job = c.args.job.now in
-    let child = c.in-Ok.child in
-    let fits : Fits job.program child = subst (λ (p : ProgramParts). Fits p child) (c.deref.ensures ∙ c.program.ensures.value) c.in-Ok.ensures.fits in
-    let joins = c.join.ensures job.program c.requires.may.kept.valid fits in
-    let noted : Parts = record c.push-q.new.self { graph = c.add.new.self } in
-    kept_started job c.args.self.now c.args.lease.now c.args.progress c.requires.may c.args.f c.requires.at
-    c.plan_spawn.new.self c.begin-control.new.self noted c.join.new.self c.answer.new.self c.in-Ok.ensures.before c.begin-control.ensures.history c.begin-control.ensures.rest
-    child c.begin-control.result c.thread-t.result c.next_thread-u.result c.push-q.result c.unit.result c.deref.result.now c.deref-2.result.now
-    (c.deref.ensures ∙ c.program.ensures.value) (c.deref-2.ensures ∙ c.program-2.ensures.value) c.thread-t.ensures c.next_thread-u.ensures
-    (c.in-Ok.ensures.expr ∙ ap (λ (g : ControlView). called (body c.deref.result.now) c.args.f.0 (operands_of g)) c.end.ensures.end) fits c.push-q.ensures.number
-    c.push-q.ensures.history
-    (ap (λ k. k.nodes) c.add.ensures ∙ ap (λ (k : Parts). k.graph.nodes ++ record { number = c.push-q.result.0; kind = node.Spawn c.thread-t.result c.next_thread-u.result } ∷ []) c.push-q.ensures.rest)
-    (ap (λ (k : Parts). record k { graph = c.add.new.self }) c.push-q.ensures.rest) joins
-    c.begin-control.ensures.end c.unit.ensures c.answer.ensures
+    c.begin-control.ensures.end c.unit.ensures c.answer.ensures in
+    record { done = lasts.0; back = search rules; err = search rules; kept = lasts.1 }

@@ -1,4 +1,4 @@
-use Rattle.std.proofs.Common.{◌≡◌, ℕ, ◌≤◌, false, refl, sym, ap, subst, ◌∙◌}
+use Rattle.std.proofs.Common.{rules, ◌≡◌, ℕ, ◌≤◌, false, refl, sym, ap, subst, ◌∙◌}
 use Rattle.std.specs.Prelude.{IsSome, is_err, is_some, option_map}
 use Rattle.std.specs.Ordering.{nat_cmp}
 use Rattle.std.specs.FinMap as map
@@ -14,7 +14,7 @@ use Rattle.commit_book.proofs.Keeping.SeenAfter.{kept_same}
 use Rattle.commit_book.proofs.Acting.SingleActs.{may_begin}
 use Rattle.commit_book.proofs.Acting.SingleCalls.{there_at}
 use Rattle.commit_book.proofs.Acting.WaitActs.{done_already}
-use Rattle.commit_book.proofs.Acting.WaitCalls.{done_aside, kept_aside, none_there, on_err, on_ok}
+use Rattle.commit_book.proofs.Acting.WaitCalls.{none_there, on_err, on_ok, aside_lasts}
 use Rattle.commit_book.proofs.parts.Parts.wait.Goals as goal
 
 pub returns-then-is_some-clause-done : goal.returns-then-is_some-clause-done
@@ -50,15 +50,15 @@ set_state-requires c =
     subst (λ (m : FinMap nat_cmp (Slot ControlView)). IsSome (map.get m c.thread-t.result.0)) (sym c.put_control.ensures.threads)
     (still_there begins.slots.threads c.thread-t.result.0 (λ slot. record slot { control = c.begin-control.result }) at)
 
-pub returns-clause-done : goal.returns-clause-done
-returns-clause-done c =
+pub returns : goal.returns
+returns c =
     let job = c.args.job.now in
     let old = c.args.self.now in
     let planned = c.plan_wait.new.self in
     let begins = c.begin-control.new.self in
     let t = c.thread-t.result in
     let ok : is_err c.plan_wait.result ≡ false = sym c.is_err.ensures.value ∙ c.if-is_err.false in
-    done_aside job old c.args.lease.now c.args.progress c.requires.may c.args.offer c.requires.offers c.requires.alone
+    let lasts = aside_lasts job old c.args.lease.now c.args.progress c.requires.may c.args.offer c.requires.offers c.requires.alone
     planned begins (record begins { slots = c.set_state.new.self }) t c.thread-t.ensures
     (sym c.offer.ensures ∙ none_there c.offer.result (sym c.is_some.ensures ∙ c.if-is_some.false))
     (on_ok c.plan_wait.result (AreAsBefore old (record planned { offers = old.offers })) c.plan_wait.ensures.rest ok)
@@ -66,22 +66,5 @@ returns-clause-done c =
     (on_ok c.plan_wait.result (planned.offers.offers ≡ map.insert old.offers.offers t.0 c.args.offer) c.plan_wait.ensures.offers ok)
     c.begin-control.ensures.history c.begin-control.ensures.rest c.begin-control.result c.begin-control.ensures.end
     c.put_control.new.self.threads c.put_control.new.self.queue c.put_control.new.self.next c.put_control.ensures.threads c.put_control.ensures.queue c.put_control.ensures.next
-    c.set_state.ensures.threads c.set_state.ensures.queue c.set_state.ensures.next c.set_state.ensures.sound refl
-
-pub returns-clause-kept : goal.returns-clause-kept
-returns-clause-kept c =
-    let job = c.args.job.now in
-    let old = c.args.self.now in
-    let planned = c.plan_wait.new.self in
-    let begins = c.begin-control.new.self in
-    let t = c.thread-t.result in
-    let ok : is_err c.plan_wait.result ≡ false = sym c.is_err.ensures.value ∙ c.if-is_err.false in
-    kept_aside job old c.args.lease.now c.args.progress c.requires.may c.args.offer c.requires.offers c.requires.alone
-    planned begins (record begins { slots = c.set_state.new.self }) t c.thread-t.ensures
-    (sym c.offer.ensures ∙ none_there c.offer.result (sym c.is_some.ensures ∙ c.if-is_some.false))
-    (on_ok c.plan_wait.result (AreAsBefore old (record planned { offers = old.offers })) c.plan_wait.ensures.rest ok)
-    (on_ok c.plan_wait.result ((k : ℕ) → map.get planned.offers.lines k ≡ option_map (joined t.0 c.args.offer k) (map.get old.offers.lines k)) c.plan_wait.ensures.lines ok)
-    (on_ok c.plan_wait.result (planned.offers.offers ≡ map.insert old.offers.offers t.0 c.args.offer) c.plan_wait.ensures.offers ok)
-    c.begin-control.ensures.history c.begin-control.ensures.rest c.begin-control.result c.begin-control.ensures.end
-    c.put_control.new.self.threads c.put_control.new.self.queue c.put_control.new.self.next c.put_control.ensures.threads c.put_control.ensures.queue c.put_control.ensures.next
-    c.set_state.ensures.threads c.set_state.ensures.queue c.set_state.ensures.next c.set_state.ensures.sound refl
+    c.set_state.ensures.threads c.set_state.ensures.queue c.set_state.ensures.next c.set_state.ensures.sound refl in
+    record { done = lasts.0; back = search rules; err = search rules; kept = lasts.1 }
