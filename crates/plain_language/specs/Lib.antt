@@ -7,6 +7,7 @@ pub mod Effects
 pub mod Expression
 pub mod ExpressionCode
 pub mod Falls
+pub mod FewValues
 pub mod Forms
 pub mod Frames
 pub mod Given

@@ -1,8 +1,9 @@
 -- The operands of a redex, by their kinds.
-use Rattle.std.specs.Prelude.{ℕ, ℤ, Bool, List, [], ◌∷◌, Option, Some, None, Result, Ok, Err}
+use Rattle.std.specs.Prelude.{ℕ, ℤ, Bool, Option, Some, None, Result, Ok, Err}
 use Rattle.stab_base.specs.Datum.{Datum, truth, int, chan, reference}
 use Rattle.stab_base.specs.declared.fault.Fault.{Fault}
 use Rattle.plain_language.specs.Expression.{value}
+pub use Rattle.plain_language.specs.FewValues.{one_of, two_values_of}
 use Rattle.plain_language.specs.Outcome.{Outcome, becomes, fails}
 
 abbrev pub truth_of : Datum → Option Bool
@@ -20,15 +21,6 @@ chan_of _ = None
 abbrev pub reference_of : Datum → Option ℕ
 reference_of (reference r) = Some r
 reference_of _ = None
-
--- the one value of a list, and the two
-abbrev pub one_of : List Datum → Option Datum
-one_of (v ∷ []) = Some v
-one_of _ = None
-
-abbrev pub two_values_of : List Datum → Option (Datum × Datum)
-two_values_of (v ∷ w ∷ []) = Some (v, w)
-two_values_of _ = None
 
 -- a value or a fault, as what a redex does
 abbrev pub outcome_of : Result Datum Fault → Outcome

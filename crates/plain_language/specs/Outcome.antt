@@ -11,6 +11,7 @@ use Rattle.plain_language.specs.declared.head.Head.{Head}
 use Rattle.plain_language.specs.declared.head.Head.TheVariants.{Block, If, Two, Not, Neg, Pair, Fst, Snd, Call, Spawn, Stable, NewChan, NewRef, Get, Set, Send, Recv, Pick, Stabilize, Cut, Pin, Print, Probe, Attempt, Section}
 use Rattle.plain_language.specs.Numbers.{fits_word}
 use Rattle.plain_language.specs.Expression.{Expr, value, form, Parts, none, part, put, put_parts, only}
+use Rattle.plain_language.specs.FewValues.{one_of, two_values_of}
 use Rattle.plain_language.specs.Table.{Act, spawns, makes_chan, makes_ref, gets, sets, sends, receives, picks, enters, stabilizes, cuts, pins, prints, probes, attempts}
 
 -- the redex becomes an expression, the whole expression fails, or the redex is an act
@@ -19,14 +20,21 @@ pub data Outcome : Type 0 where
   fails : Fault → Outcome
   acts : Act Expr → Outcome
 
+-- the operands, where they are there
+abbrev pub on_one : Option Datum → (Datum → Outcome) → Outcome
+on_one (Some v) k = k v
+on_one None k = fails WrongKind
+
+abbrev pub on_two : Option (Datum × Datum) → (Datum → Datum → Outcome) → Outcome
+on_two (Some both) k = k both.0 both.1
+on_two None k = fails WrongKind
+
 -- so many values, of these kinds; another number of values, or one of another kind, is WrongKind
 abbrev pub with_one : List Datum → (Datum → Outcome) → Outcome
-with_one (v ∷ []) k = k v
-with_one _ k = fails WrongKind
+with_one vs k = on_one (one_of vs) k
 
 abbrev pub with_two : List Datum → (Datum → Datum → Outcome) → Outcome
-with_two (v ∷ w ∷ []) k = k v w
-with_two _ k = fails WrongKind
+with_two vs k = on_two (two_values_of vs) k
 
 abbrev pub with_truth : Datum → (Bool → Outcome) → Outcome
 with_truth (truth b) k = k b

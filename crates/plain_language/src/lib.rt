@@ -31,7 +31,6 @@ pub use laws::{
     text_of_a_state,
 };
 pub use look::{ActKind, Look, MAX_SPINE};
-pub use operators::{negated, number_of, operate};
+pub use operators::{as_truth, negation, operator, opposite};
 pub use play::PlayFault;
-pub use pure::as_truth;
 pub use state::PlainState;

@@ -1,15 +1,26 @@
-//! What an operator makes of two values.
-ghost use Rattle.std.specs.Prelude.{◌≡◌, ◌+ℤ◌, ◌-ℤ◌, ◌*ℤ◌, int_div, int_rem, pos, Option, Some, None, SomeIff, FitsSigned, if◌then◌else◌};
+//! What an operator makes of its operands.
+ghost use Rattle.std.specs.Prelude.{◌≡◌, ◌+ℤ◌, ◌-ℤ◌, ◌*ℤ◌, int_div, int_rem, not, option_map, pos, Option, Some, None, SomeIff, FitsSigned, if◌then◌else◌};
+ghost use Rattle.std.specs.Option.{option_copied};
 ghost use Rattle.std.specs.Int.{w64};
 ghost use Rattle.stab_base.specs.Datum.{int};
-ghost use Rattle.plain_language.specs.Operands.{number_of, outcome_of};
-ghost use Rattle.plain_language.specs.Outcome.{by_operator, divided, number};
+ghost use Rattle.plain_language.specs.Operands.{number_of, outcome_of, truth_of};
+ghost use Rattle.plain_language.specs.Outcome.{by_operator, divided, number, on_one, on_two, truth_value, with_number, with_truth};
 
 use stab_base::{Fault, Shape, Value};
 use stab_code::Op;
 
+/// The truth value that a value is, if it is one.
+pub fn as_truth(v: &Value) -> Option<bool>
+    ensures { result ≡ truth_of v.now }
+{
+    match v.shape() {
+        Shape::Truth(b) => Some(*b),
+        _ => None,
+    }
+}
+
 /// The number that a value is, if it is one.
-pub fn number_of(v: &Value) -> Option<i64>
+fn number_of(v: &Value) -> Option<i64>
     ensures { result ≡ number_of v.now }
 {
     match v.shape() {
@@ -74,7 +85,7 @@ fn between(op: Op, m: i64, n: i64) -> Result<Value, Fault>
 }
 
 /// What an operator other than `&&` and `||` makes of two values.
-pub fn operate(op: Op, v: &Value, w: &Value) -> Result<Value, Fault>
+fn operate(op: Op, v: &Value, w: &Value) -> Result<Value, Fault>
     ensures { outcome_of result ≡ by_operator op v.now w.now }
 {
     match op {
@@ -87,9 +98,31 @@ pub fn operate(op: Op, v: &Value, w: &Value) -> Result<Value, Fault>
     }
 }
 
-/// The negation of a number, which overflows at the least.
-pub fn negated(n: i64) -> Result<Value, Fault>
-    ensures { outcome_of result ≡ number (pos 0 -ℤ n) }
+/// What an operator other than `&&` and `||` makes of its operands, if there are two.
+#[inline(always)]
+pub fn operator(op: Op, both: Option<(&Value, &Value)>) -> Result<Value, Fault>
+    ensures { outcome_of result ≡ on_two (option_map (λ p. (p.0.now, p.1.now)) both.entry) (by_operator op) }
 {
+    match both {
+        Some((v, w)) => operate(op, v, w),
+        None => Err(Fault::WrongKind),
+    }
+}
+
+/// The negation of a truth value, if there is one.
+pub fn opposite(operand: Option<&Value>) -> Result<Value, Fault>
+    ensures { outcome_of result ≡ on_one (option_copied operand.entry) (λ v. with_truth v (λ b. truth_value (not b))) }
+{
+    let v = operand.ok_or(Fault::WrongKind)?;
+    let holds = as_truth(v).ok_or(Fault::WrongKind)?;
+    Ok(Value::truth(!holds))
+}
+
+/// The negation of a number, if there is one. It overflows at the least.
+pub fn negation(operand: Option<&Value>) -> Result<Value, Fault>
+    ensures { outcome_of result ≡ on_one (option_copied operand.entry) (λ v. with_number v (λ n. number (pos 0 -ℤ n))) }
+{
+    let v = operand.ok_or(Fault::WrongKind)?;
+    let n = number_of(v).ok_or(Fault::WrongKind)?;
     difference(0, n)
 }

@@ -1,9 +1,9 @@
 //! What a redex that isn't an act makes.
-ghost use Rattle.std.specs.Prelude.{◌≡◌, ◌&&◌, nat_eq, length, option_and_then, pos, ◌-ℤ◌, not, false, true, None, IfOk, if◌then◌else◌};
+ghost use Rattle.std.specs.Prelude.{◌≡◌, ◌&&◌, nat_eq, length, option_and_then, false, true, None, IfOk, if◌then◌else◌};
 ghost use Rattle.plain_language.specs.Busy.{busy_at, counted, values_in, waiting_parts};
 ghost use Rattle.plain_language.specs.Expression.{value, parts_of, put_parts};
 ghost use Rattle.plain_language.specs.Operands.{one_of, outcome_of, truth_of};
-ghost use Rattle.plain_language.specs.Outcome.{outcome, after_item, block_of, branch_of, becomes, fails, by_operator, number, pair_of, truth_value, two_of, waiting_one, with_number, with_one, with_pair, with_truth, with_two};
+ghost use Rattle.plain_language.specs.Outcome.{outcome, after_item, block_of, branch_of, becomes, fails, pair_of, two_of, waiting_one, with_one, with_pair, with_truth, with_two};
 ghost use Rattle.plain_language.specs.Given.{given_to};
 ghost use Rattle.stab_base.specs.declared.fault.Fault.TheVariants.{WrongKind};
 ghost use Rattle.stab_code.specs.declared.head.Op.TheVariants.{Or, And};
@@ -18,8 +18,8 @@ use crate::expr::{Expr, put_copies};
 use crate::given::Given;
 use crate::head::Head;
 use crate::instead::left;
-use crate::operators::{negated, number_of, operate};
-use stab_base::{Fault, NoMemory, PairFault, Shape, Value};
+use crate::operators::{as_truth, negation, operator, opposite};
+use stab_base::{Fault, NoMemory, PairFault, Value};
 use stab_code::{Op, Program, Slots};
 use std::alloc::Global;
 
@@ -35,16 +35,6 @@ pub(crate) enum Pure {
 pub(crate) enum Next {
     Makes(Pure),
     Passes(Slots),
-}
-
-/// The truth value that a value is, if it is one.
-pub fn as_truth(v: &Value) -> Option<bool>
-    ensures { result ≡ truth_of v.now }
-{
-    match v.shape() {
-        Shape::Truth(b) => Some(*b),
-        _ => None,
-    }
 }
 
 fn made(answer: Result<Value, Fault>) -> Pure
@@ -147,45 +137,6 @@ fn either(alloc: Global, parts: &[Expr]) -> Result<Pure, NoMemory>
     }
 }
 
-/// The step of an operator that looks at both sides.
-fn operator(op: Op, parts: &[Expr]) -> Pure
-    requires { busy_at false parts.now ≡ None }
-    ensures { made_of result ≡ with_two (values_in parts.now) (by_operator op) }
-{
-    match two(parts) {
-        Some((v, w)) => made(operate(op, v, w)),
-        None => wrong_kind(),
-    }
-}
-
-/// The negation of a truth value.
-fn opposite(parts: &[Expr]) -> Pure
-    requires { busy_at false parts.now ≡ None }
-    ensures { made_of result ≡ with_one (values_in parts.now) (λ v. with_truth v (λ b. truth_value (not b))) }
-{
-    let Some(v) = one(parts) else {
-        return wrong_kind();
-    };
-    match as_truth(v) {
-        Some(b) => made(Ok(Value::truth(!b))),
-        None => wrong_kind(),
-    }
-}
-
-/// The negation of a number.
-fn negation(parts: &[Expr]) -> Pure
-    requires { busy_at false parts.now ≡ None }
-    ensures { made_of result ≡ with_one (values_in parts.now) (λ v. with_number v (λ n. number (pos 0 -ℤ n))) }
-{
-    let Some(v) = one(parts) else {
-        return wrong_kind();
-    };
-    match number_of(v) {
-        Some(n) => made(negated(n)),
-        None => wrong_kind(),
-    }
-}
-
 /// A pair, where it is within the limits.
 fn pair(alloc: Global, parts: &[Expr]) -> Result<Pure, NoMemory>
     requires { busy_at false parts.now ≡ None }
@@ -243,9 +194,9 @@ pub(crate) fn next_at(
         Head::If => Ok(Next::Makes(branch(alloc, parts)?)),
         Head::Two(Op::And) => Ok(Next::Makes(both(alloc, parts)?)),
         Head::Two(Op::Or) => Ok(Next::Makes(either(alloc, parts)?)),
-        Head::Two(op) => Ok(Next::Makes(operator(*op, parts))),
-        Head::Not => Ok(Next::Makes(opposite(parts))),
-        Head::Neg => Ok(Next::Makes(negation(parts))),
+        Head::Two(op) => Ok(Next::Makes(made(operator(*op, two(parts))))),
+        Head::Not => Ok(Next::Makes(made(opposite(one(parts))))),
+        Head::Neg => Ok(Next::Makes(made(negation(one(parts))))),
         Head::Pair => Ok(Next::Makes(pair(alloc, parts)?)),
         Head::Fst => Ok(Next::Makes(part_of(parts, false)?)),
         Head::Snd => Ok(Next::Makes(part_of(parts, true)?)),

@@ -1,16 +1,16 @@
 //! What a form makes of the values of its parts.
-ghost use Rattle.std.specs.Prelude.{◌≡◌, ◌-ℤ◌, ℕ, [], None, pos, not, option_and_then, option_map, IfOk, IfSome, if◌then◌else◌};
+ghost use Rattle.std.specs.Prelude.{◌≡◌, ℕ, [], None, option_and_then, option_map, IfOk, IfSome, if◌then◌else◌};
 ghost use Rattle.std.specs.Option.{option_copied};
 ghost use Rattle.plain_language.specs.Acts.{told};
 ghost use Rattle.plain_language.specs.Expression.{Expr, Parts, value};
 ghost use Rattle.plain_language.specs.Operands.{one_of, outcome_of, truth_of, two_values_of};
-ghost use Rattle.plain_language.specs.Outcome.{becomes, by_operator, number, outcome, pair_of, truth_value, with_number, with_one, with_pair, with_truth, with_two};
+ghost use Rattle.plain_language.specs.Outcome.{becomes, outcome, pair_of, with_one, with_pair, with_two};
 ghost use Rattle.step_eval.specs.Fits.{GivesValue};
 ghost use Rattle.step_eval.specs.Meaning.{head_of, left_of};
 
-use plain_language::{as_truth, negated, number_of, operate};
+use plain_language::{as_truth, negation, operator, opposite};
 use stab_base::{Fault, NoMemory, PairFault, Value};
-use stab_code::{Head, Op};
+use stab_code::Head;
 use std::alloc::Global;
 
 /// The only value.
@@ -65,43 +65,6 @@ pub(crate) fn condition(values: &[Value]) -> Option<bool>
     as_truth(one(values)?)
 }
 
-/// What an operator that looks at both sides makes.
-#[inline(always)]
-fn operator(op: Op, values: &[Value]) -> Result<Value, Fault>
-    ensures { outcome_of result ≡ with_two values.now (by_operator op) }
-{
-    match two(values) {
-        Some((v, w)) => operate(op, v, w),
-        None => Err(Fault::WrongKind),
-    }
-}
-
-/// The negation of a truth value.
-fn opposite(values: &[Value]) -> Result<Value, Fault>
-    ensures { outcome_of result ≡ with_one values.now (λ v. with_truth v (λ b. truth_value (not b))) }
-{
-    let Some(v) = one(values) else {
-        return Err(Fault::WrongKind);
-    };
-    match as_truth(v) {
-        Some(b) => Ok(Value::truth(!b)),
-        None => Err(Fault::WrongKind),
-    }
-}
-
-/// The negation of a number.
-fn negation(values: &[Value]) -> Result<Value, Fault>
-    ensures { outcome_of result ≡ with_one values.now (λ v. with_number v (λ n. number (pos 0 -ℤ n))) }
-{
-    let Some(v) = one(values) else {
-        return Err(Fault::WrongKind);
-    };
-    match number_of(v) {
-        Some(n) => negated(n),
-        None => Err(Fault::WrongKind),
-    }
-}
-
 /// A pair, where it is within the limits.
 fn pair(alloc: Global, values: &mut Vec<Value>) -> Result<Result<Value, Fault>, NoMemory>
     ensures { IfOk result (λ r. outcome_of r ≡ with_two values.old.items pair_of) }
@@ -142,9 +105,9 @@ pub(crate) fn made(
         IfOk result (λ r. outcome_of r ≡ outcome body (head_of (left_of from head.now)) values.old.items rest) }
 {
     match head {
-        Head::Two(op) => Ok(operator(*op, values.as_slice())),
-        Head::Not => Ok(opposite(values.as_slice())),
-        Head::Neg => Ok(negation(values.as_slice())),
+        Head::Two(op) => Ok(operator(*op, two(values.as_slice()))),
+        Head::Not => Ok(opposite(one(values.as_slice()))),
+        Head::Neg => Ok(negation(one(values.as_slice()))),
         Head::Pair => pair(alloc, values),
         Head::Fst => part_of(values, false),
         Head::Snd => part_of(values, true),
