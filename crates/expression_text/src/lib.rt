@@ -11,4 +11,4 @@ pub use laws::texts_read_back;
 pub use reading::read;
 pub use shaping::has_shape;
 pub use word::Word;
-pub use writing::{put_expr, put_value};
+pub use writing::{put_expr, put_value_words};

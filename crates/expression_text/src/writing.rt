@@ -15,7 +15,7 @@ pub fn put_expr(out: &mut Vec<u8>, e: &Expr) -> Result<(), NoMemory>
     ensures { OnOk result (out.new.items ≡ out.old.items ++ words_text (spell e.now)) }
 {
     if let Some(v) = e.as_value() {
-        return put_value(out, v);
+        return put_value_words(out, v);
     }
     if let Some(slot) = e.as_variable() {
         return put_numbered(out, b"v", slot);
@@ -44,7 +44,7 @@ fn put_parts(out: &mut Vec<u8>, items: &[Option<u32>], parts: &[Expr]) -> Result
 }
 
 /// Writes a value, each word behind a blank. Where memory is missing, part of it may have been added.
-pub fn put_value(out: &mut Vec<u8>, v: &Value) -> Result<(), NoMemory>
+pub fn put_value_words(out: &mut Vec<u8>, v: &Value) -> Result<(), NoMemory>
     ensures { OnOk result (out.new.items ≡ out.old.items ++ words_text (spell_value v.now)) }
 {
     match v.shape() {
@@ -58,8 +58,8 @@ pub fn put_value(out: &mut Vec<u8>, v: &Value) -> Result<(), NoMemory>
         Shape::Pair(_depth, _leaves, parts) => {
             let parts: &PairParts = parts;
             put_name(out, b"p")?;
-            put_value(out, &parts.first)?;
-            put_value(out, &parts.second)
+            put_value_words(out, &parts.first)?;
+            put_value_words(out, &parts.second)
         }
     }
 }

@@ -3,7 +3,7 @@ use Rattle.std.specs.Prelude.{ℕ, ◌&&◌, ◌||◌, ◌==◌, Bool, true, fal
 use Rattle.stab_base.specs.Datum.{Datum}
 use Rattle.plain_language.specs.Depth.{max_expr_depth}
 use Rattle.plain_language.specs.Expression.{Expr}
-use Rattle.plain_language.specs.Given.{value_of}
+use Rattle.plain_language.specs.Given.{as_value}
 use Rattle.text_lines.specs.Table.{named_in}
 use Rattle.image_text.specs.declared.fault.LineFault.{LineFault}
 use Rattle.image_text.specs.declared.fault.LineFault.TheVariants.{BadLine, BadNumber}
@@ -45,7 +45,7 @@ or_bad_line (Some v) = Ok v
 or_bad_line None = Err BadLine
 
 abbrev pub value_only : Expr → Result Datum LineFault
-value_only e = or_bad_line (value_of e)
+value_only e = or_bad_line (as_value e)
 
 abbrev pub value_read : Result Expr LineFault → Result Datum LineFault
 value_read (Ok e) = value_only e

@@ -12,7 +12,7 @@ use Rattle.image_lines.specs.declared.line.Line.TheVariants.{Chan, Ref, Out, Thr
 use Rattle.image_state.specs.declared.named.Named.{Named}
 use Rattle.image_state.specs.Held.{AreNamed}
 use Rattle.image_state.specs.Named.{is_channel, is_reference, lines_in}
-use Rattle.image_state.specs.Parts.{Parts, channel_of, generation_of, output_of, parts_of, reference_of, thread_of, with_line}
+use Rattle.image_state.specs.Parts.{Parts, channel_of, generation_of, output_of, parts_from, reference_of, thread_of, with_line}
 
 pub lines_more : (ls : List (ℕ × Line)) (l : ℕ × Line) → lines_in (ls ++ l ∷ []) ≡ lines_in ls ++ l.1 ∷ []
 lines_more ls l = map-append (λ (x : ℕ × Line). x.1) ls (l ∷ [])
@@ -62,19 +62,19 @@ same_parts p q c r o t g =
     ∙ ap (λ xs. let z : Parts = record q { threads = xs; generations = p.generations } in z) t
     ∙ ap (λ xs. let z : Parts = record q { generations = xs } in z) g
 
-said_both : (ls ms : List Line) → parts_of (ls ++ ms) ≡ joined (parts_of ls) (parts_of ms)
+said_both : (ls ms : List Line) → parts_from (ls ++ ms) ≡ joined (parts_from ls) (parts_from ms)
 said_both ls ms =
-    same_parts (parts_of (ls ++ ms)) (joined (parts_of ls) (parts_of ms)) (filter_map-append channel_of ls ms) (filter_map-append reference_of ls ms) (filter_map-append output_of ls ms)
+    same_parts (parts_from (ls ++ ms)) (joined (parts_from ls) (parts_from ms)) (filter_map-append channel_of ls ms) (filter_map-append reference_of ls ms) (filter_map-append output_of ls ms)
     (filter_map-append thread_of ls ms) (filter_map-append generation_of ls ms)
 
-said_one : (p : Parts) (l : Line) → joined p (parts_of (l ∷ [])) ≡ with_line p l
+said_one : (p : Parts) (l : Line) → joined p (parts_from (l ∷ [])) ≡ with_line p l
 said_one p (Chan c) = same_parts _ (with_line p (Chan c)) refl (append-nil p.references) (append-nil p.output) (append-nil p.threads) (append-nil p.generations)
 said_one p (Ref r v) = same_parts _ (with_line p (Ref r v)) (append-nil p.channels) refl (append-nil p.output) (append-nil p.threads) (append-nil p.generations)
 said_one p (Out v) = same_parts _ (with_line p (Out v)) (append-nil p.channels) (append-nil p.references) refl (append-nil p.threads) (append-nil p.generations)
 said_one p (Thread t g e) = same_parts _ (with_line p (Thread t g e)) (append-nil p.channels) (append-nil p.references) (append-nil p.output) refl refl
 said_one p End = same_parts _ p (append-nil p.channels) (append-nil p.references) (append-nil p.output) (append-nil p.threads) (append-nil p.generations)
 
-pub said_more : (ls : List (ℕ × Line)) (at : ℕ) (l : Line) (old new : Parts) → old ≡ parts_of (lines_in ls) → new ≡ with_line old l → new ≡ parts_of (lines_in (ls ++ (at, l) ∷ []))
+pub said_more : (ls : List (ℕ × Line)) (at : ℕ) (l : Line) (old new : Parts) → old ≡ parts_from (lines_in ls) → new ≡ with_line old l → new ≡ parts_from (lines_in (ls ++ (at, l) ∷ []))
 said_more ls at l old new so_far more =
     more ∙ ap (λ (p : Parts). with_line p l) so_far
-    ∙ sym (ap parts_of (lines_more ls (at, l)) ∙ said_both (lines_in ls) (l ∷ []) ∙ said_one (parts_of (lines_in ls)) l)
+    ∙ sym (ap parts_from (lines_more ls (at, l)) ∙ said_both (lines_in ls) (l ∷ []) ∙ said_one (parts_from (lines_in ls)) l)

@@ -25,7 +25,7 @@ use Rattle.image_lines.specs.declared.line.Line.TheVariants.{Chan, Ref, Out, Thr
 use Rattle.image_lines.specs.LineText.{IsLine}
 use Rattle.image_state.specs.Fits.{Bounds}
 use Rattle.image_state.specs.Named.{is_channel, is_reference, named_by}
-use Rattle.image_state.specs.Parts.{Parts, channel_of, generation_of, output_of, parts_of, reference_of, thread_of}
+use Rattle.image_state.specs.Parts.{Parts, channel_of, generation_of, output_of, parts_from, reference_of, thread_of}
 use Rattle.image_state.specs.Sound.{AreSound, IsBelow, state_from}
 use Rattle.image_state.specs.Stands.{thread_stands}
 use Rattle.image_state.specs.State.{AreOfState, bounds}
@@ -37,7 +37,7 @@ use Rattle.image_state.proofs.Rises.{rising}
 
 module _ (p : ProgramParts) (next : Next) (ls : List Line) where
   abbrev state : PlainState
-  state = state_from (parts_of ls)
+  state = state_from (parts_from ls)
 
   abbrev known : Known
   known = named_by next.cut ls
@@ -139,7 +139,7 @@ module _ (p : ProgramParts) (next : Next) (ls : List Line) where
   there_so None h = absurd (false≢true h)
   there_so (Some x) h = (x, refl)
 
-  pub parts_are_sound : AreOfState p next ls → AreSound next (parts_of ls)
+  pub parts_are_sound : AreOfState p next ls → AreSound next (parts_from ls)
   parts_are_sound h =
       let right = are_lines ls h.right in
       let fits = fit_alone (bounds p next ls) None ls h.fit in

@@ -36,8 +36,8 @@ pub record Parts : Type 0 where
   pub threads : List (ThreadId × Expr)
   pub generations : List (ℕ × ℕ)
 
-abbrev pub parts_of : List Line → Parts
-parts_of ls = record {
+abbrev pub parts_from : List Line → Parts
+parts_from ls = record {
   channels = filter_map channel_of ls;
   references = filter_map reference_of ls;
   output = filter_map output_of ls;

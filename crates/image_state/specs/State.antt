@@ -17,7 +17,7 @@ use Rattle.image_lines.specs.Body.{Body, read_lines}
 use Rattle.image_lines.specs.BodyText.{AreLines, body_text}
 use Rattle.image_state.specs.Fits.{Bounds, Fit, first_fault}
 use Rattle.image_state.specs.Named.{lines_in, named_by}
-use Rattle.image_state.specs.Parts.{Parts, parts_of}
+use Rattle.image_state.specs.Parts.{Parts, parts_from}
 
 -- what lines are tested by: all lines, also those further down, say which channels and references are there
 abbrev pub bounds : ProgramParts → Next → List Line → Bounds
@@ -33,7 +33,7 @@ pub record IsStateOf (p : ProgramParts) (next : Next) (bytes : List ℕ) (parts 
   pub lines : List Line
   pub bytes_are : bytes ≡ body_text lines
   pub are_state : AreOfState p next lines
-  pub parts_are : parts ≡ parts_of lines
+  pub parts_are : parts ≡ parts_from lines
 
 -- the function or the text of a word is the program's
 abbrev pub is_word_of : ProgramParts → Word → Bool
@@ -79,7 +79,7 @@ by_faults p start bytes None None parts = Ok parts
 
 abbrev pub state_by : ProgramParts → Next → ℕ → List ℕ → Body → Result Parts TextFault
 state_by p next start bytes b =
-    by_faults p start bytes (first_fault (bounds p next (lines_in b.lines)) None b.lines) b.fault (parts_of (lines_in b.lines))
+    by_faults p start bytes (first_fault (bounds p next (lines_in b.lines)) None b.lines) b.fault (parts_from (lines_in b.lines))
 
 -- what the bytes of a state, of which the first has this place, say
 abbrev pub state_in : ProgramParts → Next → ℕ → List ℕ → Result Parts TextFault

@@ -2,7 +2,7 @@
 ghost use Rattle.std.specs.Prelude.{◌≡◌, ◌++◌, ◌∷◌, [], IfOk, OnOk};
 ghost use Rattle.image_state.specs.Held.{held_parts};
 ghost use Rattle.image_state.specs.Named.{lines_in};
-ghost use Rattle.image_state.specs.Parts.{parts_of, with_line};
+ghost use Rattle.image_state.specs.Parts.{parts_from, with_line};
 
 use image_lines::Line;
 use plain_language::Expr;
@@ -23,7 +23,7 @@ pub struct Parts {
 impl Parts {
     /// What these lines say.
     pub(crate) fn of(alloc: Global, lines: Vec<(u64, Line)>) -> Result<Parts, NoMemory>
-        ensures { IfOk result (λ p. held_parts p ≡ parts_of (lines_in lines.items)) }
+        ensures { IfOk result (λ p. held_parts p ≡ parts_from (lines_in lines.items)) }
     {
         let mut parts = Parts {
             channels: Vec::new(alloc),

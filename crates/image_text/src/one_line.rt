@@ -4,7 +4,7 @@ ghost use Rattle.expression_text.specs.Spelling.{spell};
 ghost use Rattle.expression_text.specs.WordText.{spaced, words_text};
 ghost use Rattle.image_text.specs.ImageText.{line, long_row, number_line, output_line, reference_line, row};
 
-use expression_text::{put_expr, put_value};
+use expression_text::{put_expr, put_value_words};
 use itoa::Buffer;
 use plain_language::Expr;
 use stab_base::{NoMemory, Value};
@@ -61,7 +61,7 @@ pub(crate) fn put_reference(out: &mut Vec<u8>, r: u32, v: &Value) -> Result<(), 
     ensures { OnOk result (out.new.items ≡ out.old.items ++ reference_line (r, v.now)) }
 {
     put_named(out, b"ref", u64::from(r))?;
-    put_value(out, v)?;
+    put_value_words(out, v)?;
     put(out, b"\n")
 }
 
@@ -70,7 +70,7 @@ pub(crate) fn put_printed(out: &mut Vec<u8>, v: &Value) -> Result<(), NoMemory>
     ensures { OnOk result (out.new.items ≡ out.old.items ++ output_line v.now) }
 {
     put(out, b"out")?;
-    put_value(out, v)?;
+    put_value_words(out, v)?;
     put(out, b"\n")
 }
 

@@ -13,7 +13,7 @@ use Rattle.stab_code.specs.Nodes.{node_of, id}
 use Rattle.stab_code.specs.Program.{FunctionParts, function_of, arity_of, body_of, bodies_of}
 use Rattle.stab_code.specs.Syntax.{deepest, depth_from, depth_of, lets_of, open_in}
 use Rattle.stab_code.specs.Trees.{Tree, Trees, none, more, fold_all}
-use Rattle.stab_code.specs.Valid.{HasItem, IsValid, parts_of}
+use Rattle.stab_code.specs.Valid.{HasItem, IsValid, head_parts}
 use Rattle.stab_code.specs.Written.{unit_type}
 use Rattle.stab_code.specs.EachForm.{AllForms, AllFormsIn, count_of}
 use Rattle.stab_code.proofs.AllForms.{HoldsOf, nodes_of_all-forms}
@@ -117,7 +117,7 @@ sums-are-valid k some few =
     let size : length (sums_printed k).nodes ≡ 4 * k + 2 = omega (arith, length-nodes_of_all 0 (more (printing k) none), size-prints k (more (leaf Unit) none)) in
     record {
       nodes_in_order = laid_out-order (sums_printed k) (more (printing k) none) refl (bodies k);
-      parts_fit = forms-of-all (λ head parts. parts_of fs head ≡ Some parts) (refl, ((refl, ((refl, tt), ((refl, tt), tt))), tt)) refl k
+      parts_fit = forms-of-all (λ head parts. head_parts fs head ≡ Some parts) (refl, ((refl, ((refl, tt), ((refl, tt), tt))), tt)) refl k
           (ap Some (omega (arith, length-replicate {A = Option ℕ} k None, count-prints k)));
       texts_there = forms-of-all (λ head parts. IfSome (text_of head) (λ text. text.0 < 0)) (tt, ((tt, ((tt, tt), ((tt, tt), tt))), tt)) tt k tt;
       blocks_have_items = forms-of-all (λ head parts. HasItem head) (tt, ((tt, ((tt, tt), ((tt, tt), tt))), tt)) tt k (omega (arith, length-replicate {A = Option ℕ} k None));

@@ -7,7 +7,7 @@ use Rattle.plain_language.specs.declared.given.Given.TheVariants.{Nothing}
 use Rattle.plain_language.specs.declared.head.Head.TheVariants.{Block}
 use Rattle.plain_language.specs.Expression.{Expr, value, variable, failed, form, Parts, none, part, parts_of, put}
 use Rattle.plain_language.specs.Busy.{values_in, waiting_parts}
-use Rattle.plain_language.specs.Given.{given_to, value_of}
+use Rattle.plain_language.specs.Given.{given_to, as_value}
 use Rattle.plain_language.specs.Operands.{one_of, truth_of}
 use Rattle.plain_language.specs.Pures.{left_of_block}
 use Rattle.plain_language.specs.Outcome.{Outcome, becomes, fails, with_one, with_truth, after_item, block_of, branch_of, waiting_one}
@@ -82,7 +82,7 @@ left_items (s ∷ slots) ps b is h = refl
 item_by : (w v : Datum) (slot : Option ℕ) (left : List (Option ℕ)) (rest : List Expr) → w ≡ v → with_one (values_in (take 1 (value w ∷ rest))) (λ u. after_item (slot ∷ left) u (parts_of rest)) ≡ after_item (slot ∷ left) v (parts_of rest)
 item_by w v slot left rest same = ap (λ u. after_item (slot ∷ left) u (parts_of rest)) same
 
-pub item_is : (es rest : List Expr) (first : Expr) (v : Datum) (slots left : List (Option ℕ)) (slot : Option ℕ) → es ≡ first ∷ rest → Some v ≡ value_of first → slots ≡ slot ∷ left →
+pub item_is : (es rest : List Expr) (first : Expr) (v : Datum) (slots left : List (Option ℕ)) (slot : Option ℕ) → es ≡ first ∷ rest → Some v ≡ as_value first → slots ≡ slot ∷ left →
     after_item (slot ∷ left) v (parts_of rest) ≡ with_one (values_in (take 1 es)) (λ u. after_item slots u (waiting_parts true es))
 item_is es rest (value w) v slots left slot all is cut =
     let same : w ≡ v = cc in

@@ -7,7 +7,7 @@ use Rattle.stab_code.specs.Trees.{Tree}
 use Rattle.plain_language.specs.Expression.{Expr, value, variable, failed, form, part, parts_of}
 use Rattle.plain_language.specs.Program.{expr_of, exprs_of, body_by}
 use Rattle.plain_language.specs.Busy.{busy_at, values_in}
-use Rattle.plain_language.specs.Given.{value_of}
+use Rattle.plain_language.specs.Given.{as_value}
 
 -- the expressions of nodes are those of their trees
 pub exprs_at : (trees : List Tree) (ns : List NodeId) → parts_of (map (λ n. expr_of (tree_among trees n)) ns) ≡ exprs_of (trees_among trees ns)
@@ -22,7 +22,7 @@ mapped_none : (o : Option ℕ) → option_map suc o ≡ None → o ≡ None
 mapped_none None h = refl
 mapped_none (Some i) h = cc
 
-pub given_values : (es : List Expr) → busy_at false es ≡ None → (x : ℕ) → option_and_then value_of (slice_get es x) ≡ slice_get (values_in es) x
+pub given_values : (es : List Expr) → busy_at false es ≡ None → (x : ℕ) → option_and_then as_value (slice_get es x) ≡ slice_get (values_in es) x
 given_values [] h x = refl
 given_values (value v ∷ es) h zero = refl
 given_values (value v ∷ es) h (suc x) = given_values es (mapped_none (busy_at false es) h) x

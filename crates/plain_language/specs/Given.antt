@@ -6,12 +6,12 @@ use Rattle.plain_language.specs.declared.given.Given.TheVariants.{Nothing, One, 
 use Rattle.plain_language.specs.Expression.{Expr, value, only}
 
 -- the value that an expression is
-abbrev pub value_of : Expr → Option Datum
-value_of (value v) = Some v
-value_of _ = None
+abbrev pub as_value : Expr → Option Datum
+as_value (value v) = Some v
+as_value _ = None
 
 -- by the slot of the variable
 abbrev pub given_to : Given → ℕ → Option Datum
 given_to Nothing x = None
 given_to (One y v) x = only y v.now x
-given_to (All es) x = option_and_then value_of (slice_get es.now x)
+given_to (All es) x = option_and_then as_value (slice_get es.now x)

@@ -3,7 +3,7 @@ ghost use Rattle.std.specs.Prelude.{◌≡◌, IfOk, option_map};
 ghost use Rattle.std.specs.Option.{option_copied};
 ghost use Rattle.plain_language.specs.Busy.{is_value};
 ghost use Rattle.plain_language.specs.Forms.{fault_of, form_in, slot_of};
-ghost use Rattle.plain_language.specs.Given.{given_to, value_of};
+ghost use Rattle.plain_language.specs.Given.{given_to, as_value};
 ghost use Rattle.plain_language.specs.Expression.{value, variable, failed, form, parts_of, put, put_parts};
 
 use crate::given::Given;
@@ -91,7 +91,7 @@ impl Expr {
 
     /// The value that the expression is.
     pub fn as_value(&self) -> Option<&Value>
-        ensures { option_copied result ≡ value_of self.now }
+        ensures { option_copied result ≡ as_value self.now }
     {
         match &self.node {
             Node::Value(v) => Some(v),

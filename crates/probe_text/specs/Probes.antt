@@ -3,14 +3,14 @@ use Rattle.std.specs.Prelude.{ℕ, ◌-◌, ◌^◌, ◌==◌, ◌&&◌, nat_le,
 use Rattle.std.specs.Str.{all_ascii_digits}
 use Rattle.probe_text.specs.declared.fault.ProbesFault.{ProbesFault}
 use Rattle.probe_text.specs.declared.fault.ProbesFault.TheVariants.{Line}
-use Rattle.text_lines.specs.Digits.{value_of}
+use Rattle.text_lines.specs.Digits.{decimal_value}
 use Rattle.text_lines.specs.Lines.{lines_of}
 
 -- the number that digits are, if there are some and it is at most this one
 abbrev pub size_in : ℕ → List ℕ → Option ℕ
 size_in most [] = None
 size_in most (d ∷ digits) =
-    if all_ascii_digits (d ∷ digits) && nat_le (value_of (d ∷ digits)) most then Some (value_of (d ∷ digits)) else None
+    if all_ascii_digits (d ∷ digits) && nat_le (decimal_value (d ∷ digits)) most then Some (decimal_value (d ∷ digits)) else None
 
 -- the number of 64 signed bits that bytes are: digits, with or without a minus before them
 abbrev pub number_of : List ℕ → Option ℤ

@@ -15,7 +15,7 @@ use Rattle.stab_code.specs.Layout.{size_of as tree_size, size_of_all}
 use Rattle.stab_code.specs.Program.{FunctionParts}
 use Rattle.stab_code.specs.Syntax.{deepest, depth_from, depth_of, lets_from, lets_of, left_open, one_or_none, open_from, open_in, with_own}
 use Rattle.stab_code.specs.Trees.{Tree, Trees, tree, none, more}
-use Rattle.stab_code.specs.Valid.{HasItem, parts_of}
+use Rattle.stab_code.specs.Valid.{HasItem, head_parts}
 use Rattle.stab_code.specs.EachForm.{AllForms, AllFormsIn}
 use Rattle.stab_parse.specs.declared.symbol.Span.{Span}
 use Rattle.stab_parse.specs.declared.tree.Function.{Function}
@@ -144,7 +144,7 @@ module _ (fs : List Function) (arity : ℕ) where
 
   -- a form whose parts are complete
   finish : (seen : List Variable) (met : Met) (at : ℕ) (h : Head) (parts : Parts) (own : Met) (d : Behind) (head : Code) → PartsFacts (items_of h) seen own parts d → own.lets ≡ met.lets → Grew met.texts own.texts
-      → AreSame (slots_of head) (reverse d.slots) → ((functions : List FunctionParts) → Agree fs functions → parts_of functions head ≡ Some (number_of parts)) → IfSome (text_of head) (λ t. t.0 < length own.texts) → HasItem head
+      → AreSame (slots_of head) (reverse d.slots) → ((functions : List FunctionParts) → Agree fs functions → head_parts functions head ≡ Some (number_of parts)) → IfSome (text_of head) (λ t. t.0 < length own.texts) → HasItem head
       → All (λ y. IsSeen y seen) (one_or_none (variable_of head)) → FormFacts seen met (form at h parts) (tree head (in_order d.trees), d.met)
   finish seen met at h parts own d head facts lets texts slots fits text item named = record {
     depth = omega (arith, facts.depth);

@@ -11,7 +11,7 @@ use Rattle.stab_code.specs.declared.head.Head.TheVariants as code
 use Rattle.stab_code.specs.Heads.{slots_of, text_of, variable_of}
 use Rattle.stab_code.specs.Program.{FunctionParts, arity_of}
 use Rattle.stab_code.specs.Syntax.{one_or_none}
-use Rattle.stab_code.specs.Valid.{HasItem, parts_of}
+use Rattle.stab_code.specs.Valid.{HasItem, head_parts}
 use Rattle.stab_parse.specs.declared.symbol.ActWord.{ActWord}
 use Rattle.stab_parse.specs.declared.symbol.ActWord.TheVariants as word
 use Rattle.stab_parse.specs.declared.symbol.CallWord.TheVariants.{Spawn, Stable}
@@ -22,7 +22,7 @@ use Rattle.stab_parse.specs.declared.tree.Head.TheVariants as head
 use Rattle.scope_check.specs.declared.fault.ScopeFault.{ScopeFault}
 use Rattle.scope_check.specs.declared.fault.ScopeFault.TheVariants.{Arity, TooMany}
 use Rattle.scope_check.specs.declared.seen.Variable.{Variable}
-use Rattle.scope_check.specs.Forms.{items_of, act_of}
+use Rattle.scope_check.specs.Forms.{items_of, act_named}
 use Rattle.scope_check.specs.Limits.{max_texts}
 use Rattle.scope_check.specs.Names.{named, text_at, slot_of, is_same}
 use Rattle.scope_check.specs.Scope.{after, Met, head_met, slot_found, callee_found, function_named, has_arity, text_numbered}
@@ -79,10 +79,10 @@ abbrev pub Agree : List Function → List FunctionParts → Type 0
 Agree fs functions = (n : ℕ) → option_map arity_of (slice_get functions n) ≡ option_map (λ f. length f.params) (slice_get fs n)
 
 abbrev pub FormFits : List FunctionParts → ℕ → Code → ℕ → Type 0
-FormFits functions texts h parts = (parts_of functions h ≡ Some parts) × IfSome (text_of h) (λ t. t.0 < texts) × HasItem h
+FormFits functions texts h parts = (head_parts functions h ≡ Some parts) × IfSome (text_of h) (λ t. t.0 < texts) × HasItem h
 
 pub record HeadFacts (fs : List Function) (seen : List Variable) (met : Met) (parts : ℕ) (own : Code × Met) : Type 0 where
-  pub fits : (functions : List FunctionParts) → Agree fs functions → parts_of functions own.0 ≡ Some parts
+  pub fits : (functions : List FunctionParts) → Agree fs functions → head_parts functions own.0 ≡ Some parts
   pub text : IfSome (text_of own.0) (λ t. t.0 < length own.1.texts)
   pub item : HasItem own.0
   pub slots : (k : ℕ) × (slots_of own.0 ≡ replicate k None)
@@ -92,13 +92,13 @@ pub record HeadFacts (fs : List Function) (seen : List Variable) (met : Met) (pa
 
 -- a head that names nothing
 record Simple (h : Code) (parts : ℕ) : Type 0 where
-  fits : (functions : List FunctionParts) → parts_of functions h ≡ Some parts
+  fits : (functions : List FunctionParts) → head_parts functions h ≡ Some parts
   text : text_of h ≡ None
   item : HasItem h
   slots : slots_of h ≡ []
   named : variable_of h ≡ None
 
-simple-act : (w : ActWord) → Simple (act_of w) (operands w)
+simple-act : (w : ActWord) → Simple (act_named w) (operands w)
 simple-act word.Ref = record { fits = λ _. refl; text = refl; item = tt; slots = refl; named = refl }
 simple-act word.Get = record { fits = λ _. refl; text = refl; item = tt; slots = refl; named = refl }
 simple-act word.Recv = record { fits = λ _. refl; text = refl; item = tt; slots = refl; named = refl }
@@ -116,7 +116,7 @@ simple-act word.Attempt = record { fits = λ _. refl; text = refl; item = tt; sl
 
 -- a head that names the function with this number
 record Calls (own : ℕ → Code) (n : ℕ) : Type 0 where
-  fits : (functions : List FunctionParts) → parts_of functions (own n) ≡ option_map arity_of (slice_get functions n)
+  fits : (functions : List FunctionParts) → head_parts functions (own n) ≡ option_map arity_of (slice_get functions n)
   text : text_of (own n) ≡ None
   item : HasItem (own n)
   slots : slots_of (own n) ≡ []
@@ -232,4 +232,4 @@ head-facts bytes fs seen met (head.Start Spawn name) parts fits e =
 head-facts bytes fs seen met (head.Start Stable name) parts fits e =
     callee-case fs seen met parts (λ f. code.Stable (record { 0 = f })) (λ n. record { fits = λ _. refl; text = refl; item = tt; slots = refl; named = refl }) name (function_named bytes fs (named bytes name))
 head-facts bytes fs seen met (head.NewChan ty) parts fits e = simple fs seen met parts (code.NewChan ty) 0 fits (record { fits = λ _. refl; text = refl; item = tt; slots = refl; named = refl })
-head-facts bytes fs seen met (head.Act w) parts fits e = simple fs seen met parts (act_of w) (operands w) fits (simple-act w)
+head-facts bytes fs seen met (head.Act w) parts fits e = simple fs seen met parts (act_named w) (operands w) fits (simple-act w)

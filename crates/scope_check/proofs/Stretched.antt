@@ -18,7 +18,7 @@ use Rattle.stab_parse.specs.FormList.{count_of, nodes_of, nodes_of_parts}
 use Rattle.stab_parse.specs.Moves.{node_of as form_node}
 use Rattle.scope_check.specs.declared.fault.ScopeFault.{ScopeFault}
 use Rattle.scope_check.specs.declared.seen.Variable.{Variable}
-use Rattle.scope_check.specs.Forms.{act_of, has_lets, items_of}
+use Rattle.scope_check.specs.Forms.{act_named, has_lets, items_of}
 use Rattle.scope_check.specs.Made.{Adds, AddsParts}
 use Rattle.scope_check.specs.Placed.{size_of_parts}
 use Rattle.scope_check.specs.Places.{IsAt, own_number, own_numbers, part_lists}
@@ -80,7 +80,7 @@ silent bytes fs kind.Pair k e = inr (code.Pair, λ seen met. refl)
 silent bytes fs (kind.Call name) k e = absurd (true≢false (sym e))
 silent bytes fs (kind.Start word name) k e = absurd (true≢false (sym e))
 silent bytes fs (kind.NewChan ty) k e = inr (code.NewChan ty, λ seen met. refl)
-silent bytes fs (kind.Act word) k e = inr (act_of word, λ seen met. refl)
+silent bytes fs (kind.Act word) k e = inr (act_named word, λ seen met. refl)
 
 -- and it is no block with lets
 pub plain-other : (h : Head) (k : ℕ) → plain_head h k ≡ true → has_lets h ≡ false

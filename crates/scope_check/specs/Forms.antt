@@ -25,18 +25,18 @@ has_lets (head.LetBlock names) = true
 has_lets _ = false
 
 -- the act of each word
-abbrev pub act_of : ActWord → Code
-act_of word.Ref = code.NewRef
-act_of word.Get = code.Get
-act_of word.Recv = code.Recv
-act_of word.Print = code.Print
-act_of word.Fst = code.Fst
-act_of word.Snd = code.Snd
-act_of word.Set = code.Set
-act_of word.Send = code.Send
-act_of word.Pick = code.Pick
-act_of word.Stabilize = code.Stabilize
-act_of word.Cut = code.Cut
-act_of word.Probe = code.Probe
-act_of word.Pin = code.Pin
-act_of word.Attempt = code.Attempt
+abbrev pub act_named : ActWord → Code
+act_named word.Ref = code.NewRef
+act_named word.Get = code.Get
+act_named word.Recv = code.Recv
+act_named word.Print = code.Print
+act_named word.Fst = code.Fst
+act_named word.Snd = code.Snd
+act_named word.Set = code.Set
+act_named word.Send = code.Send
+act_named word.Pick = code.Pick
+act_named word.Stabilize = code.Stabilize
+act_named word.Cut = code.Cut
+act_named word.Probe = code.Probe
+act_named word.Pin = code.Pin
+act_named word.Attempt = code.Attempt

@@ -18,7 +18,7 @@ use Rattle.stab_parse.specs.Grammar.{Program, no_functions, next_function}
 use Rattle.scope_check.specs.declared.fault.ScopeFault.{ScopeFault}
 use Rattle.scope_check.specs.declared.fault.ScopeFault.TheVariants.{NoMain, MainTakes, Twice, Unknown, Arity, TooMany}
 use Rattle.scope_check.specs.declared.seen.Variable.{Variable}
-use Rattle.scope_check.specs.Forms.{number_of, items_of, act_of}
+use Rattle.scope_check.specs.Forms.{number_of, items_of, act_named}
 use Rattle.scope_check.specs.Limits.{max_functions, max_params, max_lets, max_texts}
 use Rattle.scope_check.specs.Names.{named, is_same, text_at, slot_of}
 use Rattle.scope_check.specs.Seen.{params_seen}
@@ -184,7 +184,7 @@ module _ (bytes : List ℕ) where
   head_met fs seen met (head.Start Spawn name) parts = after (callee_of fs name parts) (λ f. Ok (code.Spawn (record { 0 = f }), met))
   head_met fs seen met (head.Start Stable name) parts = after (callee_of fs name parts) (λ f. Ok (code.Stable (record { 0 = f }), met))
   head_met fs seen met (head.NewChan ty) parts = Ok (code.NewChan ty, met)
-  head_met fs seen met (head.Act word) parts = Ok (act_of word, met)
+  head_met fs seen met (head.Act word) parts = Ok (act_named word, met)
 
   -- in a function that takes so many arguments
   module _ (fs : List Function) (arity : ℕ) where

@@ -1,7 +1,7 @@
 //! What a form is, apart from its parts.
 ghost use Rattle.std.specs.Prelude.{◌≡◌, ◌-◌, [], false, None, Ok, IfOk, IfErr, OnOk, replicate};
 ghost use Rattle.stab_lex.specs.Pieces.{IsText};
-ghost use Rattle.scope_check.specs.Forms.{act_of, has_lets};
+ghost use Rattle.scope_check.specs.Forms.{act_named, has_lets};
 ghost use Rattle.scope_check.specs.Names.{named, text_at};
 ghost use Rattle.scope_check.specs.Progress.{HasText, IsFaultOf, KeepsHeadsAndSeen, met_of, seen_of, texts_of};
 ghost use Rattle.scope_check.specs.Scope.{head_met, text_numbered};
@@ -92,7 +92,7 @@ impl<'a> Plan<'a> {
 
 /// The act of a word.
 fn act(word: ActWord) -> Code
-    ensures { result ≡ act_of word }
+    ensures { result ≡ act_named word }
 {
     match word {
         ActWord::Ref => Code::NewRef,

@@ -109,7 +109,7 @@ impl<T> Stack<T> {
 }
 
 // What is below an item that others share.
-fn rest_of<T>(below: &Option<Arc<Link<T>>>) -> Result<Option<Arc<Link<T>>>, AllocError>
+fn shared_below<T>(below: &Option<Arc<Link<T>>>) -> Result<Option<Arc<Link<T>>>, AllocError>
     ensures { IfOk result (λ rest. items_of rest ≡ items_of below.now) }
 {
     match below {
@@ -158,7 +158,7 @@ impl<T: Drop> Stack<T> {
                 self.count -= 1;
                 Ok(Some(Popped::Own(item)))
             }
-            Err(link) => match rest_of(&link.below) {
+            Err(link) => match shared_below(&link.below) {
                 Ok(below) => {
                     self.top = below;
                     self.count -= 1;

@@ -8,7 +8,7 @@ use crate::texts::Texts;
 use crate::value::{PairParts, Shape, Value};
 use itoa::{Buffer, Integer};
 
-pub(crate) fn put_value(v: &Value, texts: &Texts, out: &mut Vec<u8>) -> Result<(), NoMemory>
+pub(crate) fn print_value(v: &Value, texts: &Texts, out: &mut Vec<u8>) -> Result<(), NoMemory>
     ensures ok { OnOk result (out.new.items ≡ out.old.items ++ printed texts.now v.now) }
     ensures err { OnErr result (GainsPrefix out.old.items out.new.items (printed texts.now v.now)) }
 {
@@ -23,9 +23,9 @@ pub(crate) fn put_value(v: &Value, texts: &Texts, out: &mut Vec<u8>) -> Result<(
         Shape::Pair(_depth, _leaves, parts) => {
             let parts: &PairParts = parts;
             put(out, b"(")?;
-            put_value(&parts.first, texts, out)?;
+            print_value(&parts.first, texts, out)?;
             put(out, b", ")?;
-            put_value(&parts.second, texts, out)?;
+            print_value(&parts.second, texts, out)?;
             put(out, b")")
         }
     }

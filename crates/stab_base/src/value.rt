@@ -234,7 +234,7 @@ impl Value {
         ensures ok { OnOk result (out.new.items ≡ out.old.items ++ printed texts.now self.now) }
         ensures err { OnErr result (GainsPrefix out.old.items out.new.items (printed texts.now self.now)) }
     {
-        print::put_value(self, texts, out)
+        print::print_value(self, texts, out)
     }
 
     /// An equal value, which shares its parts with this one. This takes no memory; it is refused where as many share the

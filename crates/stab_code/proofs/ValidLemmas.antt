@@ -13,7 +13,7 @@ use Rattle.stab_code.specs.Nodes.{NodeParts}
 use Rattle.stab_code.specs.Program.{FunctionParts, arity_of, ProgramParts, body_of}
 use Rattle.stab_code.specs.Syntax.{one_or_none, with_own, without, left_open, lets_from, lets_of, named_from, named_in, open_from, open_in}
 use Rattle.stab_code.specs.Trees.{Tree, Trees, tree, none, more, fold_all}
-use Rattle.stab_code.specs.Valid.{BlocksHaveItems, HasItem, MainIsThere, PartsFit, SlotsAreInOrder, TextsAreThere, VariablesAreSeen, parts_of}
+use Rattle.stab_code.specs.Valid.{BlocksHaveItems, HasItem, MainIsThere, PartsFit, SlotsAreInOrder, TextsAreThere, VariablesAreSeen, head_parts}
 use Rattle.stab_code.proofs.Lists.{All-at, All-left, All-right}
 
 -- what holds of the slots that a form leaves open or lets holds of those that it names
@@ -74,11 +74,11 @@ module _ (p : ProgramParts) (in_order : SlotsAreInOrder p) (k : ℕ) (f : Functi
       let opened : All (λ slot. slot < arity_of f) (open_in (body_of p f)) = All-at (λ g. All (λ slot. slot < arity_of g) (open_in (body_of p g))) p.functions k f seen found in
       named-open-let (λ slot. slot < f.slots) (body_of p f) (All-weaker (λ slot. slot < arity_of f) (λ slot. slot < f.slots) (λ slot h. omega (arith, arity_le-slots)) (open_in (body_of p f)) opened) lets-below
 
-parts_of-callee : (functions : List FunctionParts) (head : Head) (f : FnId) → callee_of head ≡ Some f → parts_of functions head ≡ option_map arity_of (slice_get functions f.0)
-parts_of-callee functions (Call g) f e = let same : g ≡ f = cc in ap (λ h. option_map arity_of (slice_get functions h.0)) same
-parts_of-callee functions (Spawn g) f e = let same : g ≡ f = cc in ap (λ h. option_map arity_of (slice_get functions h.0)) same
-parts_of-callee functions (Stable g) f e = let same : g ≡ f = cc in ap (λ h. option_map arity_of (slice_get functions h.0)) same
-parts_of-callee functions _ f e = absurd cc
+head_parts-callee : (functions : List FunctionParts) (head : Head) (f : FnId) → callee_of head ≡ Some f → head_parts functions head ≡ option_map arity_of (slice_get functions f.0)
+head_parts-callee functions (Call g) f e = let same : g ≡ f = cc in ap (λ h. option_map arity_of (slice_get functions h.0)) same
+head_parts-callee functions (Spawn g) f e = let same : g ≡ f = cc in ap (λ h. option_map arity_of (slice_get functions h.0)) same
+head_parts-callee functions (Stable g) f e = let same : g ≡ f = cc in ap (λ h. option_map arity_of (slice_get functions h.0)) same
+head_parts-callee functions _ f e = absurd cc
 
 -- a function that is there, with so many parameters
 abbrev pub IsCallee : ProgramParts → FnId → ℕ → Type 0
@@ -89,16 +89,16 @@ with_arity p f arguments None at e = absurd cc
 with_arity p f arguments (Some callee) at e = (callee, at, cc)
 
 module _ (p : ProgramParts) (fit : PartsFit p) (n : ℕ) (node : NodeParts) (found : slice_get p.nodes n ≡ Some node) where
-  pub node-fits : parts_of p.functions node.head ≡ Some (length node.parts)
-  node-fits = All-at (λ x. parts_of p.functions x.head ≡ Some (length x.parts)) p.nodes n node fit found
+  pub node-fits : head_parts p.functions node.head ≡ Some (length node.parts)
+  node-fits = All-at (λ x. head_parts p.functions x.head ≡ Some (length x.parts)) p.nodes n node fit found
 
   -- the function that a node names is there, and the node has its arguments
   pub callee-fits : (f : FnId) → callee_of node.head ≡ Some f → IsCallee p f (length node.parts)
-  callee-fits f names = with_arity p f (length node.parts) (slice_get p.functions f.0) refl (sym (parts_of-callee p.functions node.head f names) ∙ node-fits)
+  callee-fits f names = with_arity p f (length node.parts) (slice_get p.functions f.0) refl (sym (head_parts-callee p.functions node.head f names) ∙ node-fits)
 
   -- a block has the forms of its items and a last one
   pub block-fits : (slots : List (Option ℕ)) → node.head ≡ Block slots → length node.parts ≡ length slots + 1
-  block-fits slots is = let all : parts_of p.functions (Block slots) ≡ Some (length node.parts) = subst (λ h. parts_of p.functions h ≡ Some (length node.parts)) is node-fits in cc
+  block-fits slots is = let all : head_parts p.functions (Block slots) ≡ Some (length node.parts) = subst (λ h. head_parts p.functions h ≡ Some (length node.parts)) is node-fits in cc
 
 -- a block has an item
 pub block-items : (p : ProgramParts) → BlocksHaveItems p → (n : ℕ) (node : NodeParts) → slice_get p.nodes n ≡ Some node → (slots : List (Option ℕ)) → node.head ≡ Block slots → 0 < length slots

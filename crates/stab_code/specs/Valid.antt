@@ -15,30 +15,30 @@ pub record NodesAreInOrder (p : ProgramParts) : Type 0 where
   pub bodies : own_nodes 0 (trees_at p (bodies_of p)) ≡ bodies_of p
 
 -- how many parts a head has: a call, a spawn and a stable section as many as a function of the program takes
-abbrev pub parts_of : List FunctionParts → Head → Option ℕ
-parts_of functions (Block slots) = Some (length slots + 1)
-parts_of functions (Call f) = option_map arity_of (slice_get functions f.0)
-parts_of functions (Spawn f) = option_map arity_of (slice_get functions f.0)
-parts_of functions (Stable f) = option_map arity_of (slice_get functions f.0)
-parts_of functions If = Some 3
-parts_of functions (Two op) = Some 2
-parts_of functions Pair = Some 2
-parts_of functions Set = Some 2
-parts_of functions Send = Some 2
-parts_of functions Pick = Some 2
-parts_of functions Not = Some 1
-parts_of functions Neg = Some 1
-parts_of functions Fst = Some 1
-parts_of functions Snd = Some 1
-parts_of functions NewRef = Some 1
-parts_of functions Get = Some 1
-parts_of functions Recv = Some 1
-parts_of functions Print = Some 1
-parts_of functions _ = Some 0
+abbrev pub head_parts : List FunctionParts → Head → Option ℕ
+head_parts functions (Block slots) = Some (length slots + 1)
+head_parts functions (Call f) = option_map arity_of (slice_get functions f.0)
+head_parts functions (Spawn f) = option_map arity_of (slice_get functions f.0)
+head_parts functions (Stable f) = option_map arity_of (slice_get functions f.0)
+head_parts functions If = Some 3
+head_parts functions (Two op) = Some 2
+head_parts functions Pair = Some 2
+head_parts functions Set = Some 2
+head_parts functions Send = Some 2
+head_parts functions Pick = Some 2
+head_parts functions Not = Some 1
+head_parts functions Neg = Some 1
+head_parts functions Fst = Some 1
+head_parts functions Snd = Some 1
+head_parts functions NewRef = Some 1
+head_parts functions Get = Some 1
+head_parts functions Recv = Some 1
+head_parts functions Print = Some 1
+head_parts functions _ = Some 0
 
 -- each node has as many parts as its head, so each function that one names is there
 abbrev pub PartsFit : ProgramParts → Type 0
-PartsFit p = All (λ node. parts_of p.functions node.head ≡ Some (length node.parts)) p.nodes
+PartsFit p = All (λ node. head_parts p.functions node.head ≡ Some (length node.parts)) p.nodes
 
 -- each text that a node names is there
 abbrev pub TextsAreThere : ProgramParts → Type 0

@@ -16,7 +16,7 @@ ghost use Rattle.stab_code.specs.Nodes.{NodeParts};
 ghost use Rattle.stab_code.specs.Program.{FunctionParts, ProgramParts, arity_of, bodies_of, body_of, tree_at, trees_at, trees_of};
 ghost use Rattle.stab_code.specs.Syntax.{depth_from, depth_of, lets_from, lets_of, named_from, named_in, open_from, open_in};
 ghost use Rattle.stab_code.specs.Trees.{Trees, fold, tree};
-ghost use Rattle.stab_code.specs.Valid.{IsValid, NodesAreInOrder, parts_of};
+ghost use Rattle.stab_code.specs.Valid.{IsValid, NodesAreInOrder, head_parts};
 ghost use Rattle.stab_code.specs.Walk.{values_of};
 
 /// The constants are the limits of the definitions.
@@ -93,5 +93,5 @@ pub fn functions_fit()
 /// Of a valid program each form of a function's body has as many parts as its head asks for.
 pub fn forms_fit()
     ensures { (p : ProgramParts) → IsValid p → (k : ℕ) (f : FunctionParts) → slice_get p.functions k ≡ Some f
-        → AllForms (λ head parts. parts_of p.functions head ≡ Some parts) (body_of p f) }
+        → AllForms (λ head parts. head_parts p.functions head ≡ Some parts) (body_of p f) }
 {}

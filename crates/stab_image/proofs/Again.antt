@@ -21,7 +21,7 @@ use Rattle.plain_language.specs.Plain.{PlainState}
 use Rattle.image_laws.specs.Image.{Image, generation_at}
 use Rattle.image_text.specs.Rising.{those}
 use Rattle.image_lines.specs.declared.line.Line.{Line}
-use Rattle.image_state.specs.Parts.{channel_of, generation_of, output_of, parts_of, reference_of, thread_of}
+use Rattle.image_state.specs.Parts.{channel_of, generation_of, output_of, parts_from, reference_of, thread_of}
 use Rattle.image_state.specs.Sound.{state_from}
 use Rattle.image_state.proofs.Listed.{from_entries-entries}
 use Rattle.stab_image.specs.Read.{image_with}
@@ -211,8 +211,8 @@ module _ (i : Image) where
         ap (λ (x : FinMap nat_cmp Expr). Made x r c o g) e1 ∙ ap (λ (x : FinMap nat_cmp Datum). Made u x c o g) e2 ∙ ap (λ (x : FinSet nat_cmp). Made u s x o g) e3
         ∙ ap (λ (x : List Datum). Made u s d x g) e4 ∙ ap (λ (x : FinMap nat_cmp ℕ). Made u s d p x) e5
 
-    pub image_again : (at : ℕ) (rest : List ℕ) → image_with i.text i.program (record { script = i.script; used = i.used; next = next_of i; at = at; rest = rest }) (parts_of (lines_of i)) ≡ i
+    pub image_again : (at : ℕ) (rest : List ℕ) → image_with i.text i.program (record { script = i.script; used = i.used; next = next_of i; at = at; rest = rest }) (parts_from (lines_of i)) ≡ i
     image_again at rest =
-        let s : PlainState = state_from (parts_of (lines_of i)) in
+        let s : PlainState = state_from (parts_from (lines_of i)) in
         five s.threads i.state.threads s.references i.state.references s.channels i.state.channels s.output i.state.output
         (from_entries (filter_map generation_of (lines_of i))) i.generations threads_again references_again channels_again output_said generations_again

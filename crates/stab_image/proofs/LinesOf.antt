@@ -21,7 +21,7 @@ use Rattle.image_lines.specs.declared.line.Line.{Line}
 use Rattle.image_lines.specs.declared.line.Line.TheVariants.{Chan, Ref, Out, Thread, End}
 use Rattle.image_lines.specs.LineText.{IsLine}
 use Rattle.image_state.specs.Order.{AreOrdered}
-use Rattle.image_state.specs.Parts.{channel_of, generation_of, output_of, parts_of, reference_of}
+use Rattle.image_state.specs.Parts.{channel_of, generation_of, output_of, parts_from, reference_of}
 use Rattle.image_state.specs.Sound.{AreSound}
 use Rattle.image_state.specs.State.{AreOfState, bounds}
 use Rattle.image_state.proofs.Entries.{channel_entry, channels_keyed, generations_keyed, reference_entry, references_are, references_keyed, thread_entry, threads_are, threads_keyed}
@@ -106,7 +106,7 @@ four a b c d w x y z p q r s =
 
 module _ (text : List ℕ) (p : ProgramParts) (c : Counts) (ls : List Line) (h : AreOfState p c.next ls) where
   abbrev image : Image
-  image = image_with text p c (parts_of ls)
+  image = image_with text p c (parts_from ls)
 
   right : AllByRecursion IsLine ls
   right = are_lines ls h.right
@@ -114,7 +114,7 @@ module _ (text : List ℕ) (p : ProgramParts) (c : Counts) (ls : List Line) (h :
   ordered : AreOrdered None ls
   ordered = fit_ordered (bounds p c.next ls) None ls h.fit
 
-  sound : AreSound c.next (parts_of ls)
+  sound : AreSound c.next (parts_from ls)
   sound = parts_are_sound p c.next ls h
 
   among : (k : ℕ) → list_any (λ y. nat_eq y k) (each (λ (d : ChanId). d.0) (filter_map channel_of ls)) ≡ set.contains image.state.channels k

@@ -14,7 +14,7 @@ use Rattle.image_lines.specs.Opening.{program_in}
 use Rattle.image_lines.specs.OpeningText.{opening}
 use Rattle.image_lines.proofs.CountsLaws.{counts_back, counts_was}
 use Rattle.image_lines.proofs.OpeningLaws.{program_back, program_was}
-use Rattle.image_state.specs.Parts.{parts_of}
+use Rattle.image_state.specs.Parts.{parts_from}
 use Rattle.image_state.specs.State.{AreOfState, state_in}
 use Rattle.image_state.proofs.Sounding.{parts_are_sound}
 use Rattle.image_state.proofs.StateLaws.{state_back, state_was}
@@ -36,7 +36,7 @@ image_is i j h = cc
 -- an image that lines made
 module _ (text : List ℕ) (p : ProgramParts) (c : Counts) (ls : List Line) (is_text : IsTextOf text p) (small : IsLength (length text)) (counts : AreCounts c) (state : AreOfState p c.next ls) (rest : c.rest ≡ body_text ls) where
   abbrev made : Image
-  made = image_with text p c (parts_of ls)
+  made = image_with text p c (parts_from ls)
 
   lines_are : lines_of made ≡ ls
   lines_are = same_lines text p c ls state
@@ -71,7 +71,7 @@ behind_was text at rest i small of =
         | (Ok q) ↦ λ held e.
             let were = counts_was at rest c counted in
             let was = state_was p c.next c.at c.rest q held in
-            let same : image_with text p c (parts_of was.lines) ≡ i = ap (image_with text p c) (sym was.parts_are) ∙ sym (image_is i (image_with text p c q) e) in
+            let same : image_with text p c (parts_from was.lines) ≡ i = ap (image_with text p c) (sym was.parts_are) ∙ sym (image_is i (image_with text p c q) e) in
             subst (IsImageText (opening text rest)) same (record {
               bytes_are = ap (opening text) were.bytes_are ∙ made_text text p c was.lines of.is_text small were.right was.are_state was.bytes_are;
               right = made_right text p c was.lines of.is_text small were.right was.are_state was.bytes_are;

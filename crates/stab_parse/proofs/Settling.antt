@@ -10,7 +10,7 @@ use Rattle.stab_parse.specs.declared.frame.Taker.{Taker}
 use Rattle.stab_parse.specs.declared.reader.Reader.{Reader}
 use Rattle.stab_parse.specs.Frames.{top_of, below_top}
 use Rattle.stab_parse.specs.Moves.{Settled, settled, SettleStep, settle_step, settle_top, popped, whole_expr, join_top, joined}
-use Rattle.stab_parse.specs.Takes.{is_operator, taker_of, taken, left_of}
+use Rattle.stab_parse.specs.Takes.{is_operator, taker_of, taken, left_side}
 
 -- an expression that no operator stands before
 whole_alone : (fs : List Frame) (s : Seen) (r : Reader) → is_operator (top_of fs) ≡ false → settled s (record r { frames = fs }) ≡ whole_expr s (record r { frames = fs })
@@ -48,7 +48,7 @@ abbrev after_left : Option Left → Seen → Reader → Settled
 after_left (Some l) s r = joined l.op l.seen s (popped r)
 after_left None s r = settled s r
 
-left_joins : (l : Level) (fs : List Frame) (s : Seen) (r : Reader) → after_left (left_of l (top_of fs)) s (record r { frames = fs }) ≡ join_top l (top_of fs) s (record r { frames = below_top fs })
+left_joins : (l : Level) (fs : List Frame) (s : Seen) (r : Reader) → after_left (left_side l (top_of fs)) s (record r { frames = fs }) ≡ join_top l (top_of fs) s (record r { frames = below_top fs })
 left_joins level.Product [] s r = refl
 left_joins level.Product (frame.Operator level.Product o x ∷ fs) s r = refl
 left_joins level.Product (frame.Operator level.Sum o x ∷ fs) s r = refl
@@ -85,9 +85,9 @@ left_joins level.Or (frame.Operator level.And o x ∷ fs) s r = refl
 left_joins level.Or (frame.Operator level.Or o x ∷ fs) s r = refl
 left_joins level.Or (f ∷ fs) s r = refl
 
-pub joins : (l : Level) (x : Left) (s whole : Seen) (r after : Reader) → left_of l (top_of r.frames) ≡ Some x → settled whole after ≡ joined x.op x.seen s (popped r)
+pub joins : (l : Level) (x : Left) (s whole : Seen) (r after : Reader) → left_side l (top_of r.frames) ≡ Some x → settled whole after ≡ joined x.op x.seen s (popped r)
     → settled whole after ≡ join_top l (top_of r.frames) s (popped r)
 joins l x s whole r after e h = h ∙ ap (λ y. after_left y s r) (sym e) ∙ left_joins l r.frames s r
 
-pub joins_none : (l : Level) (s : Seen) (r : Reader) → left_of l (top_of r.frames) ≡ None → settled s r ≡ join_top l (top_of r.frames) s (popped r)
+pub joins_none : (l : Level) (s : Seen) (r : Reader) → left_side l (top_of r.frames) ≡ None → settled s r ≡ join_top l (top_of r.frames) s (popped r)
 joins_none l s r e = ap (λ y. after_left y s r) (sym e) ∙ left_joins l r.frames s r

@@ -26,12 +26,12 @@ taken (taker.Negate at) s r = settled (seen_at at (deeper (alone s.depth))) (for
 taken (taker.Product l) s r = joined l.op l.seen s r
 
 -- an operator of a level, with what stands left of it
-abbrev pub left_of : Level → Option Frame → Option Left
-left_of Sum (Some (frame.Operator Sum o left)) = Some (record { op = o; seen = left })
-left_of Relation (Some (frame.Operator Relation o left)) = Some (record { op = o; seen = left })
-left_of And (Some (frame.Operator And o left)) = Some (record { op = o; seen = left })
-left_of Or (Some (frame.Operator Or o left)) = Some (record { op = o; seen = left })
-left_of _ _ = None
+abbrev pub left_side : Level → Option Frame → Option Left
+left_side Sum (Some (frame.Operator Sum o left)) = Some (record { op = o; seen = left })
+left_side Relation (Some (frame.Operator Relation o left)) = Some (record { op = o; seen = left })
+left_side And (Some (frame.Operator And o left)) = Some (record { op = o; seen = left })
+left_side Or (Some (frame.Operator Or o left)) = Some (record { op = o; seen = left })
+left_side _ _ = None
 
 -- what stands right of an operator goes into one of the same level
 abbrev pub takes_right : Level → Option Frame → Bool

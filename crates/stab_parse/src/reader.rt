@@ -2,7 +2,7 @@
 ghost use Rattle.std.specs.Prelude.{◌≡◌, IfOk, Some};
 ghost use Rattle.stab_parse.specs.Frames.{top_of};
 ghost use Rattle.std.specs.Option.{option_copied};
-ghost use Rattle.stab_parse.specs.Takes.{is_operator, left_of, taken, taker_of, takes_if, takes_right};
+ghost use Rattle.stab_parse.specs.Takes.{is_operator, left_side, taken, taker_of, takes_if, takes_right};
 ghost use Rattle.stab_parse.specs.Moves.{alone, both, complete, deeper, else_frame, else_top, formed, if_step, join_top, joined, least_with, more, noted, popped, seen_at, settle, settle_if, settle_step, settle_top, settled};
 
 use crate::frame::{Frame, Left, Level, Seen, Stack, Taker};
@@ -79,8 +79,8 @@ fn taker_of(top: Option<&Frame>) -> Option<Taker>
 }
 
 /// The operator of the frame with its left side, if it is of this level, below products.
-fn left_of(level: Level, top: Option<&Frame>) -> Option<Left>
-    ensures { result ≡ left_of level (option_copied top.entry) }
+fn left_side(level: Level, top: Option<&Frame>) -> Option<Left>
+    ensures { result ≡ left_side level (option_copied top.entry) }
 {
     match (level, top) {
         (Level::Sum, Some(Frame::Operator(Level::Sum, op, left))) => Some(Left {
@@ -240,7 +240,7 @@ impl Reader {
         ensures ok { IfOk result (λ whole. settled whole self.new
             ≡ join_top level (top_of self.old.frames) seen (popped self.old)) }
     {
-        let Some(left) = left_of(level, self.frames.top()) else {
+        let Some(left) = left_side(level, self.frames.top()) else {
             return Ok(seen);
         };
         let _operator = self.frames.pop();

@@ -12,7 +12,7 @@ use Rattle.stab_code.specs.Heads.{slots_of, strict_parts}
 use Rattle.stab_code.specs.Program.{FunctionParts, ProgramParts, arity_of, body_of}
 use Rattle.stab_code.specs.Syntax.{lets_of, lets_from, with_own}
 use Rattle.stab_code.specs.Trees.{Tree, Trees, tree, none, more, fold_all}
-use Rattle.stab_code.specs.Valid.{IsValid, parts_of}
+use Rattle.stab_code.specs.Valid.{IsValid, head_parts}
 use Rattle.stab_code.specs.Written.{Written, unit_type, bool_type, int_type, text_type}
 use Rattle.stab_code.proofs.Lists.{All-at}
 use Rattle.plain_language.specs.Outcome.{called}
@@ -27,7 +27,7 @@ use Rattle.stab_types.proofs.Rising.{Rises, rises_left, rises_right, rises_behin
 
 -- each form of a body has as many parts as its head asks for
 abbrev pub HasParts : List FunctionParts → code.Head → ℕ → Type 0
-HasParts functions h n = parts_of functions h ≡ Some n
+HasParts functions h n = head_parts functions h ≡ Some n
 
 abbrev pub FormsFit : ProgramParts → Type 0
 FormsFit p = (k : ℕ) (f : FunctionParts) → slice_get p.functions k ≡ Some f → AllForms (HasParts p.functions) (body_of p f)

@@ -15,7 +15,7 @@ use Rattle.stab_code.specs.Limits.{max_form_depth}
 use Rattle.stab_code.specs.Program.{FunctionParts, ProgramParts, arity_of, body_of, tree_among, trees_among, trees_of}
 use Rattle.stab_code.specs.Syntax.{depth_from, depth_of, deepest, left_open, one_or_none, open_from, open_in, without}
 use Rattle.stab_code.specs.Trees.{Tree, Trees, tree, none as no_trees, more, fold_all}
-use Rattle.stab_code.specs.Valid.{HasItem, IsValid, parts_of}
+use Rattle.stab_code.specs.Valid.{HasItem, IsValid, head_parts}
 use Rattle.stab_code.proofs.AllForms.{HoldsOf, forms-bodies}
 use Rattle.stab_code.proofs.InOrder.{size_of_bodies}
 use Rattle.stab_code.proofs.Lists.{All-at}
@@ -91,7 +91,7 @@ behind bound (Some x) ys all = behind_let bound x ys all
 
 -- what each node of the program has
 record IsNode (p : ProgramParts) (h : code.Head) (n : ℕ) : Type 0 where
-  parts : parts_of p.functions h ≡ Some n
+  parts : head_parts p.functions h ≡ Some n
   item : HasItem h
   text : IfSome (text_of h) (λ t. t.0 < length p.texts)
   numbers : HasNumbers h

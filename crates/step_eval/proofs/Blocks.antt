@@ -8,7 +8,7 @@ use Rattle.stab_code.specs.declared.node_id.NodeId.{NodeId}
 use Rattle.stab_code.specs.Heads.{slots_of}
 use Rattle.stab_code.specs.Program.{ProgramParts, tree_at, trees_at}
 use Rattle.stab_code.specs.Trees.{Tree, Trees, tree, none, more}
-use Rattle.stab_code.specs.Valid.{IsValid, parts_of}
+use Rattle.stab_code.specs.Valid.{IsValid, head_parts}
 use Rattle.plain_language.specs.declared.head.Head.TheVariants as head
 use Rattle.plain_language.specs.Expression.{Parts, form, put, put_parts}
 use Rattle.plain_language.specs.Outcome.{becomes, after_item, block_of, with_one}
@@ -16,7 +16,7 @@ use Rattle.plain_language.specs.Program.{expr_of, exprs_of}
 use Rattle.step_eval.specs.declared.site.Site.TheVariants.{Form}
 use Rattle.step_eval.specs.FrameView.{FrameView}
 use Rattle.step_eval.specs.Fits.{FormFits, IsLeft}
-use Rattle.step_eval.specs.Meaning.{at_form, form_at, head_of, left_of, node_at, behind_values}
+use Rattle.step_eval.specs.Meaning.{at_form, form_at, head_of, head_left, node_at, behind_values}
 use Rattle.step_eval.specs.Ready.{IsSettled}
 use Rattle.step_eval.specs.Scoped.{IsScoped}
 use Rattle.step_eval.specs.Turns.{IsBound, turn_at}
@@ -55,7 +55,7 @@ module _ (p : ProgramParts) (valid : IsValid p) (n : NodeId) (from : ℕ) (here 
 
   pub long : length (node_at p n).parts ≡ length slots + 1
   long =
-      let all : parts_of p.functions (Block slots) ≡ Some (length (node_at p n).parts) = ap (parts_of p.functions) (sym is) ∙ part_count p valid n fits.there in
+      let all : head_parts p.functions (Block slots) ≡ Some (length (node_at p n).parts) = ap (head_parts p.functions) (sym is) ∙ part_count p valid n fits.there in
       cc
 
   one : length here.done ≡ 1
@@ -80,7 +80,7 @@ module _ (p : ProgramParts) (valid : IsValid p) (n : NodeId) (from : ℕ) (here 
   all-scoped =
       let P : List (Option ℕ) → Type 0 = λ (os : List (Option ℕ)). AreScoped (length here.env) os (more (tree_at p item) behind) in
       let Q : List NodeId → Type 0 = λ (ns : List NodeId). AreScoped (length here.env) (drop from slots) (trees_at p ns) in
-      let R : code.Head → Type 0 = λ (h : code.Head). AreScoped (length here.env) (slots_of (left_of from h)) (trees_at p (drop from (node_at p n).parts)) in
+      let R : code.Head → Type 0 = λ (h : code.Head). AreScoped (length here.env) (slots_of (head_left from h)) (trees_at p (drop from (node_at p n).parts)) in
       subst P cut (subst Q cut_parts (subst R is (left-scoped p valid n from (length here.env) fits)))
 
   pub slot-is-ahead : IfSome slot (λ x. length here.env ≤ x)
@@ -137,14 +137,14 @@ module _ (p : ProgramParts) (valid : IsValid p) (n : NodeId) (from : ℕ) (here 
           ∙ own-some own (put_parts (slice_get after) (exprs_of behind)) (omega (arith, length-drop (suc from) slots))
           ∙ ap (λ j. becomes (form (head.Block (drop j slots)) (put_parts (slice_get after) (exprs_of behind)))) k
           ∙ ap (λ j. becomes (form (head.Block (drop (from + 1) slots)) (put_parts (slice_get after) (exprs_of (trees_at p (drop j (node_at p n).parts)))))) m
-          ∙ sym (ap (λ h. becomes (form (head_of (left_of (from + 1) h)) (put_parts (slice_get after) (exprs_of (trees_at p (drop (from + 1 + 0) (node_at p n).parts)))))) is)
+          ∙ sym (ap (λ h. becomes (form (head_of (head_left (from + 1) h)) (put_parts (slice_get after) (exprs_of (trees_at p (drop (from + 1 + 0) (node_at p n).parts)))))) is)
 
       pub fits-more : FormFits p n (from + 1) (length after)
       fits-more =
           let k : suc from ≡ from + 1 = omega arith in
           let P : ℕ → Type 0 = λ (j : ℕ). AreScoped (length after) (drop j slots) (trees_at p (drop j (node_at p n).parts)) in
           let s : AreScoped (length after) (drop (from + 1) slots) (trees_at p (drop (from + 1) (node_at p n).parts)) = subst P k behind-scoped in
-          let Q : code.Head → Type 0 = λ (h : code.Head). IsScoped (length after) (tree (left_of (from + 1) h) (trees_at p (drop (from + 1) (node_at p n).parts))) in
+          let Q : code.Head → Type 0 = λ (h : code.Head). IsScoped (length after) (tree (head_left (from + 1) h) (trees_at p (drop (from + 1) (node_at p n).parts))) in
           let L : code.Head → Type 0 = λ (h : code.Head). IsLeft h (from + 1) in
           record {
             there = fits.there;

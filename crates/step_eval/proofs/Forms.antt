@@ -13,7 +13,7 @@ use Rattle.plain_language.specs.Program.{expr_of, exprs_of, form_of}
 use Rattle.step_eval.specs.Meaning.{node_at, head_of, form_at, at_start}
 use Rattle.step_eval.specs.Fits.{IsForm, IsLeft, FormFits}
 use Rattle.step_eval.specs.Scoped.{IsScoped}
-use Rattle.step_eval.proofs.Nodes.{tree_is, tree_left-zero, left_of-zero}
+use Rattle.step_eval.proofs.Nodes.{tree_is, tree_left-zero, head_left-zero}
 
 -- a form that is no literal and no variable is itself
 pub form_of-head : (h : code.Head) (ps : Parts) → IsForm h → form_of h ps ≡ form (head_of h) ps
@@ -37,7 +37,7 @@ module _ (p : ProgramParts) (valid : IsValid p) (n : NodeId) (there : n.0 < leng
   pub form-start : (env : List Datum) → IsForm (node_at p n).head → put (slice_get env) (expr_of (tree_at p n)) ≡ form_at p (at_start n env)
   form-start env is =
       ap (put (slice_get env)) (expr_is ∙ form_of-head (node_at p n).head _ is)
-      ∙ ap (λ h. form (head_of h) (put_parts (slice_get env) (exprs_of (trees_at p (node_at p n).parts)))) (sym (left_of-zero (node_at p n).head))
+      ∙ ap (λ h. form (head_of h) (put_parts (slice_get env) (exprs_of (trees_at p (node_at p n).parts)))) (sym (head_left-zero (node_at p n).head))
 
   -- what a leaf is
   pub leaf-value : (env : List Datum) (v : Datum) → ((ps : Parts) → form_of (node_at p n).head ps ≡ value v) → put (slice_get env) (expr_of (tree_at p n)) ≡ value v

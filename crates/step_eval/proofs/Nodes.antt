@@ -8,15 +8,15 @@ use Rattle.stab_code.specs.declared.node_id.NodeId.{NodeId}
 use Rattle.stab_code.specs.Nodes.{NodeParts, node_of}
 use Rattle.stab_code.specs.Program.{ProgramParts, tree_at, trees_at}
 use Rattle.stab_code.specs.Trees.{tree}
-use Rattle.stab_code.specs.Valid.{IsValid, parts_of}
+use Rattle.stab_code.specs.Valid.{IsValid, head_parts}
 use Rattle.stab_code.proofs.InOrder as order
 use Rattle.stab_code.proofs.Lists.{All-at}
-use Rattle.step_eval.specs.Meaning.{node_at, left_of}
+use Rattle.step_eval.specs.Meaning.{node_at, head_left}
 use Rattle.step_eval.specs.Fits.{tree_left}
 
-pub left_of-zero : (h : Head) → left_of 0 h ≡ h
-left_of-zero (Block slots) = refl
-left_of-zero _ = refl
+pub head_left-zero : (h : Head) → head_left 0 h ≡ h
+head_left-zero (Block slots) = refl
+head_left-zero _ = refl
 
 pub node_there : (p : ProgramParts) (n : NodeId) → n.0 < length p.nodes → slice_get p.nodes n.0 ≡ Some (node_at p n)
 node_there p n h =
@@ -28,13 +28,13 @@ module _ (p : ProgramParts) (valid : IsValid p) (n : NodeId) (there : n.0 < leng
   tree_is = order.node_tree p valid.nodes_in_order n (node_at p n) (node_there p n there)
 
   pub tree_left-zero : tree_left p n 0 ≡ tree_at p n
-  tree_left-zero = ap (λ h. tree h (trees_at p (node_at p n).parts)) (left_of-zero (node_at p n).head) ∙ sym tree_is
+  tree_left-zero = ap (λ h. tree h (trees_at p (node_at p n).parts)) (head_left-zero (node_at p n).head) ∙ sym tree_is
 
   pub part_below : (k : ℕ) (q : NodeId) → slice_get (node_at p n).parts k ≡ Some q → q.0 < n.0
   part_below k q e = All-at (λ part. part.0 < n.0) (node_at p n).parts k q (order.parts_below p valid.nodes_in_order n.0 (node_at p n) (node_there p n there)) e
 
-  pub part_count : parts_of p.functions (node_at p n).head ≡ Some (length (node_at p n).parts)
-  part_count = All-at (λ node. parts_of p.functions node.head ≡ Some (length node.parts)) p.nodes n.0 (node_at p n) valid.parts_fit (node_there p n there)
+  pub part_count : head_parts p.functions (node_at p n).head ≡ Some (length (node_at p n).parts)
+  part_count = All-at (λ node. head_parts p.functions node.head ≡ Some (length node.parts)) p.nodes n.0 (node_at p n) valid.parts_fit (node_there p n there)
 
 -- an entry that is there
 pub is-some : {A : Type 0} (xs : List A) (k : ℕ) (o : Option A) → k < length xs → o ≡ slice_get xs k → IsSome o

@@ -26,7 +26,7 @@ use Rattle.step_eval.specs.declared.site.Site.TheVariants.{Form, Section}
 use Rattle.step_eval.specs.ControlView.{Fits, RedexIsFound, focus_expr, focus_view, view_of}
 use Rattle.step_eval.specs.Fits.{FramesFit, IsMarkAt, outside}
 use Rattle.step_eval.specs.FrameView.{FrameView}
-use Rattle.step_eval.specs.Meaning.{form_at, frame_at, head_at, head_of, left_of, node_at, behind_values, strict_at, waiting_at, within_forms}
+use Rattle.step_eval.specs.Meaning.{form_at, frame_at, head_at, head_of, head_left, node_at, behind_values, strict_at, waiting_at, within_forms}
 use Rattle.step_eval.specs.Ready.{IsSettled}
 use Rattle.step_eval.specs.View.{here_of, round_of}
 
@@ -41,14 +41,14 @@ dropped (x ∷ xs) zero h = absurd (omega arith)
 dropped (x ∷ xs) (suc k) h = dropped xs k (omega arith)
 
 -- where the first part counts alone, one counts; else all do
-alone_head : (h : code.Head) (from parts : ℕ) → first_counts_alone (head_of (left_of from h)) ≡ true → strict_parts h parts ≡ 1
+alone_head : (h : code.Head) (from parts : ℕ) → first_counts_alone (head_of (head_left from h)) ≡ true → strict_parts h parts ≡ 1
 alone_head (Block slots) from parts e = refl
 alone_head If from parts e = refl
 alone_head (Two Or) from parts e = refl
 alone_head (Two And) from parts e = refl
 alone_head _ from parts e = cc
 
-all_head : (h : code.Head) (from parts : ℕ) → first_counts_alone (head_of (left_of from h)) ≡ false → strict_parts h parts ≡ parts
+all_head : (h : code.Head) (from parts : ℕ) → first_counts_alone (head_of (head_left from h)) ≡ false → strict_parts h parts ≡ parts
 all_head (Block slots) from parts e = cc
 all_head If from parts e = cc
 all_head (Two Or) from parts e = cc
@@ -97,7 +97,7 @@ module _ (p : ProgramParts) where
       (λ e. settled.all ∙ alone h.site e)
       (λ e. ap (put_parts (slice_get h.env)) (rest-none h.site (length h.done) e settled.all))
 
-  no_section : (h : code.Head) (from : ℕ) (outer : Option ℕ) → section_or (head_of (left_of from h)) outer ≡ outer
+  no_section : (h : code.Head) (from : ℕ) (outer : Option ℕ) → section_or (head_of (head_left from h)) outer ≡ outer
   no_section (Block slots) from outer = refl
   no_section _ from outer = refl
 

@@ -9,7 +9,7 @@ use Rattle.stab_code.specs.declared.node_id.NodeId.{NodeId}
 use Rattle.stab_code.specs.Heads.{slots_of, strict_parts}
 use Rattle.stab_code.specs.Nodes.{NodeParts}
 use Rattle.stab_code.specs.Program.{FunctionParts, ProgramParts, tree_at, trees_at}
-use Rattle.stab_code.specs.Valid.{IsValid, HasItem, parts_of}
+use Rattle.stab_code.specs.Valid.{IsValid, HasItem, head_parts}
 use Rattle.stab_code.proofs.Lists.{All-at}
 use Rattle.plain_language.specs.Expression.{value, Parts, part, put}
 use Rattle.plain_language.specs.Program.{expr_of}
@@ -18,7 +18,7 @@ use Rattle.step_eval.specs.declared.site.Site.{Site}
 use Rattle.step_eval.specs.declared.site.Site.TheVariants.{Form}
 use Rattle.step_eval.specs.FrameView.{FrameView}
 use Rattle.step_eval.specs.Fits.{FormFits, IsLeft, SiteFits}
-use Rattle.step_eval.specs.Meaning.{at_form, at_start, form_at, frame_at, left_of, node_at, strict_at, with_value, within_forms}
+use Rattle.step_eval.specs.Meaning.{at_form, at_start, form_at, frame_at, head_left, node_at, strict_at, with_value, within_forms}
 use Rattle.step_eval.specs.Ready.{IsLeaf, IsNext, IsNextPart, IsStepping}
 use Rattle.step_eval.specs.Scoped.{IsScoped}
 use Rattle.step_eval.proofs.Forms.{form-start, fits-start}
@@ -41,7 +41,7 @@ slice_get-drop (x ∷ xs) (suc from) k zero e = absurd (omega arith)
 slice_get-drop (x ∷ xs) (suc from) k (suc m) e = slice_get-drop xs from k m (omega arith)
 
 -- where the parts that count are
-pub strict-there : (functions : List FunctionParts) (h : Head) (from k count : ℕ) → parts_of functions h ≡ Some count → IsLeft h from → k < strict_parts h count → from + k < count
+pub strict-there : (functions : List FunctionParts) (h : Head) (from k count : ℕ) → head_parts functions h ≡ Some count → IsLeft h from → k < strict_parts h count → from + k < count
 strict-there functions (Block slots) from k count is left few = let n : length slots + 1 ≡ count = cc in omega arith
 strict-there functions If from k count is left few = let n : 3 ≡ count = cc in omega arith
 strict-there functions (Two Or) from k count is left few = let n : 2 ≡ count = cc in omega arith
@@ -49,7 +49,7 @@ strict-there functions (Two And) from k count is left few = let n : 2 ≡ count 
 strict-there functions _ from k count is left few = omega arith
 
 -- only a block has lost parts, or has lets, and of it the first that is left counts alone
-no-lets : (h : Head) (from k count : ℕ) (P : Type 0) → IsLeft h from → k < strict_parts h count → (slots_of (left_of from h) ≡ [] → from ≡ 0 → P) → (k ≡ 0 → P) → P
+no-lets : (h : Head) (from k count : ℕ) (P : Type 0) → IsLeft h from → k < strict_parts h count → (slots_of (head_left from h) ≡ [] → from ≡ 0 → P) → (k ≡ 0 → P) → P
 no-lets (Block slots) from k count P left few other first = first (omega arith)
 no-lets _ from k count P left few other first = other refl left
 
@@ -61,8 +61,8 @@ module _ (p : ProgramParts) (valid : IsValid p) where
   pub part-there : (n : NodeId) (from size k : ℕ) → FormFits p n from size → k < strict_at p (Form n from) → from + k < length (node_at p n).parts
   part-there n from size k fits few = strict-there p.functions (node_at p n).head from k (length (node_at p n).parts) (part_count p valid n fits.there) fits.left few
 
-  pub left-scoped : (n : NodeId) (from size : ℕ) → FormFits p n from size → AreScoped size (slots_of (left_of from (node_at p n).head)) (trees_at p (drop from (node_at p n).parts))
-  left-scoped n from size fits = parts-scoped size (left_of from (node_at p n).head) (trees_at p (drop from (node_at p n).parts)) fits.scoped
+  pub left-scoped : (n : NodeId) (from size : ℕ) → FormFits p n from size → AreScoped size (slots_of (head_left from (node_at p n).head)) (trees_at p (drop from (node_at p n).parts))
+  left-scoped n from size fits = parts-scoped size (head_left from (node_at p n).head) (trees_at p (drop from (node_at p n).parts)) fits.scoped
 
   first-of : (size : ℕ) (own : List (Option ℕ)) (ns : List NodeId) (q : NodeId) → AreScoped size own (trees_at p ns) → slice_get ns 0 ≡ Some q → IsScoped size (tree_at p q)
   first-of size own [] q s e = cc
@@ -73,7 +73,7 @@ module _ (p : ProgramParts) (valid : IsValid p) where
   -- a part that counts has its variables among the values of the form's
   pub part-seen : (n : NodeId) (from size k : ℕ) (q : NodeId) → FormFits p n from size → k < strict_at p (Form n from) → slice_get (node_at p n).parts (from + k) ≡ Some q → IsScoped size (tree_at p q)
   part-seen n from size k q fits few found =
-      let own : List (Option ℕ) = slots_of (left_of from (node_at p n).head) in
+      let own : List (Option ℕ) = slots_of (head_left from (node_at p n).head) in
       let left : List NodeId = drop from (node_at p n).parts in
       let at : slice_get left k ≡ Some q = slice_get-drop (node_at p n).parts from k (from + k) refl ∙ found in
       let all : AreScoped size own (trees_at p left) = left-scoped n from size fits in
@@ -85,10 +85,10 @@ module _ (p : ProgramParts) (valid : IsValid p) where
   begins-left n there = block-begins (node_at p n).head (All-at (λ node. HasItem node.head) p.nodes n.0 (node_at p n) valid.blocks_have_items (node_there p n there))
 
   -- and so has any part of a form without lets
-  pub any-part : (n : NodeId) (size k : ℕ) (q : NodeId) (h : Head) → FormFits p n 0 size → (node_at p n).head ≡ h → slots_of (left_of 0 h) ≡ [] → slice_get (node_at p n).parts k ≡ Some q → IsScoped size (tree_at p q)
+  pub any-part : (n : NodeId) (size k : ℕ) (q : NodeId) (h : Head) → FormFits p n 0 size → (node_at p n).head ≡ h → slots_of (head_left 0 h) ≡ [] → slice_get (node_at p n).parts k ≡ Some q → IsScoped size (tree_at p q)
   any-part n size k q h fits is none found =
       let left : List NodeId = drop 0 (node_at p n).parts in
-      let P : Head → Type 0 = λ (g : Head). AreScoped size (slots_of (left_of 0 g)) (trees_at p left) in
+      let P : Head → Type 0 = λ (g : Head). AreScoped size (slots_of (head_left 0 g)) (trees_at p left) in
       let Q : List (Option ℕ) → Type 0 = λ (os : List (Option ℕ)). AreScoped size os (trees_at p left) in
       part-scoped p size left k q (subst Q none (subst P is (left-scoped n 0 size fits))) (slice_get-drop (node_at p n).parts 0 k k (omega arith) ∙ found)
 

@@ -9,7 +9,7 @@ use Rattle.stab_code.specs.declared.head.Op.TheVariants.{Or, And}
 use Rattle.stab_code.specs.declared.node_id.NodeId.{NodeId}
 use Rattle.stab_code.specs.Heads.{strict_parts}
 use Rattle.stab_code.specs.Program.{FunctionParts, ProgramParts, arity_of, tree_at, trees_at}
-use Rattle.stab_code.specs.Valid.{IsValid, parts_of}
+use Rattle.stab_code.specs.Valid.{IsValid, head_parts}
 use Rattle.plain_language.specs.Expression.{part, none, put, put_parts}
 use Rattle.plain_language.specs.Operands.{one_of, truth_of}
 use Rattle.plain_language.specs.Outcome.{Outcome, becomes, branch_of, outcome, truth_value, waiting_one, with_one, with_truth}
@@ -21,7 +21,7 @@ use Rattle.step_eval.specs.declared.site.Site.{Site}
 use Rattle.step_eval.specs.declared.site.Site.TheVariants.{Form}
 use Rattle.step_eval.specs.FrameView.{FrameView}
 use Rattle.step_eval.specs.Fits.{FormFits, SiteFits}
-use Rattle.step_eval.specs.Meaning.{head_at, head_of, left_of, node_at, behind_values, strict_at, waiting_at}
+use Rattle.step_eval.specs.Meaning.{head_at, head_of, head_left, node_at, behind_values, strict_at, waiting_at}
 use Rattle.step_eval.specs.Operands.{HasOperands, operand_count}
 use Rattle.step_eval.specs.Ready.{IsSettled}
 use Rattle.step_eval.specs.Turns.{Takes, turn_at}
@@ -48,10 +48,10 @@ truth-some (v ∷ []) b k e = with_truth-some v b k e
 truth-some (v ∷ w ∷ vs) b k e = cc
 
 module _ (p : ProgramParts) (n : NodeId) (from : ℕ) (here : FrameView) (at : here.site ≡ Form n from) where
-  pub turn-is : (h : code.Head) → (node_at p n).head ≡ h → turn_at p here ≡ outcome (body p) (head_of (left_of from h)) here.done (behind_values p here)
+  pub turn-is : (h : code.Head) → (node_at p n).head ≡ h → turn_at p here ≡ outcome (body p) (head_of (head_left from h)) here.done (behind_values p here)
   turn-is h is =
       ap (λ s. outcome (body p) (head_at p s) here.done (behind_values p here)) at
-      ∙ ap (λ k. outcome (body p) (head_of (left_of from k)) here.done (behind_values p here)) is
+      ∙ ap (λ k. outcome (body p) (head_of (head_left from k)) here.done (behind_values p here)) is
 
   pub rest-is : (ns : List NodeId) → drop (from + length here.done) (node_at p n).parts ≡ ns → behind_values p here ≡ put_parts (slice_get here.env) (exprs_of (trees_at p ns))
   rest-is ns is =
@@ -61,9 +61,9 @@ module _ (p : ProgramParts) (n : NodeId) (from : ℕ) (here : FrameView) (at : h
   pub count-is : (h : code.Head) → IsSettled p here → (node_at p n).head ≡ h → length here.done ≡ strict_parts h (length (node_at p n).parts)
   count-is h settled is = settled.all ∙ ap (strict_at p) at ∙ ap (λ k. strict_parts k (length (node_at p n).parts)) is
 
-pub parts-are : (p : ProgramParts) → IsValid p → (n : NodeId) → n.0 < length p.nodes → (h : code.Head) (count : ℕ) → (node_at p n).head ≡ h → parts_of p.functions h ≡ Some count → length (node_at p n).parts ≡ count
+pub parts-are : (p : ProgramParts) → IsValid p → (n : NodeId) → n.0 < length p.nodes → (h : code.Head) (count : ℕ) → (node_at p n).head ≡ h → head_parts p.functions h ≡ Some count → length (node_at p n).parts ≡ count
 parts-are p valid n there h count is are =
-    let all : parts_of p.functions h ≡ Some (length (node_at p n).parts) = ap (parts_of p.functions) (sym is) ∙ part_count p valid n there in
+    let all : head_parts p.functions h ≡ Some (length (node_at p n).parts) = ap (head_parts p.functions) (sym is) ∙ part_count p valid n there in
     cc
 
 module _ (p : ProgramParts) (valid : IsValid p) (n : NodeId) (here : FrameView) (at : here.site ≡ Form n 0) (settled : IsSettled p here) (there : n.0 < length p.nodes) where
@@ -102,7 +102,7 @@ takes-by (Some g) count size e is = cc
 pub call-takes : (p : ProgramParts) → IsValid p → (n : NodeId) (from : ℕ) (here : FrameView) (f : FnId) → here.site ≡ Form n from → IsSettled p here → n.0 < length p.nodes → (node_at p n).head ≡ Call f → Takes p f (length here.done)
 call-takes p valid n from here f at settled there is =
     takes-by (slice_get p.functions f.0) (length (node_at p n).parts) (length here.done)
-    (ap (parts_of p.functions) (sym is) ∙ part_count p valid n there)
+    (ap (head_parts p.functions) (sym is) ∙ part_count p valid n there)
     (count-is p n from here at (Call f) settled is)
 
 has-operands : (p : ProgramParts) (count : ℕ) (a : Act) → operand_count p.functions a ≡ Some count → HasOperands p count a
@@ -112,11 +112,11 @@ has-operands p count a e = e
 
 -- an act has as many operands as its form has parts
 pub act-operands : (p : ProgramParts) → IsValid p → (n : NodeId) (from : ℕ) (here : FrameView) → here.site ≡ Form n from → IsSettled p here → (h : code.Head) → (node_at p n).head ≡ h → (o : Option Act) →
-    IfSome o (λ a. (functions : List FunctionParts) → operand_count functions a ≡ parts_of functions h) → IfSome o (λ a. (parts : ℕ) → strict_parts h parts ≡ parts) → IfSome o (HasOperands p (length here.done))
+    IfSome o (λ a. (functions : List FunctionParts) → operand_count functions a ≡ head_parts functions h) → IfSome o (λ a. (parts : ℕ) → strict_parts h parts ≡ parts) → IfSome o (HasOperands p (length here.done))
 act-operands p valid n from here at settled h is None counts whole = tt
 act-operands p valid n from here at settled h is (Some a) counts whole =
     let S : Site → Type 0 = λ (s : Site). SiteFits p s (length here.env) in
     let fits : FormFits p n from (length here.env) = subst S at settled.fits in
     has-operands p (length here.done) a
-    (counts p.functions ∙ ap (parts_of p.functions) (sym is) ∙ part_count p valid n fits.there
+    (counts p.functions ∙ ap (head_parts p.functions) (sym is) ∙ part_count p valid n fits.there
     ∙ ap Some (sym (count-is p n from here at h settled is ∙ whole (length (node_at p n).parts))))

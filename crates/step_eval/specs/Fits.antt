@@ -10,7 +10,7 @@ use Rattle.stab_code.specs.Trees.{Tree, tree}
 use Rattle.step_eval.specs.declared.site.Site.{Site}
 use Rattle.step_eval.specs.declared.site.Site.TheVariants.{Form, Section}
 use Rattle.step_eval.specs.FrameView.{FrameView}
-use Rattle.step_eval.specs.Meaning.{left_of, node_at, strict_at}
+use Rattle.step_eval.specs.Meaning.{head_left, node_at, strict_at}
 use Rattle.step_eval.specs.Scoped.{IsScoped}
 
 -- no literal and no variable
@@ -43,7 +43,7 @@ IsLeft h from = from ≡ 0
 
 -- what is left of a node's form without so many of its first items
 abbrev pub tree_left : ProgramParts → NodeId → ℕ → Tree
-tree_left p n from = tree (left_of from (node_at p n).head) (trees_at p (drop from (node_at p n).parts))
+tree_left p n from = tree (head_left from (node_at p n).head) (trees_at p (drop from (node_at p n).parts))
 
 -- a form of the program, for which there are so many values by slots
 pub record FormFits (p : ProgramParts) (n : NodeId) (from size : ℕ) : Type 0 where

@@ -21,9 +21,9 @@ abbrev pub node_at : ProgramParts → NodeId → NodeParts
 node_at p n = unwrap_or (slice_get p.nodes n.0) (node_of Unit [])
 
 -- what is left of a block without so many of its first items
-abbrev pub left_of : ℕ → code.Head → code.Head
-left_of from (Block slots) = Block (drop from slots)
-left_of from h = h
+abbrev pub head_left : ℕ → code.Head → code.Head
+head_left from (Block slots) = Block (drop from slots)
+head_left from h = h
 
 abbrev pub head_in : Expr → Head
 head_in (form h ps) = h
@@ -34,7 +34,7 @@ abbrev pub head_of : code.Head → Head
 head_of h = head_in (form_of h none)
 
 abbrev pub head_at : ProgramParts → Site → Head
-head_at p (Form n from) = head_of (left_of from (node_at p n).head)
+head_at p (Form n from) = head_of (head_left from (node_at p n).head)
 head_at p (Section m outer) = head.Section m
 
 -- how many of the form's parts have to be values before it steps

@@ -6,7 +6,7 @@ ghost use Rattle.plain_language.specs.Expression.{Expr, Parts, value};
 ghost use Rattle.plain_language.specs.Operands.{one_of, outcome_of, truth_of, two_values_of};
 ghost use Rattle.plain_language.specs.Outcome.{becomes, outcome, pair_of, with_one, with_pair, with_two};
 ghost use Rattle.step_eval.specs.Fits.{GivesValue};
-ghost use Rattle.step_eval.specs.Meaning.{head_of, left_of};
+ghost use Rattle.step_eval.specs.Meaning.{head_of, head_left};
 
 use plain_language::{as_truth, negation, operator, opposite};
 use stab_base::{Fault, NoMemory, PairFault, Value};
@@ -101,8 +101,8 @@ pub(crate) fn made(
     values: &mut Vec<Value>,
 ) -> Result<Result<Value, Fault>, NoMemory>
     requires { GivesValue head.now }
-    ensures { (body : ℕ → Expr) (from : ℕ) (rest : Parts) → told (outcome body (head_of (left_of from head.now)) values.old.items rest) ≡ None →
-        IfOk result (λ r. outcome_of r ≡ outcome body (head_of (left_of from head.now)) values.old.items rest) }
+    ensures { (body : ℕ → Expr) (from : ℕ) (rest : Parts) → told (outcome body (head_of (head_left from head.now)) values.old.items rest) ≡ None →
+        IfOk result (λ r. outcome_of r ≡ outcome body (head_of (head_left from head.now)) values.old.items rest) }
 {
     match head {
         Head::Two(op) => Ok(operator(*op, two(values.as_slice()))),

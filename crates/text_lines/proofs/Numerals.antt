@@ -5,10 +5,10 @@ use Rattle.std.specs.Str.{all_ascii_digits}
 use Rattle.std.proofs.lemmas.Bool.{eqb-true, eqb-false, leb-true, le-leb, ne_eqb, and_parts, and_from}
 use Rattle.std.proofs.lemmas.Fmt.{digits_decimal, digits_value-decimal, decimal-digits_value, decimal_nonempty, first_decimal, decimal_digit}
 use Rattle.std.proofs.lemmas.Str.Parse.{IsNumeralModel, numerals_by_fold, tells_all_ascii_digits}
-use Rattle.text_lines.specs.Digits.{value_of, value_on}
+use Rattle.text_lines.specs.Digits.{decimal_value, value_on}
 use Rattle.text_lines.specs.Numeral.{is_numeral, number_in}
 
-own : IsNumeralModel (λ ds. all_ascii_digits ds ≡ true) value_of
+own : IsNumeralModel (λ ds. all_ascii_digits ds ≡ true) decimal_value
 own = numerals_by_fold _ tells_all_ascii_digits value_on (record { empty = λ _. refl; more = λ _ _ _ _. refl })
 
 -- the first digit isn't 0 but where it is the only one
@@ -71,10 +71,10 @@ in_range least most n = leb least n && leb n most
 
 pub number_in-decimal : (least most n : ℕ) → least ≤ n → n ≤ most → n < 2 ^ 64 → number_in least most (decimal n) ≡ Some n
 number_in-decimal least most n low high small =
-    let value : value_of (decimal n) ≡ n = digits_value-decimal own n small in
-    let within : in_range least most (value_of (decimal n)) ≡ true = subst (λ m. in_range least most m ≡ true) (sym value) (and_from (leb least n) (leb n most) (le-leb least n low) (le-leb n most high)) in
-    let passes : (is_numeral (decimal n) && in_range least most (value_of (decimal n))) ≡ true = and_from (is_numeral (decimal n)) (in_range least most (value_of (decimal n))) (numeral-decimal n small) within in
-    ap (λ b. cond b (Some (value_of (decimal n))) None) passes ∙ ap Some value
+    let value : decimal_value (decimal n) ≡ n = digits_value-decimal own n small in
+    let within : in_range least most (decimal_value (decimal n)) ≡ true = subst (λ m. in_range least most m ≡ true) (sym value) (and_from (leb least n) (leb n most) (le-leb least n low) (le-leb n most high)) in
+    let passes : (is_numeral (decimal n) && in_range least most (decimal_value (decimal n))) ≡ true = and_from (is_numeral (decimal n)) (in_range least most (decimal_value (decimal n))) (numeral-decimal n small) within in
+    ap (λ b. cond b (Some (decimal_value (decimal n))) None) passes ∙ ap Some value
 
 -- a word that is a number in a range is what the number writes
 pub record IsNumber (least most : ℕ) (word : List ℕ) (n : ℕ) : Type 0 where
@@ -84,14 +84,14 @@ pub record IsNumber (least most : ℕ) (word : List ℕ) (n : ℕ) : Type 0 wher
 
 pub number_in-some : (least most : ℕ) (word : List ℕ) (n : ℕ) → most < 2 ^ 64 → number_in least most word ≡ Some n → IsNumber least most word n
 number_in-some least most word n small =
-    elim (is_numeral word && in_range least most (value_of word)) as (λ b. (is_numeral word && in_range least most (value_of word)) ≡ b → cond b (Some (value_of word)) None ≡ Some n → IsNumber least most word n) [
+    elim (is_numeral word && in_range least most (decimal_value word)) as (λ b. (is_numeral word && in_range least most (decimal_value word)) ≡ b → cond b (Some (decimal_value word)) None ≡ Some n → IsNumber least most word n) [
       | true ↦ λ passes e.
-          let parts = and_parts (is_numeral word) (in_range least most (value_of word)) passes in
-          let bounds = and_parts (leb least (value_of word)) (leb (value_of word) most) parts.1 in
-          let low = leb-true least (value_of word) bounds.0 in
-          let high = leb-true (value_of word) most bounds.1 in
-          let value : value_of word ≡ n = cc in
-          let spelled : decimal (value_of word) ≡ word = decimal-digits_value own word (numeral-digits word parts.0) (numeral-some word parts.0) (numeral-leads word parts.0) (omega arith) in
+          let parts = and_parts (is_numeral word) (in_range least most (decimal_value word)) passes in
+          let bounds = and_parts (leb least (decimal_value word)) (leb (decimal_value word) most) parts.1 in
+          let low = leb-true least (decimal_value word) bounds.0 in
+          let high = leb-true (decimal_value word) most bounds.1 in
+          let value : decimal_value word ≡ n = cc in
+          let spelled : decimal (decimal_value word) ≡ word = decimal-digits_value own word (numeral-digits word parts.0) (numeral-some word parts.0) (numeral-leads word parts.0) (omega arith) in
           record { spelled = sym spelled ∙ ap decimal value; low = omega arith; high = omega arith }
       | false ↦ λ _ e. cc
     ] refl

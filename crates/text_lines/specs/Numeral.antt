@@ -1,7 +1,7 @@
 -- Numerals: decimal numbers without leading zeros.
 use Rattle.std.specs.Prelude.{ℕ, ◌==◌, ◌&&◌, ◌||◌, not, Bool, false, nat_le, List, [], ◌∷◌, length, Option, Some, None, if◌then◌else◌}
 use Rattle.std.specs.Str.{all_ascii_digits}
-use Rattle.text_lines.specs.Digits.{value_of}
+use Rattle.text_lines.specs.Digits.{decimal_value}
 
 -- digits, at least one, and the first isn't `0` but where it is the only one
 abbrev pub is_numeral : List ℕ → Bool
@@ -10,4 +10,4 @@ is_numeral (first ∷ rest) = all_ascii_digits (first ∷ rest) && (not (first =
 
 -- the number from `least` to `most` that a word is, if it is one
 abbrev pub number_in : ℕ → ℕ → List ℕ → Option ℕ
-number_in least most word = if is_numeral word && (nat_le least (value_of word) && nat_le (value_of word) most) then Some (value_of word) else None
+number_in least most word = if is_numeral word && (nat_le least (decimal_value word) && nat_le (decimal_value word) most) then Some (decimal_value word) else None

@@ -2,12 +2,12 @@
 ghost use Rattle.std.specs.Prelude.{◌≡◌, ◌+◌, ◌*◌, ◌<◌, ◌^◌, ◌&&◌, nat_lt, Some, None, if◌then◌else◌};
 ghost use Rattle.std.specs.Option.{SomeIff};
 ghost use Rattle.std.specs.Str.{all_ascii_digits};
-ghost use Rattle.text_lines.specs.Digits.{value_of};
+ghost use Rattle.text_lines.specs.Digits.{decimal_value};
 
 /// The value of the digits, if all are digits and 64 bits hold it. Without digits it is 0.
 pub fn digits_value(word: &[u8]) -> Option<u64>
-    ensures { result ≡ (if all_ascii_digits word.now && nat_lt (value_of word.now) (2 ^ 64)
-        then Some (value_of word.now) else None) }
+    ensures { result ≡ (if all_ascii_digits word.now && nat_lt (decimal_value word.now) (2 ^ 64)
+        then Some (decimal_value word.now) else None) }
 {
     let mut value: u64 = 0;
     for byte in word {

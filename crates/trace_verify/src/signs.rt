@@ -21,13 +21,13 @@ pub(crate) fn first_wrong_sign(history: &History, run: &[Numbered]) -> Option<Se
         if history.is_live(seq) != stays {
             return Some(seq);
         }
-        left = rest_of(left, stays);
+        left = past_first(left, stays);
     }
     None
 }
 
 // The steps without the first one, or all of them.
-fn rest_of(steps: &[Numbered], passed: bool) -> &[Numbered]
+fn past_first(steps: &[Numbered], passed: bool) -> &[Numbered]
     ensures { result.now ≡ cond passed (drop 1 steps.now) steps.now }
 {
     match steps.split_first() {

@@ -41,33 +41,33 @@ and_no false = refl
 -- ---- the failed threads
 
 -- who passes and isn't listed
-abbrev pub left_of : (ℕ → Bool) → List ℕ → ℕ → Bool
-left_of p ts u = p u && not (is_listed u ts)
+abbrev pub uncounted : (ℕ → Bool) → List ℕ → ℕ → Bool
+uncounted p ts u = p u && not (is_listed u ts)
 
-pub count_all : (p : ℕ → Bool) (n : ℕ) → length (threads_below p n) ≡ length (threads_below (left_of p []) n)
-count_all p n = ap length (sym (numbers-same p (left_of p []) n (λ u low. and_true (p u))))
+pub count_all : (p : ℕ → Bool) (n : ℕ) → length (threads_below p n) ≡ length (threads_below (uncounted p []) n)
+count_all p n = ap length (sym (numbers-same p (uncounted p []) n (λ u low. and_true (p u))))
 
 listed_end : (u t : ℕ) (ts : List ℕ) → is_listed u (ts ++ t ∷ []) ≡ (is_listed u ts || nat_eq u t)
 listed_end u t ts = list_any-append (nat_eq u) ts (t ∷ []) ∙ ap (λ b. is_listed u ts || b) (or_no (nat_eq u t))
 
 -- with one more listed
-pub count_less : (p : ℕ → Bool) (ts : List ℕ) (t n : ℕ) → t < n → is_listed t ts ≡ false → length (threads_below (left_of p (ts ++ t ∷ [])) n) + one_if (p t) ≡ length (threads_below (left_of p ts) n)
+pub count_less : (p : ℕ → Bool) (ts : List ℕ) (t n : ℕ) → t < n → is_listed t ts ≡ false → length (threads_below (uncounted p (ts ++ t ∷ [])) n) + one_if (p t) ≡ length (threads_below (uncounted p ts) n)
 count_less p ts t n low fresh =
-    let sum = one_other (left_of p ts) (left_of p (ts ++ t ∷ [])) t n low (λ u apart. ap (λ b. p u && not b) (listed_end u t ts ∙ ap (λ b. is_listed u ts || b) apart ∙ or_no (is_listed u ts))) in
-    let was : one_if (left_of p ts t) ≡ one_if (p t) = ap one_if (ap (λ b. p t && not b) fresh ∙ and_true (p t)) in
-    let now : one_if (left_of p (ts ++ t ∷ []) t) ≡ 0 = ap one_if (ap (λ b. p t && not b) (listed_end t t ts ∙ ap (λ b. is_listed t ts || b) (nat_eq_equiv.refl t) ∙ or_true (is_listed t ts)) ∙ and_no (p t)) in
+    let sum = one_other (uncounted p ts) (uncounted p (ts ++ t ∷ [])) t n low (λ u apart. ap (λ b. p u && not b) (listed_end u t ts ∙ ap (λ b. is_listed u ts || b) apart ∙ or_no (is_listed u ts))) in
+    let was : one_if (uncounted p ts t) ≡ one_if (p t) = ap one_if (ap (λ b. p t && not b) fresh ∙ and_true (p t)) in
+    let now : one_if (uncounted p (ts ++ t ∷ []) t) ≡ 0 = ap one_if (ap (λ b. p t && not b) (listed_end t t ts ∙ ap (λ b. is_listed t ts || b) (nat_eq_equiv.refl t) ∙ or_true (is_listed t ts)) ∙ and_no (p t)) in
     omega (arith, sum, was, now)
 
 -- so many have failed of those that are listed
-pub none_counted : (p : ℕ → Bool) (n : ℕ) → 0 + length (threads_below (left_of p []) n) ≡ length (threads_below p n)
+pub none_counted : (p : ℕ → Bool) (n : ℕ) → 0 + length (threads_below (uncounted p []) n) ≡ length (threads_below p n)
 none_counted p n = let same = count_all p n in omega (arith, same)
 
 -- one more is listed
-pub next_counted : (p : ℕ → Bool) (ts more : List ℕ) (t n k one : ℕ) (b : Bool) → t < n → is_listed t ts ≡ false → more ≡ ts ++ t ∷ [] → b ≡ p t → one ≡ one_if b → k + length (threads_below (left_of p ts) n) ≡ length (threads_below p n) → k + one + length (threads_below (left_of p more) n) ≡ length (threads_below p n)
+pub next_counted : (p : ℕ → Bool) (ts more : List ℕ) (t n k one : ℕ) (b : Bool) → t < n → is_listed t ts ≡ false → more ≡ ts ++ t ∷ [] → b ≡ p t → one ≡ one_if b → k + length (threads_below (uncounted p ts) n) ≡ length (threads_below p n) → k + one + length (threads_below (uncounted p more) n) ≡ length (threads_below p n)
 next_counted p ts more t n k one b low fresh is same counts count =
     let sum = count_less p ts t n low fresh in
     let here : one ≡ one_if (p t) = counts ∙ ap one_if same in
-    let listed : length (threads_below (left_of p more) n) ≡ length (threads_below (left_of p (ts ++ t ∷ [])) n) = ap (λ l. length (threads_below (left_of p l) n)) is in
+    let listed : length (threads_below (uncounted p more) n) ≡ length (threads_below (uncounted p (ts ++ t ∷ [])) n) = ap (λ l. length (threads_below (uncounted p l) n)) is in
     omega (arith, sum, here, count, listed)
 
 pub one_from : (b : Bool) (one : ℕ) → one ≡ bool_byte b → one ≡ one_if b
@@ -79,10 +79,10 @@ at_most_one true one is = omega (arith, is)
 at_most_one false one is = omega (arith, is)
 
 -- all that have a line are listed
-pub all_counted : (lines : LineMap) (p : ℕ → Bool) (n k : ℕ) (ts : List ℕ) → ts ≡ map.keys lines → k + length (threads_below (left_of p ts) n) ≡ length (threads_below p n) → k + length (threads_below (λ t. p t && not (is_touched lines t)) n) ≡ length (threads_below p n)
+pub all_counted : (lines : LineMap) (p : ℕ → Bool) (n k : ℕ) (ts : List ℕ) → ts ≡ map.keys lines → k + length (threads_below (uncounted p ts) n) ≡ length (threads_below p n) → k + length (threads_below (λ t. p t && not (is_touched lines t)) n) ≡ length (threads_below p n)
 all_counted lines p n k ts all count =
-    let same : length (threads_below (λ t. p t && not (is_touched lines t)) n) ≡ length (threads_below (left_of p ts) n) =
-    ap length (numbers-same (left_of p ts) (λ t. p t && not (is_touched lines t)) n (λ t low. ap (λ b. p t && not b) (sym (listed_key lines t) ∙ ap (is_listed t) (sym all)))) in
+    let same : length (threads_below (λ t. p t && not (is_touched lines t)) n) ≡ length (threads_below (uncounted p ts) n) =
+    ap length (numbers-same (uncounted p ts) (λ t. p t && not (is_touched lines t)) n (λ t low. ap (λ b. p t && not b) (sym (listed_key lines t) ∙ ap (is_listed t) (sym all)))) in
     omega (arith, same, count)
 
 -- ---- pins

@@ -26,8 +26,8 @@ returns-then-is_live-stays c =
 
 pub loop-i-preserved : goal.loop-i-preserved
 loop-i-preserved c =
-    compare_on c.args.history.now c.args.run.now c.loop-i.left.now c.rest_of-left.result.now c.loop-i.i c.is_live.result c.starts_at-stays.result c.loop-i.invariant
-    (omega (arith, c.loop-i-test.true, c.len-i-end.ensures.len)) c.is_live.ensures c.starts_at-stays.ensures (same c.is_live.result c.starts_at-stays.result c.if-is_live-stays.false) c.rest_of-left.ensures
+    compare_on c.args.history.now c.args.run.now c.loop-i.left.now c.past_first-left.result.now c.loop-i.i c.is_live.result c.starts_at-stays.result c.loop-i.invariant
+    (omega (arith, c.loop-i-test.true, c.len-i-end.ensures.len)) c.is_live.ensures c.starts_at-stays.ensures (same c.is_live.result c.starts_at-stays.result c.if-is_live-stays.false) c.past_first-left.ensures
 
 pub returns : goal.returns
 returns c =
