@@ -5,8 +5,9 @@ ghost use Rattle.text_lines.specs.Numeral.{number_in};
 ghost use Rattle.image_text.specs.Pieces.{pieces_left};
 ghost use Rattle.image_lines.specs.Head.{length_in, length_of, next_behind, next_in, next_named, next_of, probe_in, probe_of, probes_in, probes_of};
 
-use image_text::{LineFault, next_piece, signed_in};
+use image_text::{LineFault, next_piece};
 use text_lines::number_in;
+use trace_text::signed_in;
 
 /// The most bytes that a program has.
 const MAX_PROGRAM: u64 = 1_048_576;

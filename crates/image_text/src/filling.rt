@@ -5,10 +5,11 @@ ghost use Rattle.std.specs.Prelude.{true, false};
 ghost use Rattle.image_text.specs.Reading.{called, called_word, fill, fine, first_word, numbered};
 
 use crate::names::{Callee, Form, Kind, fault_named, form_named};
-use crate::number::{count_in, name_in, signed_in};
+use crate::number::{count_in, name_in};
 use crate::pieces::next_piece;
 use expression_text::Word;
 use stab_base::{ChanId, FnId, RefId, Seq, TextId};
+use trace_text::signed_in;
 
 /// A word, with another number in place of one that can't be read.
 #[derive(Clone, Copy)]

@@ -15,7 +15,7 @@ mod writing;
 pub use expression::expression_in;
 pub use fault::LineFault;
 pub use laws::{expressions_read_back, words_read_back};
-pub use number::{count_in, name_in, signed_in};
+pub use number::{count_in, name_in};
 pub use pieces::next_piece;
 pub use words::{Words, words_in};
 pub use writing::{

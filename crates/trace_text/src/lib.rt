@@ -15,5 +15,6 @@ mod write;
 
 pub use fault::{TraceFault, TraceWriteFault};
 pub use laws::{faults_are_of_no_trace, one_history, traces_are_read, what_is_read_is_text};
+pub use number::signed_in;
 pub use read::read_trace;
 pub use write::write_trace;

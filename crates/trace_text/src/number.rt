@@ -1,4 +1,4 @@
-//! Signed numbers in a trace.
+//! Signed numbers in a trace and in an image.
 ghost use Rattle.std.specs.Prelude.{◌≡◌, ◌-◌, ◌≤◌, ◌^◌, negsuc};
 ghost use Rattle.trace_text.specs.Number.{signed_in};
 
