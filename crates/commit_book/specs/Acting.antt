@@ -17,7 +17,7 @@ use Rattle.plain_language.specs.Expression.{Expr}
 use Rattle.plain_language.specs.Table.{Look, act}
 use Rattle.step_eval.specs.declared.act.Act.{Act}
 use Rattle.step_eval.specs.declared.act.Act.TheVariants as own
-use Rattle.step_eval.specs.Acts.{act_of}
+use Rattle.step_eval.specs.Acts.{act_with}
 use Rattle.step_eval.specs.Asked.{act_next, operands_of}
 use Rattle.step_eval.specs.ControlView.{ControlView, Fits, expr_of}
 use Rattle.step_eval.specs.Operands.{HasOperands}
@@ -57,7 +57,7 @@ pub record MayAct (job : JobParts) (parts : Parts) (lease : LeaseView) (progress
 
 -- the control stands at this act
 pub record StandsAt (p : ProgramParts) (c : ControlView) (a : Act) : Type 0 where
-  pub look : look_in p (expr_of p c) ≡ act (act_of (body p) (operands_of c) a)
+  pub look : look_in p (expr_of p c) ≡ act (act_with (body p) (operands_of c) a)
   pub next : act_next c ≡ Some a
   pub operands : HasOperands p (length (operands_of c)) a
 

@@ -31,6 +31,6 @@ pub use laws::{
     text_of_a_state,
 };
 pub use look::{ActKind, Look, MAX_SPINE};
-pub use operators::{as_truth, negation, operator, opposite};
+pub use operators::{as_truth, complement, negation, operator};
 pub use play::PlayFault;
 pub use state::PlainState;

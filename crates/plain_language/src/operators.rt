@@ -110,7 +110,7 @@ pub fn operator(op: Op, both: Option<(&Value, &Value)>) -> Result<Value, Fault>
 }
 
 /// The negation of a truth value, if there is one.
-pub fn opposite(operand: Option<&Value>) -> Result<Value, Fault>
+pub fn complement(operand: Option<&Value>) -> Result<Value, Fault>
     ensures { outcome_of result ≡ on_one (option_copied operand.entry) (λ v. with_truth v (λ b. truth_value (not b))) }
 {
     let v = operand.ok_or(Fault::WrongKind)?;

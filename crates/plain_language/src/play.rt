@@ -67,12 +67,10 @@ impl PlainState {
         ensures { (q : ℕ) → Plays self.old self.new q (Label.Local t n) result }
     {
         let state = &*self;
-        let Some(e) = state.expr(t) else {
-            return Err(PlayFault::NoStep);
-        };
-        let Some(next) = e.after_local(alloc, &state.program, n)? else {
-            return Err(PlayFault::NoStep);
-        };
+        let e = state.expr(t).ok_or(PlayFault::NoStep)?;
+        let next = e
+            .after_local(alloc, &state.program, n)?
+            .ok_or(PlayFault::NoStep)?;
         self.stand(t.0, next);
         Ok(())
     }
@@ -160,9 +158,7 @@ impl PlainState {
         if state.expr(u).is_some() {
             return Err(PlayFault::NoStep);
         }
-        let Some(e) = state.expr(t) else {
-            return Err(PlayFault::NoStep);
-        };
+        let e = state.expr(t).ok_or(PlayFault::NoStep)?;
         let (next, inner) = e
             .after_spawn(alloc, &state.program)?
             .ok_or(PlayFault::NoStep)?;
@@ -189,9 +185,7 @@ impl PlainState {
     fn meet(&mut self, alloc: Global, s: ThreadId, r: ThreadId, c: ChanId) -> Result<(), PlayFault>
         ensures { (q : ℕ) → Plays self.old self.new q (Label.Comm s r c) result }
     {
-        let Some(a) = self.expr(s) else {
-            return Err(PlayFault::NoStep);
-        };
+        let a = self.expr(s).ok_or(PlayFault::NoStep)?;
         let b = self.expr(r).ok_or(PlayFault::NoStep)?;
         let v = a.sent(c).ok_or(PlayFault::NoStep)?;
         let other = b.after_receive(alloc, c, v)?.ok_or(PlayFault::NoStep)?;

@@ -18,7 +18,7 @@ use crate::expr::{Expr, put_copies};
 use crate::given::Given;
 use crate::head::Head;
 use crate::instead::left;
-use crate::operators::{as_truth, negation, operator, opposite};
+use crate::operators::{as_truth, complement, negation, operator};
 use stab_base::{Fault, NoMemory, PairFault, Value};
 use stab_code::{Op, Program, Slots};
 use std::alloc::Global;
@@ -195,7 +195,7 @@ pub(crate) fn next_at(
         Head::Two(Op::And) => Ok(Next::Makes(both(alloc, parts)?)),
         Head::Two(Op::Or) => Ok(Next::Makes(either(alloc, parts)?)),
         Head::Two(op) => Ok(Next::Makes(made(operator(*op, two(parts))))),
-        Head::Not => Ok(Next::Makes(made(opposite(one(parts))))),
+        Head::Not => Ok(Next::Makes(made(complement(one(parts))))),
         Head::Neg => Ok(Next::Makes(made(negation(one(parts))))),
         Head::Pair => Ok(Next::Makes(pair(alloc, parts)?)),
         Head::Fst => Ok(Next::Makes(part_of(parts, false)?)),

@@ -16,7 +16,7 @@ use Rattle.step_eval.specs.declared.ask.Ask.TheVariants as ask
 use Rattle.step_eval.specs.declared.machine.Focus.{Focus}
 use Rattle.step_eval.specs.declared.machine.Focus.TheVariants as focus
 use Rattle.step_eval.specs.declared.machine.Machine.{Machine}
-use Rattle.step_eval.specs.Acts.{act_of}
+use Rattle.step_eval.specs.Acts.{act_with}
 use Rattle.step_eval.specs.Asked.{AsksRightly, IsAsked, operands_of, values_at}
 use Rattle.step_eval.specs.ControlView.{ControlView, Fits, RedexIsFound, focus_expr, focus_view, expr_of as expr_in}
 use Rattle.step_eval.specs.Seen.{seen_at}
@@ -32,10 +32,10 @@ module _ (p : ProgramParts) where
   step-next vs round (fails k) none = refl
   step-next vs round (acts a) none = cc
 
-  act-next : (vs : List Datum) (round : List FrameView) (o : Outcome) (a : Act) → told o ≡ Some (act_of (body p) vs a) → IsAsked (body p) vs (look_by (map (frame_at p) round) o) (ask.Act a)
+  act-next : (vs : List Datum) (round : List FrameView) (o : Outcome) (a : Act) → told o ≡ Some (act_with (body p) vs a) → IsAsked (body p) vs (look_by (map (frame_at p) round) o) (ask.Act a)
   act-next vs round (becomes e) a is = cc
   act-next vs round (fails k) a is = cc
-  act-next vs round (acts b) a is = let same : b ≡ act_of (body p) vs a = cc in same
+  act-next vs round (acts b) a is = let same : b ≡ act_with (body p) vs a = cc in same
 
   abbrev pub asked : Focus → Ask
   asked (focus.Begun n) = ask.More

@@ -18,19 +18,19 @@ second_of [] = unit
 second_of (v ∷ vs) = first_of vs
 
 -- the act with these operands, where functions have these bodies
-abbrev pub act_of : (ℕ → Expr) → List Datum → Act → table.Act Expr
-act_of body vs (Spawn f) = spawns (called body f.0 vs)
-act_of body vs NewChan = makes_chan
-act_of body vs NewRef = makes_ref (first_of vs)
-act_of body vs (Get r) = gets r.0
-act_of body vs (Set r) = sets r.0 (second_of vs)
-act_of body vs (Send c) = sends c.0 (second_of vs)
-act_of body vs (Recv c) = receives c.0
-act_of body vs (Pick c d) = picks c.0 d.0
-act_of body vs (Enter f) = enters (called body f.0 vs)
-act_of body vs Stabilize = stabilizes
-act_of body vs Cut = cuts
-act_of body vs Pin = pins
-act_of body vs Print = prints (first_of vs)
-act_of body vs Probe = probes
-act_of body vs Attempt = attempts
+abbrev pub act_with : (ℕ → Expr) → List Datum → Act → table.Act Expr
+act_with body vs (Spawn f) = spawns (called body f.0 vs)
+act_with body vs NewChan = makes_chan
+act_with body vs NewRef = makes_ref (first_of vs)
+act_with body vs (Get r) = gets r.0
+act_with body vs (Set r) = sets r.0 (second_of vs)
+act_with body vs (Send c) = sends c.0 (second_of vs)
+act_with body vs (Recv c) = receives c.0
+act_with body vs (Pick c d) = picks c.0 d.0
+act_with body vs (Enter f) = enters (called body f.0 vs)
+act_with body vs Stabilize = stabilizes
+act_with body vs Cut = cuts
+act_with body vs Pin = pins
+act_with body vs Print = prints (first_of vs)
+act_with body vs Probe = probes
+act_with body vs Attempt = attempts

@@ -9,7 +9,7 @@ use Rattle.step_eval.specs.declared.act.Act as own
 use Rattle.step_eval.specs.declared.act.Act.TheVariants.{Enter}
 use Rattle.step_eval.specs.declared.ask.Ask.{Ask}
 use Rattle.step_eval.specs.declared.ask.Ask.TheVariants.{More, Done, Failed, Act}
-use Rattle.step_eval.specs.Acts.{act_of}
+use Rattle.step_eval.specs.Acts.{act_with}
 use Rattle.step_eval.specs.ControlView.{ControlView, FocusView, acting}
 use Rattle.step_eval.specs.Operands.{HasOperands}
 
@@ -41,7 +41,7 @@ operands_of c = values_at c.focus
 
 -- an act is the same with these operands, where functions have these bodies
 abbrev pub IsAct : (ℕ → Expr) → List Datum → table.Act Expr → Ask → Type 0
-IsAct body vs x (Act a) = x ≡ act_of body vs a
+IsAct body vs x (Act a) = x ≡ act_with body vs a
 IsAct body vs x ask = ⊥
 
 abbrev pub IsAsked : (ℕ → Expr) → List Datum → Look Expr → Ask → Type 0

@@ -14,7 +14,7 @@ use Rattle.step_eval.specs.declared.act.Act.{Act}
 use Rattle.step_eval.specs.declared.machine.Focus.{Focus}
 use Rattle.step_eval.specs.declared.machine.Focus.TheVariants as focus
 use Rattle.step_eval.specs.declared.machine.Running.{Running}
-use Rattle.step_eval.specs.Acts.{act_of}
+use Rattle.step_eval.specs.Acts.{act_with}
 use Rattle.step_eval.specs.FrameView.{FrameView}
 use Rattle.step_eval.specs.Fits.{FramesFit, IsForm}
 use Rattle.step_eval.specs.Meaning.{form_at, node_at, within_forms}
@@ -64,7 +64,7 @@ module _ (p : ProgramParts) where
   abbrev pub FocusFits : FocusView → List FrameView → Type 0
   FocusFits (begun n env) round = (n.0 < length p.nodes) × IsForm (node_at p n).head × IsScoped (length env) (tree_at p n)
   FocusFits (settled here) round = IsSettled p here × (told (turn_at p here) ≡ None)
-  FocusFits (acting a here) round = IsSettled p here × (told (turn_at p here) ≡ Some (act_of (body p) here.done a)) × HasOperands p (length here.done) a
+  FocusFits (acting a here) round = IsSettled p here × (told (turn_at p here) ≡ Some (act_with (body p) here.done a)) × HasOperands p (length here.done) a
   FocusFits (value v) round = ⊤
   FocusFits (fault k) round = round ≡ []
 

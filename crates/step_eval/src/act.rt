@@ -6,7 +6,7 @@ ghost use Rattle.stab_code.specs.Valid.{head_parts};
 ghost use Rattle.plain_language.specs.Acts.{told};
 ghost use Rattle.plain_language.specs.Expression.{Expr, Parts};
 ghost use Rattle.plain_language.specs.Outcome.{outcome};
-ghost use Rattle.step_eval.specs.Acts.{act_of};
+ghost use Rattle.step_eval.specs.Acts.{act_with};
 ghost use Rattle.step_eval.specs.Fits.{IsForm};
 ghost use Rattle.step_eval.specs.Meaning.{head_of, head_left};
 ghost use Rattle.step_eval.specs.Operands.{operand_count};
@@ -39,7 +39,7 @@ pub enum Act {
 /// The act that a form is whose parts have these values, if it is one.
 pub(crate) fn act_at(head: &Head, values: &[Value]) -> Option<Act>
     requires { IsForm head.now }
-    ensures act { (body : ℕ → Expr) (from : ℕ) (rest : Parts) → option_map (act_of body values.now) result ≡ told (outcome body (head_of (head_left from head.now)) values.now rest) }
+    ensures act { (body : ℕ → Expr) (from : ℕ) (rest : Parts) → option_map (act_with body values.now) result ≡ told (outcome body (head_of (head_left from head.now)) values.now rest) }
     ensures operands { IfSome result (λ a. (functions : List FunctionParts) → operand_count functions a ≡ head_parts functions head.now) }
     ensures whole { IfSome result (λ _. (parts : ℕ) → strict_parts head.now parts ≡ parts) }
 {

@@ -5,7 +5,7 @@ ghost use Rattle.stab_code.specs.Program.{tree_at};
 ghost use Rattle.plain_language.specs.Acts.{told};
 ghost use Rattle.plain_language.specs.Expression.{put, value};
 ghost use Rattle.plain_language.specs.Program.{body, expr_of};
-ghost use Rattle.step_eval.specs.Acts.{act_of};
+ghost use Rattle.step_eval.specs.Acts.{act_with};
 ghost use Rattle.step_eval.specs.Arrival.{Arrives, form_focus};
 ghost use Rattle.step_eval.specs.ControlView.{view_of};
 ghost use Rattle.shared_stack.specs.Linked.{popped_of};
@@ -123,7 +123,7 @@ impl Machine {
     #[inline(always)]
     fn act(&self, p: &Program) -> Option<Act>
         requires { IsSettled p.now (here_of self.now) }
-        ensures act { option_map (act_of (body p.now) self.now.done.items) result ≡ told (turn_at p.now (here_of self.now)) }
+        ensures act { option_map (act_with (body p.now) self.now.done.items) result ≡ told (turn_at p.now (here_of self.now)) }
         ensures operands { IfSome result (HasOperands p.now (length self.now.done.items)) }
     {
         match self.site.site() {

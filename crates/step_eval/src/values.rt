@@ -8,7 +8,7 @@ ghost use Rattle.plain_language.specs.Outcome.{becomes, outcome, pair_of, with_o
 ghost use Rattle.step_eval.specs.Fits.{GivesValue};
 ghost use Rattle.step_eval.specs.Meaning.{head_of, head_left};
 
-use plain_language::{as_truth, negation, operator, opposite};
+use plain_language::{as_truth, complement, negation, operator};
 use stab_base::{Fault, NoMemory, PairFault, Value};
 use stab_code::Head;
 use std::alloc::Global;
@@ -106,7 +106,7 @@ pub(crate) fn made(
 {
     match head {
         Head::Two(op) => Ok(operator(*op, two(values.as_slice()))),
-        Head::Not => Ok(opposite(one(values.as_slice()))),
+        Head::Not => Ok(complement(one(values.as_slice()))),
         Head::Neg => Ok(negation(one(values.as_slice()))),
         Head::Pair => pair(alloc, values),
         Head::Fst => part_of(values, false),

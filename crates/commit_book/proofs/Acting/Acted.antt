@@ -19,7 +19,7 @@ use Rattle.plain_language.specs.Program.{body}
 use Rattle.plain_language.specs.Steps.{Effect}
 use Rattle.plain_language.specs.Table.{act}
 use Rattle.step_eval.specs.declared.act.Act.{Act}
-use Rattle.step_eval.specs.Acts.{act_of}
+use Rattle.step_eval.specs.Acts.{act_with}
 use Rattle.step_eval.specs.Asked.{act_next, operands_of}
 use Rattle.step_eval.specs.ControlView.{ControlView, Fits, expr_of}
 use Rattle.step_eval.specs.Progress.{ProgressView}
@@ -110,7 +110,7 @@ module _ (job : JobParts) (old : Parts) (lease : LeaseView) (progress : Progress
   needs_act a at c is = ap (λ (g : ControlView). is_some (act_next g)) is ∙ ap is_some at.next
 
   module _ (planned begins : Parts) (before : AreAsBefore old planned) (longer : IsLonger planned.history begins.history lease.worker (local_of lease.thread progress.steps)) (rest : begins ≡ record planned { history = begins.history }) where
-    module _ (done new : Parts) (a : Act) (at : StandsAt job.program progress.end a) (quiet : offer_at (act (act_of (body job.program) (operands_of progress.end) a)) ≡ None) (l : Label) (e : Effect Expr) (is : IsStepped job old lease progress may planned begins before longer rest done l e) (offers : done.offers ≡ begins.offers) where
+    module _ (done new : Parts) (a : Act) (at : StandsAt job.program progress.end a) (quiet : offer_at (act (act_with (body job.program) (operands_of progress.end) a)) ≡ None) (l : Label) (e : Effect Expr) (is : IsStepped job old lease progress may planned begins before longer rest done l e) (offers : done.offers ≡ begins.offers) where
       -- the act got a value
       pub both_answered : (p : ProgramParts) (u : ThreadId) (c : ControlView) (v w : Datum) → p ≡ job.program → u.0 ≡ lease.thread → c ≡ progress.end → v ≡ w → e.mine ≡ answered (expr_of job.program progress.end) w → HasAnswered p done new u.0 (answered (expr_of p c) v)
           → IsDone job old new lease progress (alone (Some l)) × IsKept job new

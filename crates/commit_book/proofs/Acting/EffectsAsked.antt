@@ -9,12 +9,12 @@ use Rattle.plain_language.specs.Table as table
 use Rattle.plain_language.specs.Table.{Look, done, fault, act, pure}
 use Rattle.step_eval.specs.declared.act.Act.{Act}
 use Rattle.step_eval.specs.declared.ask.Ask.TheVariants as ask
-use Rattle.step_eval.specs.Acts.{act_of}
+use Rattle.step_eval.specs.Acts.{act_with}
 use Rattle.step_eval.specs.Asked.{IsAsked}
 use Rattle.commit_book.specs.Doing.{is_over, is_failed}
 
 -- where an act is answered, the expression stands at it
-pub asked_act : (fs : ℕ → Expr) (vs : List Datum) (k : Look Expr) (a : Act) → IsAsked fs vs k (ask.Act a) → k ≡ act (act_of fs vs a)
+pub asked_act : (fs : ℕ → Expr) (vs : List Datum) (k : Look Expr) (a : Act) → IsAsked fs vs k (ask.Act a) → k ≡ act (act_with fs vs a)
 asked_act fs vs (done v) a is = absurd (cc)
 asked_act fs vs (fault k) a is = absurd (cc)
 asked_act fs vs (pure e) a is = absurd (cc)

@@ -17,7 +17,7 @@ use Rattle.step_eval.specs.declared.act.Act.{Act}
 use Rattle.step_eval.specs.declared.act.Act.TheVariants.{Send, Recv, Pick}
 use Rattle.step_eval.specs.declared.ask.Ask.{Ask}
 use Rattle.step_eval.specs.declared.ask.Ask.TheVariants as ask
-use Rattle.step_eval.specs.Acts.{act_of, second_of}
+use Rattle.step_eval.specs.Acts.{act_with, second_of}
 use Rattle.step_eval.specs.Asked.{act_in, AsksRightly, IsAsked}
 use Rattle.commit_book.specs.Doing.{offer_at}
 use Rattle.commit_book.specs.Meetings.{index_of, picked_in}
@@ -61,7 +61,7 @@ abbrev pub IsSending : Ask → Type 0
 IsSending (ask.Act (Send d)) = Unit {0}
 IsSending _ = ⊥
 
-sending_act : (fs : ℕ → Expr) (vs : List Datum) (c : ℕ) (x : table.Act Expr) (a : Act) → x ≡ act_of fs vs a → IsSomeAnd (offer_at (act x)) (λ o. sends_on c o ≡ true) → IsSending (ask.Act a)
+sending_act : (fs : ℕ → Expr) (vs : List Datum) (c : ℕ) (x : table.Act Expr) (a : Act) → x ≡ act_with fs vs a → IsSomeAnd (offer_at (act x)) (λ o. sends_on c o ≡ true) → IsSending (ask.Act a)
 sending_act fs vs c x (Send d) is on = tt
 sending_act fs vs c x (Recv d) is on = absurd (false≢true (subst (λ (y : table.Act Expr). IsSomeAnd (offer_at (act y)) (λ o. sends_on c o ≡ true)) is on))
 sending_act fs vs c x (Pick a b) is on = absurd (false≢true (subst (λ (y : table.Act Expr). IsSomeAnd (offer_at (act y)) (λ o. sends_on c o ≡ true)) is on))
@@ -118,7 +118,7 @@ picked_look fs vs k _ c d is at = absurd (cc)
 pub unpicked_look : (fs : ℕ → Expr) (vs : List Datum) (k : Look Expr) (a : Ask) → IsAsked fs vs k a → picked_in a ≡ None → is_pick k ≡ false
 unpicked_look fs vs (act (picks c d)) (ask.Act a) is none = absurd (not_picked fs vs c d a is none)
   where
-    not_picked : (fs : ℕ → Expr) (vs : List Datum) (c d : ℕ) (a : Act) → picks c d ≡ act_of fs vs a → picked_in (ask.Act a) ≡ None → ⊥
+    not_picked : (fs : ℕ → Expr) (vs : List Datum) (c d : ℕ) (a : Act) → picks c d ≡ act_with fs vs a → picked_in (ask.Act a) ≡ None → ⊥
     not_picked fs vs c d (Pick x y) is none = absurd (cc)
     not_picked fs vs c d _ is none = absurd (cc)
 unpicked_look fs vs (act (picks c d)) ask.More is none = absurd is

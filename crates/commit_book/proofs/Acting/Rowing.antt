@@ -11,7 +11,7 @@ use Rattle.plain_language.specs.Redex.{mark}
 use Rattle.plain_language.specs.Table.{Look, act}
 use Rattle.step_eval.specs.declared.act.Act.{Act}
 use Rattle.step_eval.specs.declared.act.Act.TheVariants as own
-use Rattle.step_eval.specs.Acts.{act_of}
+use Rattle.step_eval.specs.Acts.{act_with}
 use Rattle.step_eval.specs.Asked.{operands_of}
 use Rattle.step_eval.specs.ControlView.{ControlView, expr_of}
 use Rattle.step_eval.specs.Progress.{ProgressView}
@@ -23,7 +23,7 @@ use Rattle.commit_book.specs.Leases.{LeaseView}
 use Rattle.commit_book.specs.Rows.{row_of, section_row}
 
 -- an act after which the thread always goes on
-simple_row : (b : BookView) (t : ℕ) (e : Expr) (fs : ℕ → Expr) (vs : List Datum) (a : Act) → is_simple a ≡ true → row_of b t e (act (act_of fs vs a)) ≡ row_by b t a
+simple_row : (b : BookView) (t : ℕ) (e : Expr) (fs : ℕ → Expr) (vs : List Datum) (a : Act) → is_simple a ≡ true → row_of b t e (act (act_with fs vs a)) ≡ row_by b t a
 simple_row b t e fs vs (own.Spawn f) h = refl
 simple_row b t e fs vs own.NewChan h = refl
 simple_row b t e fs vs own.NewRef h = refl
@@ -40,7 +40,7 @@ simple_row b t e fs vs own.Print h = refl
 simple_row b t e fs vs own.Probe h = refl
 simple_row b t e fs vs own.Attempt h = refl
 
-own_offer : (fs : ℕ → Expr) (vs : List Datum) (a : Act) → offer_at (act (act_of fs vs a)) ≡ offer_of a
+own_offer : (fs : ℕ → Expr) (vs : List Datum) (a : Act) → offer_at (act (act_with fs vs a)) ≡ offer_of a
 own_offer fs vs (own.Spawn f) = refl
 own_offer fs vs own.NewChan = refl
 own_offer fs vs own.NewRef = refl
@@ -63,11 +63,11 @@ module _ (b : BookView) (lease : LeaseView) (progress : ProgressView) where
 
   pub row_simple : (a : Act) → StandsAt b.job.program progress.end a → is_simple a ≡ true → row_at b lease progress ≡ row_by b lease.thread a
   row_simple a at simple =
-      row_under (act (act_of (body b.job.program) (operands_of progress.end) a)) at.look
+      row_under (act (act_with (body b.job.program) (operands_of progress.end) a)) at.look
       ∙ simple_row b lease.thread (expr_of b.job.program progress.end) (body b.job.program) (operands_of progress.end) a simple
 
   pub row_stabilize : StandsAt b.job.program progress.end own.Stabilize → row_at b lease progress ≡ section_row (survivors b.history) lease.thread (mark (expr_of b.job.program progress.end))
-  row_stabilize at = row_under (act (act_of (body b.job.program) (operands_of progress.end) own.Stabilize)) at.look
+  row_stabilize at = row_under (act (act_with (body b.job.program) (operands_of progress.end) own.Stabilize)) at.look
 
 -- with what a thread waits that stands at an act
 pub offers_by : (p : ProgramParts) (c : ControlView) (a : Act) → StandsAt p c a → offered p c ≡ offer_of a

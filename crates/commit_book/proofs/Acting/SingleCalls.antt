@@ -14,7 +14,7 @@ use Rattle.plain_language.specs.Program.{body}
 use Rattle.plain_language.specs.Steps.{Effect}
 use Rattle.plain_language.specs.Table.{act}
 use Rattle.step_eval.specs.declared.act.Act.{Act}
-use Rattle.step_eval.specs.Acts.{act_of}
+use Rattle.step_eval.specs.Acts.{act_with}
 use Rattle.step_eval.specs.Asked.{operands_of}
 use Rattle.step_eval.specs.ControlView.{ControlView, Fits, expr_of}
 use Rattle.step_eval.specs.Progress.{ProgressView}
@@ -54,14 +54,14 @@ stood_so (Some k) slot was is at = let a : k ≡ slot = cc in sym at ∙ ap (λ 
 module _ (job : JobParts) (old : Parts) (lease : LeaseView) (progress : ProgressView) (may : MayAct job old lease progress) where
   module _ (a : Act) (at : StandsAt job.program progress.end a) where
     -- an act that is no offer
-    pub unoffered_at : offer_at (act (act_of (body job.program) (operands_of progress.end) a)) ≡ None → offered job.program progress.end ≡ None
+    pub unoffered_at : offer_at (act (act_with (body job.program) (operands_of progress.end) a)) ≡ None → offered job.program progress.end ≡ None
     unoffered_at quiet = ap offer_at at.look ∙ quiet
 
     pub going_at : is_failed (expr_of job.program (slot_at job old lease progress may).slot.control) ≡ false
     going_at =
         let here = slot_at job old lease progress may in
         unfailed job.program here.slot progress.origin progress.steps progress.end (doing_at job old lease progress may) here.control may.made
-        (act_goes_on job.program (expr_of job.program progress.end) (act_of (body job.program) (operands_of progress.end) a) at.look)
+        (act_goes_on job.program (expr_of job.program progress.end) (act_with (body job.program) (operands_of progress.end) a) at.look)
 
   -- what an answer needs
   pub there_at : (threads : FinMap nat_cmp (Slot ControlView)) → threads ≡ old.slots.threads → IsSome (map.get threads lease.thread)
@@ -95,7 +95,7 @@ module _ (job : JobParts) (old : Parts) (lease : LeaseView) (progress : Progress
         subst (λ (x : Seen). AreStanding job.program old.slots.threads x (λ k. map.get may.kept.shown.state.threads k) (λ k. generation k old.history.events)) (sym same)
         (standing_of (view_of job old) may.kept.shown.state may.kept.shown.shows.threads)
 
-    module _ (done new : Parts) (a : Act) (at : StandsAt job.program progress.end a) (quiet : offer_at (act (act_of (body job.program) (operands_of progress.end) a)) ≡ None) (l : Label) (e : Effect Expr) (is : IsStepped job old lease progress may planned begins before longer rest done l e) where
+    module _ (done new : Parts) (a : Act) (at : StandsAt job.program progress.end a) (quiet : offer_at (act (act_with (body job.program) (operands_of progress.end) a)) ≡ None) (l : Label) (e : Effect Expr) (is : IsStepped job old lease progress may planned begins before longer rest done l e) where
       slots_now : done.slots.threads ≡ old.slots.threads
       slots_now = ap (λ k. k.threads) is.slots ∙ threads_before
 

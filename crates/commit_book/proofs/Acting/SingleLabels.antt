@@ -27,7 +27,7 @@ use Rattle.plain_language.specs.Redex.{mark}
 use Rattle.plain_language.specs.Standing.{event}
 use Rattle.plain_language.specs.Table.{act, enters, to}
 use Rattle.step_eval.specs.declared.act.Act.TheVariants as own
-use Rattle.step_eval.specs.Acts.{act_of, first_of, second_of}
+use Rattle.step_eval.specs.Acts.{act_with, first_of, second_of}
 use Rattle.step_eval.specs.Asked.{operands_of}
 use Rattle.step_eval.specs.ControlView.{expr_of}
 use Rattle.step_eval.specs.Progress.{ProgressView}
@@ -174,7 +174,7 @@ module _ (job : JobParts) (old : Parts) (lease : LeaseView) (progress : Progress
         }
 
     -- ---- a section is entered
-    pub entered_at : (f : FnId) → StandsAt job.program progress.end (own.Enter f) → (b : Expr) → act (act_of (body job.program) (operands_of progress.end) (own.Enter f)) ≡ act (enters b)
+    pub entered_at : (f : FnId) → StandsAt job.program progress.end (own.Enter f) → (b : Expr) → act (act_with (body job.program) (operands_of progress.end) (own.Enter f)) ≡ act (enters b)
         → IsLonger begins.history done.history lease.worker (Enter (thread lease.thread) ∷ [])
         → ((k : Seq) (u : ThreadId) → map.get done.store.controls (k, u) ≡ (if is_place (record { 0 = length begins.history.events + 1 }) (thread lease.thread) k u then Some progress.end else map.get begins.store.controls (k, u)))
         → done.graph.nodes ≡ begins.graph.nodes ++ record { number = length begins.history.events + 1; kind = node.Enter (thread lease.thread) } ∷ []
