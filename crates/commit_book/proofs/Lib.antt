@@ -4,15 +4,15 @@
 --
 --     journal: history, script, channels, writes, references, printed     a step: Keeping     an undo: Undoing
 --     journal: next, few                                                  Keeping (Named, Unnamed, Room)
---     journal: saved, nodes                                               a step, a cut: Keeping     an undo: Undoing
+--     journal: saved, saved_fit, nodes                                    a step, a cut: Keeping     an undo: Undoing
 --     threads: threads, fit, generations, doing, queue, offers, found     a step: Threads     an undo: Undoing
 --
 -- The clauses of its calls:
 --
 --     new, lease, give_back, recall                  Threads
 --     counts, due, fault_of                          Threads
---     commit, of each act but the next, release      Acting
---     commit, of a stabilize that is granted         Undoing
+--     commit, commit_current, release                Acting
+--     both commits, of a stabilize that is granted   Undoing
 --     the laws of src/laws.rt                        Lawful
 --     released, unreleased                           Lawful (Firm)
 --     job, history, printed, reference, last_thread  no room: what the call hands out is what the view says

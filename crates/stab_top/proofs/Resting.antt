@@ -24,7 +24,8 @@ use Rattle.book_text.proofs.Going.{all_whole}
 use Rattle.book_text.proofs.Showing.{IsWhole, ends_so}
 use Rattle.stab_top.specs.declared.report.Status.{Status}
 use Rattle.stab_top.specs.declared.report.Status.TheVariants.{Done, Held}
-use Rattle.stab_top.specs.Ending.{AllDone, Rested, RestSays, SomeHeld}
+use Rattle.state_text.specs.Ended.{AllDone, SomeHeld}
+use Rattle.stab_top.specs.Ending.{Rested, RestSays}
 use Rattle.stab_top.proofs.Led.{leads}
 
 -- ---- of numbers and states

@@ -1,5 +1,5 @@
 -- What each status says of a run, a check or a verdict.
-use Rattle.std.specs.Prelude.{◌≡◌, ℕ, ℤ, ◌<◌, ◌≤◌, true, false, List, [], ◌∷◌, ◌++◌, count_by, Option, Some, IfSome, IsSomeAnd, codes, decimal, length, ◌⊎◌}
+use Rattle.std.specs.Prelude.{◌≡◌, ℕ, ℤ, ◌<◌, ◌≤◌, List, [], ◌∷◌, ◌++◌, count_by, Option, Some, codes, decimal, length, ◌⊎◌}
 use Rattle.stab_base.specs.Gain.{SomePrefix}
 use Rattle.stab_code.specs.JobParts.{JobParts}
 use Rattle.stab_code.specs.Program.{ProgramParts}
@@ -11,9 +11,9 @@ use Rattle.stab_journal.specs.Event.{weight_of}
 use Rattle.stab_journal.specs.Journal.{Journal}
 use Rattle.stab_journal.specs.Script.{FollowsScript}
 use Rattle.thread_slots.specs.declared.state.State.TheVariants.{Ready, Leased}
-use Rattle.plain_language.specs.Plain.{PlainState, language_of, look_in, standing}
+use Rattle.plain_language.specs.Plain.{PlainState, language_of}
 use Rattle.plain_language.specs.Quiet.{IsQuiet}
-use Rattle.plain_language.specs.Shown.{is_done, line, shown}
+use Rattle.plain_language.specs.Shown.{line, shown}
 use Rattle.commit_book.specs.Book.{BookView, ShowsRun}
 use Rattle.commit_book.specs.Counts.{in_state, is_undo}
 use Rattle.lone_worker.specs.declared.worker.RunEnd.{RunEnd}
@@ -28,6 +28,7 @@ use Rattle.stab_top.specs.declared.report.Report.{Report}
 use Rattle.stab_top.specs.declared.report.Status.{Status}
 use Rattle.stab_top.specs.declared.report.Status.TheVariants.{Done, Held, SinkFault, Spent, NoMemory, No}
 use Rattle.sink_lines.specs.Device.{Device, Gains, GainsPrefix, Rests, device}
+use Rattle.state_text.specs.Ended.{AllDone, SomeHeld}
 use Rattle.stab_top.specs.Reading.{Blames}
 use Rattle.stab_top.specs.Reason.{Blame, blame_of, failing_words, names_verdict, no_blame}
 
@@ -68,14 +69,6 @@ pub record Rested (book : BookView) (state : PlainState) : Type 0 where
   pub unready : in_state Ready book ≡ 0
   pub free : in_state Leased book ≡ 0
   pub quiet : IsQuiet (language_of book.job.program) state
-
--- `AllDone`: every thread of the state ended without a fault; `SomeHeld`: one failed or waits
-abbrev pub AllDone : ProgramParts → PlainState → Type 0
-AllDone p s = (t : ℕ) → IfSome (standing s t) (λ e. is_done (look_in p e) ≡ true)
-
-pub record SomeHeld (p : ProgramParts) (s : PlainState) : Type 0 where
-  pub thread : ℕ
-  pub held : IsSomeAnd (standing s thread) (λ e. is_done (look_in p e) ≡ false)
 
 -- the fuel is used up, and a thread is still ready
 pub record IsSpent (book : BookView) : Type 0 where
