@@ -15,10 +15,8 @@ pub fn put_lines<K: Sink>(sink: &mut K, text: &[u8]) -> Result<(), SinkFail>
     let mut rest = text;
     while !rest.is_empty() {
         let (line, others) = rest.split_at(line_len(rest));
-        match sink.put(line) {
-            Ok(()) => rest = others,
-            Err(fault) => return Err(fault),
-        }
+        sink.put(line)?;
+        rest = others;
     }
     Ok(())
 }

@@ -44,14 +44,10 @@ fn put_lines<K: Sink>(history: &History, line: &mut Vec<u8>, sink: &mut K) -> Re
     ensures rose { OnErr result (Rose (K.faults sink.old) (K.faults sink.new)) }
 {
     let count = history.len();
-    if let Err(fault) = sink.put(b"stab trace 2\n") {
-        return Err(fault);
-    }
+    sink.put(b"stab trace 2\n")?;
     for passed in 0..count {
         set_event_line(line, passed + 1, entry_after(history, passed));
-        if let Err(fault) = sink.put(line) {
-            return Err(fault);
-        }
+        sink.put(line)?;
     }
     set_end_line(line, count);
     sink.put(line)

@@ -1,24 +1,29 @@
-use Rattle.std.proofs.Common.{◌≡◌, ◌+◌, suc, ◌++◌, ◌∷◌, [], length, sym, ap, subst, ◌∙◌, arith, add-one}
+use Rattle.std.proofs.Common.{suc, ◌++◌, ◌∷◌, [], sym, ap, subst, ◌∙◌, arith, add-one}
 use Rattle.std.specs.Prelude.{codes}
+use Rattle.std.proofs.lemmas.Result.{err_from_is_err_and}
 use Rattle.stab_files.specs.Told.{Appends, AppendsPrefix}
 use Rattle.stab_files.proofs.Puts.{appends_prefix_more, appends_prefix_trans, appends_trans}
-use Rattle.trace_text.specs.Text.{entries, trace}
+use Rattle.trace_text.specs.Text.{trace}
 use Rattle.trace_text.proofs.PutLines.{last_is, left, next_is, on_err, on_ok, piece_cut, whole_more}
 use Rattle.trace_text.proofs.Texts.{length-entries}
 use Rattle.trace_text.proofs.write.put_lines.Goals as goal
 
-pub returns-in-Err-clause-prefix : goal.returns-in-Err-clause-prefix
-returns-in-Err-clause-prefix g c =
-    appends_prefix_more (g.K.Sink.told c.args.sink.now) (g.K.Sink.told c.put.new.self) (codes "stab trace 2" ++ 10 ∷ []) (left c.args.history.now 0) c.in-Err.ensures.prefix
+pub returns-in_err-put-clause-prefix : goal.returns-in_err-put-clause-prefix
+returns-in_err-put-clause-prefix g c =
+    let failed = err_from_is_err_and c.from_residual.result c.from_residual.ensures.1 in
+    rw (failed.1) (appends_prefix_more (g.K.Sink.told c.args.sink.now) (g.K.Sink.told c.put.new.self) (codes "stab trace 2" ++ 10 ∷ []) (left c.args.history.now 0) c.in_err-put.ensures.prefix)
 
-pub returns-in-Err-put-clause-prefix : goal.returns-in-Err-put-clause-prefix
-returns-in-Err-put-clause-prefix g c =
+pub returns-in_err-put-2-clause-prefix : goal.returns-in_err-put-2-clause-prefix
+returns-in_err-put-2-clause-prefix g c =
     let j = c.args.history.now in
     let so_far = c.loop-passed.invariant in
     let passed = c.loop-passed.passed in
+    let failed = err_from_is_err_and c.from_residual-in_err-put-2.result c.from_residual-in_err-put-2.ensures.1 in
+    rw (failed.1) (
     piece_cut (g.K.Sink.told c.args.sink.now) (g.K.Sink.told c.loop-passed.sink) (g.K.Sink.told c.put-in-loop-passed.new.self) (trace j) so_far.front c.deref.result.now (left j (suc passed))
     (next_is j passed c.entry_after.result (trace j) so_far.front c.deref.result.now so_far.whole c.entry_after.ensures (c.deref.ensures.value ∙ c.set_event_line.ensures.line))
-    so_far.put c.in-Err-put.ensures.prefix
+    so_far.put c.in_err-put-2.ensures.prefix
+    )
 
 pub loop-passed-preserved : goal.loop-passed-preserved
 loop-passed-preserved g c =
@@ -26,7 +31,7 @@ loop-passed-preserved g c =
     let so_far = c.loop-passed.invariant in
     let passed = c.loop-passed.passed in
     let piece = c.deref.result.now in
-    let put = c.in_default-put.ensures in
+    let put = c.in_ok-put-2.ensures in
     record {
       front = so_far.front ++ piece;
       whole =
