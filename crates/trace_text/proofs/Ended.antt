@@ -1,5 +1,5 @@
 -- Lines that are each ended by a line feed, joined and split again.
-use Rattle.std.proofs.Common.{◌≡◌, ℕ, Bool, true, List, [], ◌∷◌, ◌++◌, refl, ap, ◌∙◌}
+use Rattle.std.proofs.Common.{◌≡◌, ℕ, true, List, [], ◌∷◌, ◌++◌, refl, ap, ◌∙◌}
 use Rattle.std.proofs.lemmas.Bool.{and_parts}
 use Rattle.trace_text.specs.Text.{ended}
 use Rattle.text_lines.specs.Lines.{separated, split}

@@ -1,5 +1,5 @@
 -- The entries of a journal with one more event, struck or not.
-use Rattle.std.proofs.Common.{◌≡◌, ℕ, zero, suc, ◌+◌, ◌-◌, ◌<◌, ◌≤◌, Bool, true, false, not, ◌||◌, ◌↔◌, Some, None, eqb, List, [], ◌∷◌, ◌++◌, length, IsSome, is_some, refl, sym, ap, subst, ◌∙◌, arith, add-zero, add-one}
+use Rattle.std.proofs.Common.{◌≡◌, ℕ, zero, suc, ◌+◌, ◌-◌, ◌<◌, ◌≤◌, Bool, true, false, not, ◌||◌, ◌↔◌, Some, None, eqb, List, [], ◌∷◌, ◌++◌, length, IsSome, is_some, refl, sym, ap, subst, ◌∙◌, arith, add-zero}
 use Rattle.std.specs.List.{slice_get}
 use Rattle.std.specs.Option.{option_and_then}
 use Rattle.std.specs.Ordering.{nat_cmp}

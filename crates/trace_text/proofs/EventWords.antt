@@ -1,12 +1,11 @@
 -- Events and the words of their lines, both ways.
-use Rattle.std.proofs.Common.{◌≡◌, ℕ, ◌+◌, ◌-◌, ◌^◌, ◌<◌, ◌≤◌, Bool, true, false, ◌&&◌, List, [], ◌∷◌, length, Option, Some, None, ℤ, pos, negsuc, suc, refl, sym, ap, subst, ◌∙◌, arith}
-use Rattle.std.specs.Prelude.{decimal, FitsSigned, codes}
+use Rattle.std.proofs.Common.{◌≡◌, ℕ, ◌-◌, ◌^◌, ◌<◌, true, List, [], ◌∷◌, length, Option, Some, None, ℤ, pos, negsuc, suc, refl, ap, subst, ◌∙◌, arith}
+use Rattle.std.specs.Prelude.{decimal, FitsSigned}
 use Rattle.std.specs.Option.{option_map, option_and_then}
 use Rattle.std.specs.Int.{w64}
 use Rattle.std.specs.Fmt.{signed_decimal}
-use Rattle.std.proofs.lemmas.Bool.{and_from, ltb-true, lt-ltb}
+use Rattle.std.proofs.lemmas.Bool.{and_from, ltb-true}
 use Rattle.std.proofs.lemmas.Fmt.{decimal_nonempty}
-use Rattle.stab_journal.specs.declared.event.Label.{Label}
 use Rattle.stab_journal.specs.declared.event.Label.TheVariants.{Local, Spawn, NewChan, Comm, NewRef, Get, Set, Enter, Cut, Print, Probe, Refuse, Pin, Attempt}
 use Rattle.stab_journal.specs.declared.event.What.{What}
 use Rattle.stab_journal.specs.declared.event.What.TheVariants.{Step, Undo, Release}
@@ -18,10 +17,9 @@ use Rattle.trace_text.specs.Number.{signed_in}
 use Rattle.trace_text.specs.Reading.{is_in_order}
 use Rattle.trace_text.specs.Shape.{are_words, both, count_in, generation_in, is_word, name_in, seq_in, what_of}
 use Rattle.trace_text.specs.Text.{numbers_of, verb_of}
-use Rattle.text_lines.specs.Numeral.{number_in}
 use Rattle.text_lines.proofs.Numerals.{IsNumber, decimal_digits, number_in-decimal, number_in-some}
 use Rattle.text_lines.proofs.Splits.{lacks, all_lack, lacks-digits}
-use Rattle.trace_text.proofs.Numerals.{IsSigned, signed_in-decimal, signed_in-some}
+use Rattle.trace_text.proofs.Numerals.{signed_in-decimal, signed_in-some}
 
 -- a word without spaces and line feeds
 pub record IsPlain (word : List ℕ) : Type 0 where

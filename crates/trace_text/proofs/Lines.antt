@@ -1,5 +1,5 @@
 -- The lines of events and of the end, both ways.
-use Rattle.std.proofs.Common.{◌≡◌, ℕ, suc, ◌+◌, ◌-◌, ◌^◌, ◌<◌, ◌≤◌, Bool, true, false, ◌&&◌, cond, eqb, ltb, List, [], ◌∷◌, length, Option, Some, None, IsSome, refl, sym, ap, subst, ◌∙◌, arith}
+use Rattle.std.proofs.Common.{◌≡◌, ℕ, suc, ◌+◌, ◌-◌, ◌^◌, ◌<◌, ◌≤◌, Bool, true, false, ◌&&◌, cond, eqb, List, [], ◌∷◌, length, Option, Some, None, IsSome, refl, sym, ap, subst, ◌∙◌, arith}
 use Rattle.std.specs.Prelude.{decimal, codes}
 use Rattle.std.specs.List.{AllByRecursion}
 use Rattle.std.specs.Option.{option_map, option_and_then}
@@ -13,7 +13,7 @@ use Rattle.stab_journal.specs.declared.event.Label.TheVariants.{Local, Spawn, Ne
 use Rattle.stab_journal.specs.declared.event.What.{What}
 use Rattle.stab_journal.specs.declared.event.What.TheVariants.{Step, Undo, Release}
 use Rattle.stab_journal.specs.declared.event.Event.{Event}
-use Rattle.stab_journal.specs.Event.{IsEvent, IsWhat, label_of}
+use Rattle.stab_journal.specs.Event.{IsWhat, label_of}
 use Rattle.trace_text.specs.declared.form.Header.{Header}
 use Rattle.trace_text.specs.declared.form.Header.TheVariants.{First, Second}
 use Rattle.trace_text.specs.declared.form.Sign.{Sign}
@@ -24,15 +24,15 @@ use Rattle.trace_text.specs.declared.line.Entry.{Entry}
 use Rattle.trace_text.specs.declared.line.Line.{Line}
 use Rattle.trace_text.specs.declared.line.Line.TheVariants as is
 use Rattle.text_lines.specs.Table.{named_in}
-use Rattle.trace_text.specs.Form.{arity, fits, header_named, header_text, is_step_sign, sign_named, sign_text, signs, verb_named, verb_text, verbs as verb_rows}
-use Rattle.trace_text.specs.Reading.{IsEntryAt, end_is, event_is, in_place, is_end, is_in_order, is_struck, line_is, numbers, or_line, second}
+use Rattle.trace_text.specs.Form.{arity, fits, is_step_sign, sign_named, sign_text, signs, verb_named, verb_text, verbs as verb_rows}
+use Rattle.trace_text.specs.Reading.{IsEntryAt, end_is, event_is, in_place, is_in_order, is_struck, line_is, numbers, or_line}
 use Rattle.trace_text.specs.Shape.{Shape, after_w, are_words, checked, is_shape, is_word, seq_in, shape_of, what_of}
 use Rattle.trace_text.specs.Text.{IsNoRelease, end_line, event_line, label_verb, numbers_of, sign_of, verb_of}
-use Rattle.text_lines.specs.Lines.{separated, split}
+use Rattle.text_lines.specs.Lines.{split}
 use Rattle.text_lines.specs.Numeral.{number_in}
-use Rattle.text_lines.proofs.Numerals.{IsNumber, number_in-decimal, number_in-some}
-use Rattle.text_lines.proofs.Splits.{lacks, all_lack, lacks-separated, split-separated, rejoined}
-use Rattle.trace_text.proofs.EventWords.{ArePlain, IsPlain, Written, are_words-plain, mapped_from, no_feeds, no_spaces, numbers_length, numbers_plain, plain, then_from, verb_plain, what_of-read, what_of-written}
+use Rattle.text_lines.proofs.Numerals.{number_in-decimal, number_in-some}
+use Rattle.text_lines.proofs.Splits.{lacks, lacks-separated, split-separated}
+use Rattle.trace_text.proofs.EventWords.{ArePlain, IsPlain, are_words-plain, mapped_from, no_feeds, no_spaces, numbers_length, numbers_plain, plain, then_from, verb_plain, what_of-read, what_of-written}
 
 -- under the first header no event is a release
 abbrev pub Allowed : Header → What → Type 0

@@ -1,9 +1,9 @@
 -- Two journals with the same entries have the same events and struck steps.
-use Rattle.std.proofs.Common.{◌≡◌, ℕ, zero, suc, ◌+◌, ◌^◌, ◌<◌, ◌≤◌, Bool, true, false, List, [], ◌∷◌, length, IsSome, Result, inl, inr, Ok, Err, refl, sym, ap, subst, ◌∙◌, arith, add-zero}
+use Rattle.std.proofs.Common.{◌≡◌, ℕ, zero, suc, ◌+◌, ◌^◌, ◌<◌, Bool, true, false, List, [], ◌∷◌, length, IsSome, Result, inl, inr, Ok, Err, refl, sym, ap, subst, ◌∙◌, arith, add-zero}
 use Rattle.std.specs.Ordering.{nat_cmp}
 use Rattle.std.specs.FinSet.{FinSet, contains}
 use Rattle.stab_journal.specs.declared.event.Event.{Event}
-use Rattle.stab_journal.specs.Journal.{Journal, IsValid, label_at}
+use Rattle.stab_journal.specs.Journal.{Journal, IsValid}
 use Rattle.stab_journal.proofs.Events.{label_in, next_place}
 use Rattle.trace_text.specs.declared.fault.TraceFault.{TraceFault}
 use Rattle.trace_text.specs.declared.line.Entry.{Entry}

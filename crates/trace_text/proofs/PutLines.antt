@@ -1,13 +1,13 @@
 -- The lines of a trace, put one after the other.
-use Rattle.std.proofs.Common.{◌≡◌, ℕ, zero, suc, ◌+◌, ◌<◌, ◌≤◌, List, [], ◌∷◌, ◌++◌, length, drop, Option, Some, Result, Ok, Err, refl, sym, ap, subst, ◌∙◌, arith, append_assoc}
+use Rattle.std.proofs.Common.{◌≡◌, ℕ, zero, suc, ◌+◌, ◌≤◌, List, [], ◌∷◌, ◌++◌, length, drop, Option, Some, Result, Ok, Err, sym, ap, subst, ◌∙◌, arith, append_assoc}
 use Rattle.std.specs.Result.{OnOk, OnErr}
 use Rattle.std.specs.List.{slice_get}
-use Rattle.std.proofs.lemmas.List.{drop_all, append-nil}
+use Rattle.std.proofs.lemmas.List.{drop_all}
 use Rattle.stab_files.specs.Told.{Appends, AppendsPrefix}
-use Rattle.stab_files.proofs.Puts.{appends_prefix_more, appends_prefix_trans, appends_trans}
+use Rattle.stab_files.proofs.Puts.{appends_prefix_more, appends_prefix_trans}
 use Rattle.stab_journal.specs.Journal.{Journal}
 use Rattle.trace_text.specs.declared.line.Entry.{Entry}
-use Rattle.trace_text.specs.Text.{end_line, ended, entries, event_line, event_lines, trace}
+use Rattle.trace_text.specs.Text.{end_line, ended, entries, event_line, event_lines}
 
 -- the entry at a place, and those behind it
 front_of : (es : List Entry) (i : ℕ) (e : Entry) → slice_get es i ≡ Some e → drop i es ≡ e ∷ drop (suc i) es

@@ -1,13 +1,12 @@
 -- Lines with no number or with more than three have no shape.
-use Rattle.std.proofs.Common.{◌≡◌, ℕ, ◌<◌, ◌≤◌, ◌⊎◌, Bool, true, false, ◌&&◌, cond, eqb, List, [], ◌∷◌, length, Option, Some, None, inl, inr, refl, sym, ap, ◌∙◌, arith}
+use Rattle.std.proofs.Common.{◌≡◌, ℕ, ◌≤◌, false, ◌&&◌, cond, eqb, List, ◌∷◌, length, Option, Some, None, inl, inr, refl, ap, arith}
 use Rattle.std.specs.Option.{option_and_then}
 use Rattle.std.proofs.lemmas.Bool.{ne_eqb, and_right}
 use Rattle.trace_text.specs.declared.form.Header.{Header}
-use Rattle.trace_text.specs.declared.form.Sign.{Sign}
 use Rattle.trace_text.specs.declared.form.Verb.{Verb}
 use Rattle.trace_text.specs.declared.form.Verb.TheVariants as verbs
 use Rattle.trace_text.specs.Form.{arity, fits, sign_named, verb_named}
-use Rattle.trace_text.specs.Shape.{Shape, IsNoArity, is_word, are_words, after_w, is_shape, checked, shape_of}
+use Rattle.trace_text.specs.Shape.{Shape, IsNoArity, is_word, are_words, after_w, checked, shape_of}
 
 pub arity-bounds : (v : Verb) → (1 ≤ arity v) × (arity v ≤ 3)
 arity-bounds verbs.Local = (omega arith, omega arith)

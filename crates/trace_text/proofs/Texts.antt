@@ -1,25 +1,24 @@
 -- The text of events is read as the events, and what is read as events is their text.
-use Rattle.std.proofs.Common.{◌≡◌, ℕ, zero, suc, ◌+◌, ◌-◌, ◌^◌, ◌<◌, ◌≤◌, ◌⊎◌, Bool, true, false, ◌&&◌, cond, List, [], ◌∷◌, ◌++◌, length, Some, None, Option, IsSome, Result, Ok, Err, inl, inr, refl, sym, ap, subst, ◌∙◌, arith, add-zero}
+use Rattle.std.proofs.Common.{◌≡◌, ℕ, suc, ◌+◌, ◌-◌, ◌^◌, ◌<◌, ◌≤◌, true, List, [], ◌∷◌, ◌++◌, length, Some, None, Option, IsSome, Result, Ok, Err, inl, inr, refl, sym, ap, subst, ◌∙◌, arith, add-zero}
 use Rattle.std.specs.Prelude.{codes, decimal}
 use Rattle.std.specs.Ordering.{nat_cmp}
 use Rattle.std.specs.FinSet.{FinSet, contains}
 use Rattle.std.proofs.lemmas.Bool.{and_from}
 use Rattle.stab_journal.specs.declared.event.Event.{Event}
-use Rattle.stab_journal.specs.Event.{AreEvents, label_of}
+use Rattle.stab_journal.specs.Event.{AreEvents}
 use Rattle.stab_journal.specs.Journal.{Journal, IsValid}
 use Rattle.stab_journal.proofs.Events.{label_in, next_place}
 use Rattle.trace_text.specs.declared.fault.TraceFault.{TraceFault}
 use Rattle.trace_text.specs.declared.form.Header.{Header}
 use Rattle.trace_text.specs.declared.form.Header.TheVariants.{First, Second}
 use Rattle.trace_text.specs.declared.line.Entry.{Entry}
-use Rattle.trace_text.specs.declared.line.Line.{Line}
 use Rattle.trace_text.specs.declared.line.Line.TheVariants as is
 use Rattle.trace_text.specs.Form.{header_named, header_text, headers}
 use Rattle.trace_text.specs.Reading.{IsEntryAt, after, follow, line_is, nothing_more, read_behind, read_lines, read_text, reading}
-use Rattle.trace_text.specs.Text.{IsNoRelease, NoRelease, IsTextOf, end_line, ended, entries, entries_from, event_line, event_lines, text, trace}
+use Rattle.trace_text.specs.Text.{NoRelease, IsTextOf, end_line, entries, entries_from, event_line, event_lines, text, trace}
 use Rattle.text_lines.specs.Lines.{separated, split}
 use Rattle.trace_text.proofs.Lines.{Allowed, IsEndLine, IsLine, end-one, end-read, end-written, line-one, line-read, line-written, named_in-some, words_behind}
-use Rattle.text_lines.proofs.Splits.{lacks, all_lack, pieces, rejoined}
+use Rattle.text_lines.proofs.Splits.{lacks, all_lack, rejoined}
 use Rattle.trace_text.proofs.Ended.{separated-ended, split-ended}
 
 -- events that can stand from the number q on

@@ -1,5 +1,5 @@
 -- The marks and words of a trace, and how many numbers follow each word.
-use Rattle.std.specs.Prelude.{ℕ, ◌&&◌, Bool, true, false, List, [], ◌∷◌, Option, Some, None, codes, if◌then◌else◌}
+use Rattle.std.specs.Prelude.{ℕ, ◌&&◌, Bool, true, false, List, [], ◌∷◌, Option, codes}
 use Rattle.text_lines.specs.Table.{named_in}
 use Rattle.trace_text.specs.declared.form.Header.{Header}
 use Rattle.trace_text.specs.declared.form.Header.TheVariants.{First, Second}

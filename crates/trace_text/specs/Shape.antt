@@ -1,14 +1,9 @@
 -- The shape of a line, in which a number is any word, and the numbers in it.
-use Rattle.std.specs.Prelude.{◌≡◌, ◌<◌, ◌⊎◌, ℕ, ◌-◌, ◌^◌, ◌&&◌, ◌==◌, Bool, true, false, not, nat_lt, List, [], ◌∷◌, length, Option, Some, None, option_map, if◌then◌else◌}
+use Rattle.std.specs.Prelude.{◌≡◌, ◌<◌, ◌⊎◌, ℕ, ◌-◌, ◌^◌, ◌&&◌, ◌==◌, Bool, true, false, List, [], ◌∷◌, length, Option, Some, None, option_map, if◌then◌else◌}
 use Rattle.std.specs.Option.{option_and_then}
-use Rattle.stab_base.specs.declared.numbers.ThreadId.{ThreadId}
-use Rattle.stab_base.specs.declared.numbers.ChanId.{ChanId}
-use Rattle.stab_base.specs.declared.numbers.RefId.{RefId}
-use Rattle.stab_journal.specs.declared.event.Label.{Label}
 use Rattle.stab_journal.specs.declared.event.Label.TheVariants.{Local, Spawn, NewChan, Comm, NewRef, Get, Set, Enter, Cut, Print, Probe, Refuse, Pin, Attempt}
 use Rattle.stab_journal.specs.declared.event.What.{What}
 use Rattle.stab_journal.specs.declared.event.What.TheVariants.{Step, Undo, Release}
-use Rattle.stab_journal.specs.declared.event.Event.{Event}
 use Rattle.trace_text.specs.declared.form.Header.{Header}
 use Rattle.trace_text.specs.declared.form.Sign.{Sign}
 use Rattle.trace_text.specs.declared.form.Verb.{Verb}

@@ -1,4 +1,4 @@
-use Rattle.std.proofs.Common.{◌≡◌, ◌+◌, suc, Some, is_some, true, ◌↔◌, subst, sym, ap, ◌∙◌, refl, arith, add-one}
+use Rattle.std.proofs.Common.{◌≡◌, Some, is_some, true, ◌↔◌, subst, sym, ap, ◌∙◌, arith, add-one}
 use Rattle.std.specs.List.{slice_get}
 use Rattle.stab_journal.specs.Event.{label_of}
 use Rattle.stab_journal.specs.Journal.{IsLive, event_at}
