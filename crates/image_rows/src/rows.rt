@@ -24,18 +24,23 @@ pub fn take<R: AllocGlobal + Print + Threads>(
     line: &str,
 ) -> io::Result<()> {
     let (word, rest) = cut(line);
-    if word.is_empty() || word == "#" {
-        return Ok(());
+    match word {
+        "" | "#" => Ok(()),
+        "==" => println!(rt; "{line}"),
+        "head" => Ok(set_head(&mut pieces.head, rest)?),
+        "times" => Ok(set_piece(&mut pieces.piece, rest)?),
+        _ => judge(rt, pieces, line, word, rest),
     }
-    if word == "==" {
-        return println!(rt; "{line}");
-    }
-    if word == "head" {
-        return Ok(set_head(&mut pieces.head, rest)?);
-    }
-    if word == "times" {
-        return Ok(set_piece(&mut pieces.piece, rest)?);
-    }
+}
+
+// Prints whether the text is as this row says.
+fn judge<R: AllocGlobal + Print + Threads>(
+    rt: &R,
+    pieces: &Pieces,
+    line: &str,
+    word: &str,
+    rest: &str,
+) -> io::Result<()> {
     let mut text = Vec::new(rt.alloc());
     let place = build(&mut text, pieces, rest)?;
     let found = answer(rt, word == "fronts", text)?;

@@ -20,29 +20,19 @@ pub fn answer_of(alloc: Global, expected: &str, told: &Told) -> Result<String, A
 
 // Adds what the answer has for a line.
 fn add(answer: &mut String, word: &str, rest: &str, told: &Told) -> Result<(), AllocError> {
-    if word == "once" {
-        return add_count(answer, rest, told);
+    match word {
+        "once" => add_count(answer, rest, told),
+        "struck" => add_struck(answer, told),
+        "undos" => add_undos(answer, told),
+        "events" => add_events(answer, told),
+        "weights" => add_weights(answer, told),
+        "gate" => {
+            let waits = told.waits;
+            writeln!(answer, "gate {waits}")
+        }
+        "exit" => add_end(answer, told),
+        _ => Ok(()),
     }
-    if word == "struck" {
-        return add_struck(answer, told);
-    }
-    if word == "undos" {
-        return add_undos(answer, told);
-    }
-    if word == "events" {
-        return add_events(answer, told);
-    }
-    if word == "weights" {
-        return add_weights(answer, told);
-    }
-    if word == "gate" {
-        let waits = told.waits;
-        return writeln!(answer, "gate {waits}");
-    }
-    if word == "exit" {
-        return add_end(answer, told);
-    }
-    Ok(())
 }
 
 // How often the output has a line.

@@ -29,19 +29,13 @@ fn take<R: AllocGlobal + Print + Threads + Wait + Sync>(
     line: &str,
 ) -> io::Result<()> {
     let (word, rest) = cut(line);
-    if word == "==" {
-        return println!(rt; "{line}");
+    match word {
+        "" | "#" => Ok(()),
+        "==" => println!(rt; "{line}"),
+        "exit" => finish(rt, table, line),
+        "passes" => pass(rt, table, line, rest),
+        _ => Ok(table.take(rt.alloc(), line, word, rest)?),
     }
-    if word == "exit" {
-        return finish(rt, table, line);
-    }
-    if word == "passes" {
-        return pass(rt, table, line, rest);
-    }
-    if !word.is_empty() && word != "#" {
-        table.take(rt.alloc(), line, word, rest)?;
-    }
-    Ok(())
 }
 
 // Makes the call, whose row this line ends.

@@ -66,19 +66,13 @@ impl Table {
         word: &str,
         rest: &str,
     ) -> Result<(), AllocError> {
-        if word == "stab" {
-            return self.begin(alloc, line);
+        match word {
+            "stab" => self.begin(alloc, line),
+            "failing" => self.plan(line, rest),
+            "keep" => self.keep(alloc, rest),
+            _ if self.line.is_some() => self.take_answer(line, word, rest),
+            _ => self.take_file(alloc, line, word, rest),
         }
-        if word == "failing" {
-            return self.plan(line, rest);
-        }
-        if word == "keep" {
-            return self.keep(alloc, rest);
-        }
-        if self.line.is_some() {
-            return self.take_answer(line, word, rest);
-        }
-        self.take_file(alloc, line, word, rest)
     }
 
     /// Begins a call.
@@ -152,17 +146,29 @@ impl Table {
         rest: &str,
     ) -> Result<(), AllocError> {
         let (name, text) = cut(rest);
-        if word == "file" {
-            return self.add_file(alloc, name, text);
+        match word {
+            "file" => self.add_file(alloc, name, text),
+            "lines" => {
+                let text = text.replace(alloc, "/", "\n")?;
+                self.add_file(alloc, name, text.as_str())
+            }
+            "trace" => {
+                self.events = String::from_str(alloc, text)?;
+                self.add_trace(alloc, name, text)
+            }
+            _ => self.take_changed(alloc, line, word, rest),
         }
-        if word == "lines" {
-            let text = text.replace(alloc, "/", "\n")?;
-            return self.add_file(alloc, name, text.as_str());
-        }
-        if word == "trace" {
-            self.events = String::from_str(alloc, text)?;
-            return self.add_trace(alloc, name, text);
-        }
+    }
+
+    // A line that begins a file with a trace like the last, but for an event.
+    fn take_changed(
+        &mut self,
+        alloc: Global,
+        line: &str,
+        word: &str,
+        rest: &str,
+    ) -> Result<(), AllocError> {
+        let (name, text) = cut(rest);
         let (number, behind) = cut(text);
         match (number.parse::<usize>(), behind.parse::<usize>()) {
             (Ok(number), Ok(other)) if word == "more" => {

@@ -35,19 +35,13 @@ fn add(line: &mut String, word: &str, rest: &str, program: &Program) -> Result<(
         return line.push_str(": no such row");
     };
     write!(line, " {number}")?;
-    if word == "function" {
-        return add_function(line, program, number);
+    match word {
+        "function" => add_function(line, program, number),
+        "node" => add_node(line, program, number),
+        "strict" => add_strict(line, program, number),
+        "literal" => add_literal(line, program, number),
+        _ => line.push_str(": no such row"),
     }
-    if word == "node" {
-        return add_node(line, program, number);
-    }
-    if word == "strict" {
-        return add_strict(line, program, number);
-    }
-    if word == "literal" {
-        return add_literal(line, program, number);
-    }
-    line.push_str(": no such row")
 }
 
 fn add_program(line: &mut String, program: &Program) -> Result<(), AllocError> {

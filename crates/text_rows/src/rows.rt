@@ -44,20 +44,16 @@ fn build(alloc: Global, text: &mut Vec<u8>, word: &str, rest: &str) -> Result<bo
     let Ok(number) = first.parse::<u32>() else {
         return Ok(false);
     };
-    if word == "times" {
-        extend(text, number, behind)?;
-        return Ok(true);
+    match word {
+        "times" => {
+            extend(text, number, behind)?;
+            Ok(true)
+        }
+        "each" => extend_each(alloc, text, number, behind),
+        "byte" => extend_byte(text, u8::try_from(number).ok()),
+        "put" => Ok(put(text, number, behind.parse::<u8>().ok())),
+        _ => Ok(false),
     }
-    if word == "each" {
-        return extend_each(alloc, text, number, behind);
-    }
-    if word == "byte" {
-        return extend_byte(text, u8::try_from(number).ok());
-    }
-    if word == "put" {
-        return Ok(put(text, number, behind.parse::<u8>().ok()));
-    }
-    Ok(false)
 }
 
 fn extend(text: &mut Vec<u8>, count: u32, piece: &str) -> Result<(), AllocError> {
@@ -104,22 +100,14 @@ fn put(text: &mut [u8], place: u32, byte: Option<u8>) -> bool {
 
 /// The row that is true of the text, where this one asks for it.
 fn answer(alloc: Global, text: &[u8], word: &str, rest: &str) -> Result<String, AllocError> {
-    if word == "missing" {
-        return missing(alloc, rest);
+    match word {
+        "missing" => missing(alloc, rest),
+        "fault" => fault(alloc, text),
+        "syntax" => syntax_fault(alloc, text),
+        "parts" => parts(alloc, text),
+        "count" | "forms" | "functions" => of_syntax(alloc, text, word),
+        _ => of_program(alloc, text, word, rest),
     }
-    if word == "fault" {
-        return fault(alloc, text);
-    }
-    if word == "syntax" {
-        return syntax_fault(alloc, text);
-    }
-    if word == "parts" {
-        return parts(alloc, text);
-    }
-    if word == "count" || word == "forms" || word == "functions" {
-        return of_syntax(alloc, text, word);
-    }
-    of_program(alloc, text, word, rest)
 }
 
 /// The first word of a text, and what stands behind it.

@@ -16,18 +16,22 @@ pub fn of_syntax(alloc: Global, text: &[u8], word: &str) -> Result<String, Alloc
 
 fn told(alloc: Global, text: &[u8], word: &str, tree: &Tree) -> Result<String, AllocError> {
     let mut line = String::from_str(alloc, word)?;
-    if word == "count" {
-        let count = tree.forms.all().len();
-        write!(line, " {count}")?;
-    } else if word == "forms" {
-        for form in tree.forms.all() {
-            line.push(' ')?;
-            add_form(&mut line, text, form)?;
+    match word {
+        "count" => {
+            let count = tree.forms.all().len();
+            write!(line, " {count}")?;
         }
-    } else {
-        for function in tree.functions.all() {
-            line.push(' ')?;
-            add_function(&mut line, text, function)?;
+        "forms" => {
+            for form in tree.forms.all() {
+                line.push(' ')?;
+                add_form(&mut line, text, form)?;
+            }
+        }
+        _ => {
+            for function in tree.functions.all() {
+                line.push(' ')?;
+                add_function(&mut line, text, function)?;
+            }
         }
     }
     Ok(line)
