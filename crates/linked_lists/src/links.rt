@@ -55,6 +55,7 @@ pub(crate) fn place_in(spot: Spot) -> Option<usize>
 
 impl Links {
     /// What comes before and after a spot.
+    #[inline(always)]
     pub(crate) fn link(&self, spot: Spot) -> Link
         requires { IsThere (length self.now.ends.items) (length self.now.places.items) spot }
         ensures { result ≡ link_at self.now.ends.items self.now.places.items spot }
@@ -66,6 +67,7 @@ impl Links {
     }
 
     /// Gives a spot another link.
+    #[inline(always)]
     pub(crate) fn write(&mut self, spot: Spot, link: Link)
         requires { IsThere (length self.old.ends.items) (length self.old.places.items) spot }
         ensures links { (p : Spot) → link_at self.new.ends.items self.new.places.items p
@@ -82,6 +84,7 @@ impl Links {
     }
 
     /// Puts `next` after a spot.
+    #[inline(always)]
     pub(crate) fn set_after(&mut self, spot: Spot, next: Spot)
         requires { IsThere (length self.old.ends.items) (length self.old.places.items) spot }
         ensures after { (p : Spot) → ring_after self.new.ends.items self.new.places.items p
@@ -104,6 +107,7 @@ impl Links {
     }
 
     /// Puts `last` before a spot.
+    #[inline(always)]
     pub(crate) fn set_before(&mut self, spot: Spot, last: Spot)
         requires { IsThere (length self.old.ends.items) (length self.old.places.items) spot }
         ensures after { (p : Spot) → ring_after self.new.ends.items self.new.places.items p

@@ -138,6 +138,7 @@ impl Lists {
     }
 
     /// Puts a place that is in no list at the tail of a list.
+    #[inline(always)]
     pub fn push(&mut self, list: usize, place: usize)
         requires list { list < length self.old.lists }
         requires place { (1 ≤ place) × (place ≤ self.old.places) }
@@ -162,6 +163,7 @@ impl Lists {
     }
 
     /// Takes a place out of the list that it is in, if any.
+    #[inline(always)]
     pub fn leave(&mut self, place: usize)
         requires { (1 ≤ place) × (place ≤ self.old.places) }
         ensures lists { self.new.lists ≡ map (without place) self.old.lists }

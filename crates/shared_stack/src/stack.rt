@@ -82,6 +82,7 @@ impl<T> Stack<T> {
     }
 
     /// The same stack once more, however many items it has: both share them.
+    #[inline(always)]
     pub fn keep(&self) -> Result<Self, AllocError>
         ensures { IfOk result (λ s. s ≡ self.now) }
     {

@@ -106,6 +106,7 @@ impl Control {
     }
 
     /// The control of a machine that fits some program.
+    #[inline(always)]
     pub(crate) fn parted(running: Running) -> Result<Control, NoMemory>
         ensures { IfOk result (λ c. (p : ProgramParts) → Fits p (view_of running) → c ≡ view_of running) }
     {
@@ -118,6 +119,7 @@ impl Control {
     }
 
     /// A machine of its own, which is where the control is.
+    #[inline(always)]
     pub(crate) fn opened(&self) -> Result<Running, NoMemory>
         ensures { IfOk result (λ r. view_of r ≡ self.now) }
     {

@@ -182,6 +182,7 @@ impl Machine {
     }
 
     /// Copies of the values at hand, where what is looked at has to do with them.
+    #[inline(always)]
     fn values_for(&self, focus: &Focus) -> Result<Vec<Value>, NoMemory>
         ensures { IfOk result (λ done. focus_view focus.now (record { site = self.now.site; done = done.items; env = arc_value self.now.env }) ≡ focus_view focus.now (here_of self.now)) }
     {
@@ -195,6 +196,7 @@ impl Machine {
     }
 
     /// An equal innermost frame.
+    #[inline(always)]
     fn top_copy(&self) -> Result<Option<Frame>, NoMemory>
         ensures { IfOk result (λ top. top ≡ self.now.top) }
     {
@@ -205,6 +207,7 @@ impl Machine {
     }
 
     /// The same machine once more, run from this focus. It shares all frames but the innermost.
+    #[inline(always)]
     pub(crate) fn copied(&self, focus: Focus) -> Result<Running, NoMemory>
         ensures focus { IfOk result (λ r. r.focus ≡ focus) }
         ensures looks { IfOk result (λ r. focus_view focus (here_of r.machine) ≡ focus_view focus (here_of self.now)) }

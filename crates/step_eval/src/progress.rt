@@ -133,6 +133,7 @@ impl Running {
 }
 
 /// This many pure steps of an equal control, and where they lead.
+#[inline(always)]
 fn advanced(p: &Program, control: &Control, quantum: u32) -> Result<(u32, Control), NoMemory>
     requires { Fits p.now control.now }
     ensures made { IfOk result (λ r. Advances p.now control.now r.0 r.1) }

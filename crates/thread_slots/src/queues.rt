@@ -113,6 +113,7 @@ impl Queues {
 
     /// Puts a thread at the tail of the list of its new state, where that has one, and out of the
     /// list in which it stood.
+    #[inline(always)]
     pub(crate) fn put(&mut self, t: ThreadId, state: State)
         requires { (1 ≤ t.0) × (t.0 ≤ self.old.places) }
         ensures ready { self.new.ready

@@ -144,6 +144,7 @@ impl<C: Drop> Slots<C> {
 
     /// Gives a thread another state. It leaves the queue, and goes to the tail of it where the state
     /// is Ready.
+    #[inline(always)]
     pub fn set_state(&mut self, t: ThreadId, state: State)
         requires { IsSome (map.get self.old.threads t.0) }
         ensures threads { self.new.threads
