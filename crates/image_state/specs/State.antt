@@ -1,8 +1,9 @@
 -- The lines of a state that fit together, and what bytes say of them.
 use Rattle.std.specs.Prelude.{◌≡◌, ℕ, ◌+◌, ◌-◌, ◌&&◌, Bool, true, false, cond, nat_lt, length, List, [], ◌∷◌, drop, Option, Some, None, Result, Ok, Err, codes, if◌then◌else◌}
 use Rattle.std.specs.List.{list_all}
-use Rattle.std.specs.Str.{bytes_eq}
+use Rattle.std.specs.Option.{unwrap_or}
 use Rattle.text_lines.specs.Lines.{split}
+use Rattle.text_lines.specs.Table.{named_in}
 use Rattle.stab_code.specs.Program.{ProgramParts}
 use Rattle.expression_text.specs.declared.word.Word.{Word}
 use Rattle.expression_text.specs.declared.word.Word.TheVariants as w
@@ -49,7 +50,7 @@ are_words_of p (Some r) = list_all (is_word_of p) r.words
 
 -- how many numbers stand before the words of a line
 abbrev pub numbers_before : List ℕ → ℕ
-numbers_before name = if bytes_eq name (codes "ref") then 1 else if bytes_eq name (codes "thread") then 2 else 0
+numbers_before name = unwrap_or (named_in ((codes "ref", 1) ∷ (codes "thread", 2) ∷ []) name) 0
 
 abbrev pub words_behind : List (List ℕ) → List (List ℕ)
 words_behind [] = []

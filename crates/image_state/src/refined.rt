@@ -12,7 +12,10 @@ use image_text::{LineFault, next_piece, words_in};
 use stab_base::NoMemory;
 use stab_code::Program;
 use std::alloc::Global;
-use text_lines::cut;
+use text_lines::{cut, named_in};
+
+// How many numbers stand before the words of a line, where it is by its name.
+const NUMBERS_BEFORE: [(&str, u32); 2] = [("ref", 1), ("thread", 2)];
 
 /// The fault of a line among the bytes of a state, of which the first has this place.
 pub(crate) fn refined_at(
@@ -89,13 +92,7 @@ fn words_behind(line: &[u8]) -> Option<&[u8]>
 fn numbers_before(name: &[u8]) -> u32
     ensures { result ≡ numbers_before name.now }
 {
-    if name == b"ref".as_slice() {
-        1
-    } else if name == b"thread".as_slice() {
-        2
-    } else {
-        0
-    }
+    named_in(&NUMBERS_BEFORE, name).unwrap_or(0)
 }
 
 // What stands behind the next piece.
