@@ -9,11 +9,12 @@ use Rattle.stab_base.specs.declared.numbers.ThreadId.{ThreadId}
 use Rattle.stab_journal.specs.declared.event.Label.{Label}
 use Rattle.stab_journal.specs.declared.event.What.TheVariants.{Step}
 use Rattle.stab_journal.specs.Event.{weigh}
+use Rattle.plain_language.specs.declared.look.ActKind.TheVariants.{Spawn, NewChan, NewRef, Get, Set, Send, Recv, Pick, Enter, Stabilize, Cut, Pin, Print, Probe, Attempt}
+use Rattle.plain_language.specs.declared.look.Look.{Look}
+use Rattle.plain_language.specs.declared.look.Look.TheVariants.{Done, Failed, Pure, Act}
 use Rattle.plain_language.specs.Plain.{effect_of, plain_step}
 use Rattle.journal_laws.specs.Known.{IsExprIn, IsKnown}
 use Rattle.journal_laws.proofs.Runs.{closed, run_keeps}
-use Rattle.ready_steps.specs.declared.deed.Deed.{Deed}
-use Rattle.ready_steps.specs.declared.deed.Deed.TheVariants.{Ended, Pure, Spawn, NewChan, NewRef, Get, Set, Send, Recv, Pick, Enter, Stabilize, Cut, Pin, Print, Probe, Attempt}
 use Rattle.ready_steps.specs.declared.label.Given.{Given}
 use Rattle.ready_steps.specs.Labels.{label_of}
 use Rattle.image_run.specs.declared.machine.Machine.{Machine}
@@ -47,69 +48,46 @@ module _ (m : Machine) (h : IsAt m) where
   reference_free = not_true _ (λ yes. omega (arith, state_below.references m.next.reference yes))
 
   module _ (t : ThreadId) (g : Given) (given : IsGivenBy m t.0 g) where
-    fits : (d : Deed) → IfSome (label_of t g d) (IsFitting m)
-    fits Ended = tt
-    fits Pure = tt
-    fits (Send c) = tt
-    fits (Recv c) = tt
-    fits (Pick c d) = tt
-    fits Stabilize = tt
-    fits Spawn = record { may = omega (arith, given.thread, h.numbered.low); script = tt; next = given.thread; some = omega arith; little = omega arith }
-    fits NewChan = record { may = tt; script = tt; next = given.chan; some = omega arith; little = omega arith }
-    fits NewRef = record { may = tt; script = tt; next = given.reference; some = omega arith; little = omega arith }
-    fits (Get r) = record { may = tt; script = tt; next = tt; some = omega arith; little = omega arith }
-    fits (Set r) = record { may = tt; script = tt; next = tt; some = omega arith; little = omega arith }
-    fits Enter = record { may = tt; script = tt; next = tt; some = omega arith; little = omega arith }
-    fits Cut = record { may = tt; script = tt; next = tt; some = omega arith; little = omega arith }
-    fits Pin = record { may = tt; script = tt; next = tt; some = omega arith; little = omega arith }
-    fits Print = record { may = tt; script = tt; next = tt; some = omega arith; little = omega arith }
-    fits Probe = record { may = tt; script = given.probe; next = tt; some = omega arith; little = omega arith }
-    fits Attempt = record { may = given.generation ∙ sym (h.counted.generations t.0); script = tt; next = tt; some = omega arith; little = omega arith }
+    fits : (d : Look) → IfSome (label_of t g d) (IsFitting m)
+    fits (Act Spawn) = record { may = omega (arith, given.thread, h.numbered.low); script = tt; next = given.thread; some = omega arith; little = omega arith }
+    fits (Act NewChan) = record { may = tt; script = tt; next = given.chan; some = omega arith; little = omega arith }
+    fits (Act NewRef) = record { may = tt; script = tt; next = given.reference; some = omega arith; little = omega arith }
+    fits (Act (Get r)) = record { may = tt; script = tt; next = tt; some = omega arith; little = omega arith }
+    fits (Act (Set r)) = record { may = tt; script = tt; next = tt; some = omega arith; little = omega arith }
+    fits (Act Enter) = record { may = tt; script = tt; next = tt; some = omega arith; little = omega arith }
+    fits (Act Cut) = record { may = tt; script = tt; next = tt; some = omega arith; little = omega arith }
+    fits (Act Pin) = record { may = tt; script = tt; next = tt; some = omega arith; little = omega arith }
+    fits (Act Print) = record { may = tt; script = tt; next = tt; some = omega arith; little = omega arith }
+    fits (Act Probe) = record { may = tt; script = given.probe; next = tt; some = omega arith; little = omega arith }
+    fits (Act Attempt) = record { may = given.generation ∙ sym (h.counted.generations t.0); script = tt; next = tt; some = omega arith; little = omega arith }
+    fits d = tt
 
     both : (o : Option Label) → IfSome o (λ l. IsSome (plain_step m.surviving.state.program (state_of m) (number_of m) l)) → IfSome o (IsFitting m) → IfSome o (MayMake m)
     both None a b = tt
     both (Some l) a b = record { has = a; fits = b }
 
     -- the step of a thread by itself may be made
-    pub may_make : (o : Option Label) (d : Deed) → o ≡ label_of t g d → IfSome o (λ l. IsSome (plain_step m.surviving.state.program (state_of m) (number_of m) l)) → IfSome o (MayMake m)
+    pub may_make : (o : Option Label) (d : Look) → o ≡ label_of t g d → IfSome o (λ l. IsSome (plain_step m.surviving.state.program (state_of m) (number_of m) l)) → IfSome o (MayMake m)
     may_make o d is has = both o has (subst (λ (x : Option Label). IfSome x (IsFitting m)) (sym is) (fits d))
 
 -- a thread that makes a step by itself that isn't pure has a label, where it isn't at a `stabilize`
-pub lone_some : (t : ThreadId) (g : Given) (d : Deed) → is_lone d ≡ true → (d ≡ Stabilize → ⊥) → IsSome (label_of t g d)
-lone_some t g Ended lone other = absurd (false≢true lone)
+pub lone_some : (t : ThreadId) (g : Given) (d : Look) → is_lone d ≡ true → (d ≡ Act Stabilize → ⊥) → IsSome (label_of t g d)
+lone_some t g Done lone other = absurd (false≢true lone)
+lone_some t g (Failed k) lone other = absurd (false≢true lone)
 lone_some t g Pure lone other = absurd (false≢true lone)
-lone_some t g (Send c) lone other = absurd (false≢true lone)
-lone_some t g (Recv c) lone other = absurd (false≢true lone)
-lone_some t g (Pick c d) lone other = absurd (false≢true lone)
-lone_some t g Stabilize lone other = absurd (other refl)
-lone_some t g Spawn lone other = refl
-lone_some t g NewChan lone other = refl
-lone_some t g NewRef lone other = refl
-lone_some t g (Get r) lone other = refl
-lone_some t g (Set r) lone other = refl
-lone_some t g Enter lone other = refl
-lone_some t g Cut lone other = refl
-lone_some t g Pin lone other = refl
-lone_some t g Print lone other = refl
-lone_some t g Probe lone other = refl
-lone_some t g Attempt lone other = refl
+lone_some t g (Act (Send c)) lone other = absurd (false≢true lone)
+lone_some t g (Act (Recv c)) lone other = absurd (false≢true lone)
+lone_some t g (Act (Pick c d)) lone other = absurd (false≢true lone)
+lone_some t g (Act Stabilize) lone other = absurd (other refl)
+lone_some t g d lone other = refl
 
 -- a step that a thread makes by itself, and that isn't pure, weighs 1
-pub one_weighed : (t : ThreadId) (g : Given) (d : Deed) → IfSome (label_of t g d) (λ l. weigh (Step l) ≡ 1)
-one_weighed t g Ended = tt
+pub one_weighed : (t : ThreadId) (g : Given) (d : Look) → IfSome (label_of t g d) (λ l. weigh (Step l) ≡ 1)
+one_weighed t g Done = tt
+one_weighed t g (Failed k) = tt
 one_weighed t g Pure = tt
-one_weighed t g (Send c) = tt
-one_weighed t g (Recv c) = tt
-one_weighed t g (Pick c d) = tt
-one_weighed t g Stabilize = tt
-one_weighed t g Spawn = refl
-one_weighed t g NewChan = refl
-one_weighed t g NewRef = refl
-one_weighed t g (Get r) = refl
-one_weighed t g (Set r) = refl
-one_weighed t g Enter = refl
-one_weighed t g Cut = refl
-one_weighed t g Pin = refl
-one_weighed t g Print = refl
-one_weighed t g Probe = refl
-one_weighed t g Attempt = refl
+one_weighed t g (Act (Send c)) = tt
+one_weighed t g (Act (Recv c)) = tt
+one_weighed t g (Act (Pick c d)) = tt
+one_weighed t g (Act Stabilize) = tt
+one_weighed t g d = refl

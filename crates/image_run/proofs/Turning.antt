@@ -7,17 +7,19 @@ use Rattle.stab_base.specs.declared.numbers.ThreadId.{ThreadId}
 use Rattle.stab_code.specs.Program.{ProgramParts}
 use Rattle.stab_journal.specs.declared.event.Label.TheVariants.{Comm, Local, Refuse}
 use Rattle.stab_journal.specs.Since.{is_mark_revocable_since, is_revocable_since}
+use Rattle.plain_language.specs.declared.look.ActKind.TheVariants.{Send, Recv, Pick, Stabilize}
+use Rattle.plain_language.specs.declared.look.Look.{Look}
+use Rattle.plain_language.specs.declared.look.Look.TheVariants.{Done, Failed, Pure, Act}
 use Rattle.plain_language.specs.Expression.{Expr}
 use Rattle.plain_language.specs.Held.{Held}
 use Rattle.plain_language.specs.Plain.{language_of, look_in, mark_in, plain_step, standing}
 use Rattle.plain_language.specs.Quiet.{IsQuiet}
+use Rattle.plain_language.specs.Seen.{seen}
 use Rattle.plain_language.specs.Since.{MayUndoSince}
-use Rattle.ready_steps.specs.declared.deed.Deed.{Deed}
-use Rattle.ready_steps.specs.declared.deed.Deed.TheVariants.{Ended, Pure, Spawn, NewChan, NewRef, Get, Set, Send, Recv, Pick, Enter, Stabilize, Cut, Pin, Print, Probe, Attempt}
 use Rattle.ready_steps.specs.declared.ready.Meeting.{Meeting}
 use Rattle.ready_steps.specs.declared.ready.Ready.{Ready}
 use Rattle.ready_steps.specs.declared.ready.Ready.TheVariants.{Alone, Meet}
-use Rattle.ready_steps.specs.Deeds.{deed_of, is_resting}
+use Rattle.ready_steps.specs.Resting.{is_resting}
 use Rattle.ready_steps.specs.Ready.{CanMeet, IsReady, deed_in}
 use Rattle.ready_steps.proofs.Searching.{meets_none, rests_all}
 use Rattle.ready_steps.proofs.Together.{meets, refuses, stands, steps_purely}
@@ -40,7 +42,7 @@ module _ (m : Machine) where
     fits = record { may = tt; script = tt; next = tt; some = omega arith; little = omega arith };
   }
 
-  module _ (t : ThreadId) (at : deed_in m.surviving.state.program (state_of m) t.0 ≡ Some Stabilize) where
+  module _ (t : ThreadId) (at : deed_in m.surviving.state.program (state_of m) t.0 ≡ Some (Act Stabilize)) where
     pub may_refuse : is_mark_revocable_since m.origin.cut (run_of m) (mark_in (state_of m) t.0) ≡ false → MayMake m (Refuse t)
     may_refuse not = record {
       has = refuses m.surviving.state.program (state_of m) (number_of m) t at;
@@ -53,7 +55,7 @@ module _ (m : Machine) where
 
   -- no thread is numbered 0
   pub first_thread : IsAt m → deed_in m.surviving.state.program (state_of m) 0 ≡ None
-  first_thread h = ap (option_map (λ (e : Expr). deed_of (look_in m.surviving.state.program e))) (none_of (standing (state_of m) 0) (λ yes. let one = (state_below m h).threads 0 yes in omega (arith, one.0)))
+  first_thread h = ap (option_map (λ (e : Expr). seen (look_in m.surviving.state.program e))) (none_of (standing (state_of m) 0) (λ yes. let one = (state_below m h).threads 0 yes in omega (arith, one.0)))
 
   -- a thread that has a pure step makes one
   pub some_made : (t : ThreadId) (n : ℕ) → deed_in m.surviving.state.program (state_of m) t.0 ≡ Some Pure → (n ≡ 0 → plain_step m.surviving.state.program (state_of m) (number_of m) (Local t 1) ≡ None) → 1 ≤ n
@@ -82,21 +84,11 @@ module _ (m : Machine) where
         (subst (λ (p : ProgramParts). IsQuiet (language_of p) (state_of m)) (sym program) (subst (λ (x : Held). IsQuiet (language_of o.state.program) x.state) same q))
 
 -- a thread that doesn't rest and has no pure step makes another one by itself
-pub lone : (d : Deed) → is_resting d ≡ false → (d ≡ Pure → ⊥) → is_lone d ≡ true
-lone Ended h n = absurd (false≢true (sym h))
-lone (Send c) h n = absurd (false≢true (sym h))
-lone (Recv c) h n = absurd (false≢true (sym h))
-lone (Pick c d) h n = absurd (false≢true (sym h))
+pub lone : (d : Look) → is_resting d ≡ false → (d ≡ Pure → ⊥) → is_lone d ≡ true
+lone Done h n = absurd (false≢true (sym h))
+lone (Failed k) h n = absurd (false≢true (sym h))
+lone (Act (Send c)) h n = absurd (false≢true (sym h))
+lone (Act (Recv c)) h n = absurd (false≢true (sym h))
+lone (Act (Pick c d)) h n = absurd (false≢true (sym h))
 lone Pure h n = absurd (n refl)
-lone Spawn h n = refl
-lone NewChan h n = refl
-lone NewRef h n = refl
-lone (Get r) h n = refl
-lone (Set r) h n = refl
-lone Enter h n = refl
-lone Stabilize h n = refl
-lone Cut h n = refl
-lone Pin h n = refl
-lone Print h n = refl
-lone Probe h n = refl
-lone Attempt h n = refl
+lone d h n = refl

@@ -14,27 +14,28 @@ ghost use Rattle.image_run.specs.Machine.{HasRoom, IsAt, MayMake, run_of, state_
 ghost use Rattle.image_run.specs.Origin.{image_of};
 
 use crate::machine::Machine;
-use ready_steps::{Deed, Given, deed_in, label_for};
+use plain_language::{ActKind, Look};
+use ready_steps::{Given, deed_in, label_for};
 use stab_base::{ChanId, NoMemory, RefId, Seq, ThreadId};
 use stab_journal::Label;
 use std::alloc::Global;
 
 impl Machine {
     /// What a thread does next, if it is there.
-    pub fn deed(&self, t: ThreadId) -> Option<Deed>
+    pub fn deed(&self, t: ThreadId) -> Option<Look>
         ensures { result ≡ deed_in self.now.surviving.state.program (state_of self.now) t.0 }
     {
         deed_in(self.surviving.state(), t)
     }
 
     /// The step by which a thread does what it does next, if it makes one by itself that isn't pure and isn't a `stabilize`.
-    pub fn label(&self, t: ThreadId, deed: Deed) -> Option<Label>
+    pub fn label(&self, t: ThreadId, deed: Look) -> Option<Label>
         requires at { IsAt self.now }
         requires room { HasRoom self.now }
         requires deed { deed_in self.now.surviving.state.program (state_of self.now) t.0 ≡ Some deed }
         ensures may { IfSome result (MayMake self.now) }
         ensures one { IfSome result (λ l. weigh (Step l) ≡ 1) }
-        ensures some { is_lone deed ≡ true → (deed ≡ Deed.Stabilize → ⊥) → IsSome result }
+        ensures some { is_lone deed ≡ true → (deed ≡ Look.Act ActKind.Stabilize → ⊥) → IsSome result }
     {
         label_for(t, deed, self.given(t))
     }

@@ -6,8 +6,8 @@ ghost use Rattle.ready_steps.specs.Ready.{CanMeet, IsReady, deed_in};
 
 use crate::order::Order;
 use crate::waiting::{candidate, wait};
-use plain_language::PlainState;
-use ready_steps::{Deed, Meeting, Ready, deed_in, first_ready, meets};
+use plain_language::{Look, PlainState};
+use ready_steps::{Meeting, Ready, deed_in, first_ready, is_resting, meets};
 use stab_base::{NoMemory, ThreadId};
 use std::alloc::Global;
 
@@ -72,8 +72,8 @@ fn ready(
     ensures { IfOk result (λ o. IfSome o (IsReady state.now.program state.now.state)) }
 {
     match deed_in(state, t) {
-        None | Some(Deed::Ended) => Ok(None),
-        Some(deed) if deed.is_resting() => match partner(order, state, t, deed) {
+        None | Some(Look::Done | Look::Failed(_)) => Ok(None),
+        Some(deed) if is_resting(deed) => match partner(order, state, t, deed) {
             Some(meeting) => Ok(Some(Ready::Meet(meeting))),
             None => {
                 wait(order, alloc, t, deed)?;
@@ -89,7 +89,7 @@ pub(crate) fn partner(
     order: &mut Order,
     state: &PlainState,
     t: ThreadId,
-    deed: Deed,
+    deed: Look,
 ) -> Option<Meeting>
     ensures { IfSome result (CanMeet state.now.program state.now.state) }
 {

@@ -1,8 +1,9 @@
 //! Turns of threads.
 ghost use Rattle.std.specs.Prelude.{◌≡◌, ◌≤◌, true, Some, IfOk, MatchOption, OnOk};
+ghost use Rattle.plain_language.specs.declared.look.ActKind.TheVariants as ActKind;
+ghost use Rattle.plain_language.specs.declared.look.Look.TheVariants as Look;
 ghost use Rattle.plain_language.specs.Plain.{language_of};
 ghost use Rattle.plain_language.specs.Quiet.{IsQuiet};
-ghost use Rattle.ready_steps.specs.declared.deed.Deed.TheVariants as Deed;
 ghost use Rattle.ready_steps.specs.Ready.{CanMeet, IsReady, deed_in};
 ghost use Rattle.image_run.specs.Acting.{is_lone};
 ghost use Rattle.image_run.specs.Machine.{HasRoom, state_of};
@@ -12,7 +13,8 @@ use crate::choice::{Chosen, first_chosen, first_queued, partner};
 use crate::machine::Machine;
 use crate::order::Order;
 use crate::waiting::{come, part, restore, wait};
-use ready_steps::{Deed, Meeting, Ready};
+use plain_language::{ActKind, Look};
+use ready_steps::{Meeting, Ready, is_resting};
 use stab_base::{NoMemory, ThreadId};
 use stab_journal::Label;
 use std::alloc::Global;
@@ -82,7 +84,7 @@ impl Run {
         ensures { OnOk result (IsMoved 1 10001 self.old self.new) }
     {
         match self.machine.deed(t) {
-            Some(Deed::Pure) => {
+            Some(Look::Pure) => {
                 self.pure(t)?;
                 Ok(())
             }
@@ -98,7 +100,7 @@ impl Run {
     fn pure(&mut self, t: ThreadId) -> Result<(), NoMemory>
         requires run { IsRun self.old }
         requires room { self.old.machine.weight ≤ 16000000 }
-        requires pure { deed_in self.old.machine.surviving.state.program (state_of self.old.machine) t.0 ≡ Some Deed.Pure }
+        requires pure { deed_in self.old.machine.surviving.state.program (state_of self.old.machine) t.0 ≡ Some Look.Pure }
         ensures { OnOk result (IsMoved 1 10001 self.old self.new) }
     {
         self.machine.local(self.alloc, t, self.quantum)?;
@@ -113,9 +115,9 @@ impl Run {
         ensures { OnOk result (IsMoved 0 1 self.old self.new) }
     {
         match self.machine.deed(t) {
-            None | Some(Deed::Ended) => {}
-            Some(Deed::Pure) => self.order.push(t)?,
-            Some(deed) if deed.is_resting() => {
+            None | Some(Look::Done | Look::Failed(_)) => {}
+            Some(Look::Pure) => self.order.push(t)?,
+            Some(deed) if is_resting(deed) => {
                 match partner(&mut self.order, self.machine.state(), t, deed) {
                     Some(meeting) => self.meet(meeting, t)?,
                     None => wait(&mut self.order, self.alloc, t, deed)?,
@@ -127,14 +129,14 @@ impl Run {
     }
 
     // The act of a thread that isn't one of a meeting.
-    fn act(&mut self, t: ThreadId, deed: Deed) -> Result<(), NoMemory>
+    fn act(&mut self, t: ThreadId, deed: Look) -> Result<(), NoMemory>
         requires run { IsRun self.old }
         requires room { HasRoom self.old.machine }
         requires deed { deed_in self.old.machine.surviving.state.program (state_of self.old.machine) t.0 ≡ Some deed }
         requires lone { is_lone deed ≡ true }
         ensures { OnOk result (IsMoved 1 1 self.old self.new) }
     {
-        if let Deed::Stabilize = deed {
+        if let Look::Act(ActKind::Stabilize) = deed {
             self.stabilize(t)?;
             return Ok(());
         }
@@ -150,7 +152,7 @@ impl Run {
     fn stabilize(&mut self, t: ThreadId) -> Result<(), NoMemory>
         requires run { IsRun self.old }
         requires room { HasRoom self.old.machine }
-        requires deed { deed_in self.old.machine.surviving.state.program (state_of self.old.machine) t.0 ≡ Some Deed.Stabilize }
+        requires deed { deed_in self.old.machine.surviving.state.program (state_of self.old.machine) t.0 ≡ Some (Look.Act ActKind.Stabilize) }
         ensures { OnOk result (IsMoved 1 1 self.old self.new) }
     {
         let mark = self.machine.revocable(self.alloc, t)?;

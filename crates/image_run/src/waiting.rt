@@ -1,27 +1,27 @@
 //! How threads wait for one another and come back to the queue.
 
 use crate::order::Order;
-use plain_language::PlainState;
-use ready_steps::{Deed, Meeting};
+use plain_language::{ActKind, Look, PlainState};
+use ready_steps::Meeting;
 use stab_base::{NoMemory, ThreadId};
 use stab_journal::{Label, Numbered};
 use std::alloc::Global;
 use std::collections::BTreeSet;
 
 /// The thread that waits for this one for longest, as a meeting of the two. A pick looks at its first channel first.
-pub(crate) fn candidate(order: &mut Order, t: ThreadId, deed: Deed) -> Option<Meeting> {
+pub(crate) fn candidate(order: &mut Order, t: ThreadId, deed: Look) -> Option<Meeting> {
     match deed {
-        Deed::Send(c) => Some(Meeting {
+        Look::Act(ActKind::Send(c)) => Some(Meeting {
             sender: t,
             receiver: order.receiver(c)?,
             chan: c,
         }),
-        Deed::Recv(c) => Some(Meeting {
+        Look::Act(ActKind::Recv(c)) => Some(Meeting {
             sender: order.sender(c)?,
             receiver: t,
             chan: c,
         }),
-        Deed::Pick(c, d) => match order.sender(c) {
+        Look::Act(ActKind::Pick(c, d)) => match order.sender(c) {
             Some(sender) => Some(Meeting {
                 sender,
                 receiver: t,
@@ -42,12 +42,12 @@ pub(crate) fn wait(
     order: &mut Order,
     alloc: Global,
     t: ThreadId,
-    deed: Deed,
+    deed: Look,
 ) -> Result<(), NoMemory> {
     match deed {
-        Deed::Send(c) => order.send(alloc, t, c),
-        Deed::Recv(c) => order.receive(alloc, t, c, c),
-        Deed::Pick(c, d) => order.receive(alloc, t, c, d),
+        Look::Act(ActKind::Send(c)) => order.send(alloc, t, c),
+        Look::Act(ActKind::Recv(c)) => order.receive(alloc, t, c, c),
+        Look::Act(ActKind::Pick(c, d)) => order.receive(alloc, t, c, d),
         _ => Ok(()),
     }
 }

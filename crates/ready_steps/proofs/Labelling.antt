@@ -11,16 +11,16 @@ use Rattle.stab_journal.specs.declared.event.Label.{Label}
 use Rattle.stab_journal.specs.declared.event.Label.TheVariants.{Spawn, NewChan, NewRef, Get, Set, Enter, Cut, Print, Probe, Pin, Attempt}
 use Rattle.stab_journal.specs.Label.{actors}
 use Rattle.stab_journal.specs.Names.{read}
+use Rattle.plain_language.specs.declared.look.Look as told
 use Rattle.plain_language.specs.Expression.{Expr}
 use Rattle.plain_language.specs.Plain.{PlainState, effect_of, language_of, look_in, plain_step, standing}
+use Rattle.plain_language.specs.Seen.{seen}
 use Rattle.plain_language.specs.Steps.{Effect, allows, effect_in, exprs_at, held_at}
 use Rattle.plain_language.specs.Table.{spawns, makes_chan, makes_ref, gets, sets, sends, receives, picks, enters, stabilizes, cuts, pins, prints, probes, attempts, Look, done, fault, act, pure, Language, to, spawn_by, chan_by, ref_by, get_by, set_by, enter_by, cut_by, pin_by, print_by, probe_by, attempt_by, effect}
 use Rattle.journal_laws.specs.Known.{IsExprIn, IsLookIn, known_in}
 use Rattle.journal_laws.proofs.Occurring.{kept}
 use Rattle.journal_laws.proofs.Stepping.{plain_of}
-use Rattle.ready_steps.specs.declared.deed.Deed.{Deed}
 use Rattle.ready_steps.specs.declared.label.Given.{Given}
-use Rattle.ready_steps.specs.Deeds.{deed_of}
 use Rattle.ready_steps.specs.Labels.{IsOpen, label_of}
 use Rattle.ready_steps.specs.Ready.{deed_in}
 
@@ -43,7 +43,7 @@ module _ (p : ProgramParts) (s : PlainState) (q : ℕ) (t : ThreadId) where
       subst (λ (o : Option PlainState). IsSome o) (sym (plain_of (effect_of p) s q l f found allowed)) refl
 
   module _ (given : Given) (opened : IsOpen s given) where
-    by_look : (e : Expr) (k : Look Expr) → standing s t.0 ≡ Some e → look_in p e ≡ k → IsLookIn IsExprIn (known_in s) k → IfSome (label_of t given (deed_of k)) (λ l. IsSome (plain_step p s q l))
+    by_look : (e : Expr) (k : Look Expr) → standing s t.0 ≡ Some e → look_in p e ≡ k → IsLookIn IsExprIn (known_in s) k → IfSome (label_of t given (seen k)) (λ l. IsSome (plain_step p s q l))
     by_look e (done v) at is known = tt
     by_look e (fault k) at is known = tt
     by_look e (pure x) at is known = tt
@@ -73,11 +73,11 @@ module _ (p : ProgramParts) (s : PlainState) (q : ℕ) (t : ThreadId) where
         alone (Attempt t given.generation) e (to g (g.answered e (int (Rattle.std.specs.Prelude.pos given.generation)))) refl at refl
         (ap (attempt_by g given.generation e) is ∙ ap (λ b. cond b (Some (to g (g.answered e (int (Rattle.std.specs.Prelude.pos given.generation))))) None) opened.generation)
 
-    by_standing : (o : Option Expr) (d : Deed) → standing s t.0 ≡ o → option_map (λ (e : Expr). deed_of (look_in p e)) o ≡ Some d → IfSome (label_of t given d) (λ l. IsSome (plain_step p s q l))
+    by_standing : (o : Option Expr) (d : told.Look) → standing s t.0 ≡ o → option_map (λ (e : Expr). seen (look_in p e)) o ≡ Some d → IfSome (label_of t given d) (λ l. IsSome (plain_step p s q l))
     by_standing None d at is = absurd (let no : None ≡ Some d = is in cc)
     by_standing (Some e) d at is =
-        subst (λ (x : Deed). IfSome (label_of t given x) (λ l. IsSome (plain_step p s q l))) (some_is is)
+        subst (λ (x : told.Look). IfSome (label_of t given x) (λ l. IsSome (plain_step p s q l))) (some_is is)
         (by_look e (look_in p e) at refl ((kept p).look (known_in s) e (opened.known.threads t.0 e at)))
 
-    pub can : (d : Deed) → deed_in p s t.0 ≡ Some d → IfSome (label_of t given d) (λ l. IsSome (plain_step p s q l))
+    pub can : (d : told.Look) → deed_in p s t.0 ≡ Some d → IfSome (label_of t given d) (λ l. IsSome (plain_step p s q l))
     can d is = by_standing (standing s t.0) d refl is

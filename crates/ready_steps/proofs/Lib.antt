@@ -1,4 +1,4 @@
-pub mod Deeding
+pub mod Telling
 pub mod Searching
 pub mod Labelling
 pub mod Together

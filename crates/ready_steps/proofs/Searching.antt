@@ -6,15 +6,15 @@ use Rattle.std.specs.FinMap as map
 use Rattle.std.proofs.lemmas.Bool.{false≢true, eqb-true}
 use Rattle.std.proofs.lemmas.Bool.Decides.{nat_tests}
 use Rattle.stab_code.specs.Program.{ProgramParts}
+use Rattle.plain_language.specs.declared.look.Look.{Look}
 use Rattle.plain_language.specs.Above.{IsLeastAbove}
 use Rattle.plain_language.specs.Expression.{Expr}
 use Rattle.plain_language.specs.Plain.{PlainState, language_of, look_in, standing}
 use Rattle.plain_language.specs.Quiet as rest
 use Rattle.plain_language.specs.Quiet.{IsQuiet}
-use Rattle.ready_steps.specs.declared.deed.Deed.{Deed}
-use Rattle.ready_steps.specs.Deeds.{deed_of}
+use Rattle.plain_language.specs.Seen.{seen}
 use Rattle.ready_steps.specs.Ready.{AllRest, NobodyMeets, deed_in, receives_at, rests_at, sends_at}
-use Rattle.ready_steps.proofs.Deeding.{same_receives, same_rest, same_sends}
+use Rattle.ready_steps.proofs.Telling.{same_receives, same_rest, same_sends}
 
 none_of : (o : Option Expr) → is_some o ≡ false → o ≡ None
 none_of None h = refl
@@ -26,7 +26,7 @@ not_true false h = refl
 
 module _ (p : ProgramParts) (s : PlainState) where
   gone : (u : ℕ) → map.contains_key s.threads u ≡ false → deed_in p s u ≡ None
-  gone u h = ap (option_map (λ (e : Expr). deed_of (look_in p e))) (none_of (standing s u) h)
+  gone u h = ap (option_map (λ (e : Expr). seen (look_in p e))) (none_of (standing s u) h)
 
   module _ (P : ℕ → Type 0) (nobody : (u : ℕ) → deed_in p s u ≡ None → P u) where
     -- before the first thread
@@ -59,14 +59,14 @@ module _ (p : ProgramParts) (s : PlainState) where
         ] refl
 
   -- a thread that is there does what its expression does next
-  pub does : (t : ℕ) (e : Expr) (d : Deed) → standing s t ≡ Some e → d ≡ deed_of (look_in p e) → deed_in p s t ≡ Some d
-  does t e d at is = ap (option_map (λ (x : Expr). deed_of (look_in p x))) at ∙ ap Some (sym is)
+  pub does : (t : ℕ) (e : Expr) (d : Look) → standing s t ≡ Some e → d ≡ seen (look_in p e) → deed_in p s t ≡ Some d
+  does t e d at is = ap (option_map (λ (x : Expr). seen (look_in p x))) at ∙ ap Some (sym is)
 
-  rests_by : (o : Option Expr) → rests_at (option_map (λ (e : Expr). deed_of (look_in p e)) o) ≡ true → IfSome o (λ e. rest.is_resting (look_in p e) ≡ true)
+  rests_by : (o : Option Expr) → rests_at (option_map (λ (e : Expr). seen (look_in p e)) o) ≡ true → IfSome o (λ e. rest.is_resting (look_in p e) ≡ true)
   rests_by None h = tt
   rests_by (Some e) h = same_rest (look_in p e) ∙ h
 
-  rests_back : (o : Option Expr) → IfSome o (λ e. rest.is_resting (look_in p e) ≡ true) → rests_at (option_map (λ (e : Expr). deed_of (look_in p e)) o) ≡ true
+  rests_back : (o : Option Expr) → IfSome o (λ e. rest.is_resting (look_in p e) ≡ true) → rests_at (option_map (λ (e : Expr). seen (look_in p e)) o) ≡ true
   rests_back None h = refl
   rests_back (Some e) h = sym (same_rest (look_in p e)) ∙ h
 
@@ -74,7 +74,7 @@ module _ (p : ProgramParts) (s : PlainState) where
   apart_of true b h = h refl
   apart_of false b h = refl
 
-  apart_by : (c : ℕ) (o x : Option Expr) → (sends_at c (option_map (λ (e : Expr). deed_of (look_in p e)) o) ≡ true → receives_at c (option_map (λ (e : Expr). deed_of (look_in p e)) x) ≡ false)
+  apart_by : (c : ℕ) (o x : Option Expr) → (sends_at c (option_map (λ (e : Expr). seen (look_in p e)) o) ≡ true → receives_at c (option_map (λ (e : Expr). seen (look_in p e)) x) ≡ false)
       → IfSome o (λ a. IfSome x (λ b. (rest.sends_on c (look_in p a) && rest.receives_on c (look_in p b)) ≡ false))
   apart_by c None x h = tt
   apart_by c (Some a) None h = tt
@@ -88,7 +88,7 @@ module _ (p : ProgramParts) (s : PlainState) where
   }
 
   meets_back : (c : ℕ) (o x : Option Expr) → IfSome o (λ a. IfSome x (λ b. (rest.sends_on c (look_in p a) && rest.receives_on c (look_in p b)) ≡ false))
-      → sends_at c (option_map (λ (e : Expr). deed_of (look_in p e)) o) ≡ true → receives_at c (option_map (λ (e : Expr). deed_of (look_in p e)) x) ≡ true → ⊥
+      → sends_at c (option_map (λ (e : Expr). seen (look_in p e)) o) ≡ true → receives_at c (option_map (λ (e : Expr). seen (look_in p e)) x) ≡ true → ⊥
   meets_back c None x h sends receives = false≢true sends
   meets_back c (Some a) None h sends receives = false≢true receives
   meets_back c (Some a) (Some b) h sends receives =

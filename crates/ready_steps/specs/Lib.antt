@@ -1,3 +1,3 @@
-pub mod Deeds
+pub mod Resting
 pub mod Ready
 pub mod Labels

@@ -5,7 +5,7 @@ ghost use Rattle.stab_code.specs.Program.{ProgramParts};
 ghost use Rattle.ready_steps.specs.Labels.{IsOpen, label_of};
 ghost use Rattle.ready_steps.specs.Ready.{deed_in};
 
-use crate::deed::Deed;
+use plain_language::{ActKind, Look};
 use stab_base::{ChanId, RefId, ThreadId};
 use stab_journal::Label;
 
@@ -20,27 +20,25 @@ pub struct Given {
 }
 
 /// The step of a thread that does this next, where it makes one by itself that isn't pure and isn't a `stabilize`.
-pub fn label_for(t: ThreadId, deed: Deed, given: Given) -> Option<Label>
+pub fn label_for(t: ThreadId, deed: Look, given: Given) -> Option<Label>
     ensures label { result ≡ label_of t given deed }
     ensures can { (p : ProgramParts) (s : State) (q : ℕ) → deed_in p s t.0 ≡ Some deed → IsOpen s given → IfSome result (λ l. IsSome (plain_step p s q l)) }
 {
-    match deed {
-        Deed::Spawn => Some(Label::Spawn(t, given.thread)),
-        Deed::NewChan => Some(Label::NewChan(t, given.chan)),
-        Deed::NewRef => Some(Label::NewRef(t, given.reference)),
-        Deed::Get(r) => Some(Label::Get(t, r)),
-        Deed::Set(r) => Some(Label::Set(t, r)),
-        Deed::Enter => Some(Label::Enter(t)),
-        Deed::Cut => Some(Label::Cut(t)),
-        Deed::Pin => Some(Label::Pin(t)),
-        Deed::Print => Some(Label::Print(t)),
-        Deed::Probe => Some(Label::Probe(t, given.probe)),
-        Deed::Attempt => Some(Label::Attempt(t, given.generation)),
-        Deed::Ended
-        | Deed::Pure
-        | Deed::Send(_)
-        | Deed::Recv(_)
-        | Deed::Pick(_, _)
-        | Deed::Stabilize => None,
+    let Look::Act(kind) = deed else {
+        return None;
+    };
+    match kind {
+        ActKind::Spawn => Some(Label::Spawn(t, given.thread)),
+        ActKind::NewChan => Some(Label::NewChan(t, given.chan)),
+        ActKind::NewRef => Some(Label::NewRef(t, given.reference)),
+        ActKind::Get(r) => Some(Label::Get(t, r)),
+        ActKind::Set(r) => Some(Label::Set(t, r)),
+        ActKind::Enter => Some(Label::Enter(t)),
+        ActKind::Cut => Some(Label::Cut(t)),
+        ActKind::Pin => Some(Label::Pin(t)),
+        ActKind::Print => Some(Label::Print(t)),
+        ActKind::Probe => Some(Label::Probe(t, given.probe)),
+        ActKind::Attempt => Some(Label::Attempt(t, given.generation)),
+        ActKind::Send(_) | ActKind::Recv(_) | ActKind::Pick(_, _) | ActKind::Stabilize => None,
     }
 }

@@ -4,11 +4,11 @@ ghost use Rattle.std.specs.BTreeMap.{get};
 ghost use Rattle.std.specs.Ordering.{nat_cmp};
 ghost use Rattle.plain_language.specs.Plain.{language_of};
 ghost use Rattle.plain_language.specs.Quiet.{IsQuiet};
-ghost use Rattle.ready_steps.specs.Deeds.{receives_on, sends_on};
+ghost use Rattle.ready_steps.specs.Resting.{receives_on, sends_on};
 ghost use Rattle.ready_steps.specs.Ready.{AllRest, CanMeet, HasReceivers, IsReady, NobodyMeets, deed_in, receives_at, rests_at};
 
-use crate::deed::{Deed, next_deed};
-use plain_language::PlainState;
+use crate::resting::{is_resting, receives_on, sends_on};
+use plain_language::{ActKind, Look, PlainState};
 use stab_base::{ChanId, NoMemory, ThreadId};
 use std::alloc::Global;
 use std::collections::BTreeMap;
@@ -31,11 +31,11 @@ pub enum Ready {
 }
 
 /// What a thread does next, if it is there.
-pub fn deed_in(state: &PlainState, t: ThreadId) -> Option<Deed>
+pub fn deed_in(state: &PlainState, t: ThreadId) -> Option<Look>
     ensures { result ≡ deed_in state.now.program state.now.state t.0 }
 {
     match state.expr(t) {
-        Some(e) => Some(next_deed(e)),
+        Some(e) => Some(e.look()),
         None => None,
     }
 }
@@ -45,11 +45,11 @@ pub fn meets(state: &PlainState, meeting: Meeting) -> bool
     ensures { IsTrue result ↔ CanMeet state.now.program state.now.state meeting }
 {
     let sends = match deed_in(state, meeting.sender) {
-        Some(deed) => deed.sends_on(meeting.chan),
+        Some(deed) => sends_on(deed, meeting.chan),
         None => false,
     };
     let receives = match deed_in(state, meeting.receiver) {
-        Some(deed) => deed.receives_on(meeting.chan),
+        Some(deed) => receives_on(deed, meeting.chan),
         None => false,
     };
     sends && receives
@@ -77,7 +77,7 @@ fn first_alone(state: &PlainState) -> Option<ThreadId>
 {
     let mut last = 0;
     while let Some((t, e)) = state.thread_after(last) {
-        if !next_deed(e).is_resting() {
+        if !is_resting(e.look()) {
             return Some(t);
         }
         last = t.0;
@@ -93,22 +93,22 @@ fn receivers_of(alloc: Global, state: &PlainState) -> Result<BTreeMap<u32, u32>,
     let mut receivers = BTreeMap::new(alloc);
     let mut last = 0;
     while let Some((t, e)) = state.thread_after(last) {
-        note(&mut receivers, t, next_deed(e))?;
+        note(&mut receivers, t, e.look())?;
         last = t.0;
     }
     Ok(receivers)
 }
 
 // Notes the channels on which a thread receives.
-fn note(receivers: &mut BTreeMap<u32, u32>, t: ThreadId, deed: Deed) -> Result<(), NoMemory>
+fn note(receivers: &mut BTreeMap<u32, u32>, t: ThreadId, deed: Look) -> Result<(), NoMemory>
     ensures more { OnOk result ((c : ℕ) → is_some (get nat_cmp receivers.old c) ≡ true → is_some (get nat_cmp receivers.new c) ≡ true) }
     ensures these { OnOk result ((c : ℕ) → receives_on c deed ≡ true → is_some (get nat_cmp receivers.new c) ≡ true) }
 {
     match deed {
-        Deed::Recv(c) => {
+        Look::Act(ActKind::Recv(c)) => {
             receivers.insert(c.0, t.0)?;
         }
-        Deed::Pick(c, d) => {
+        Look::Act(ActKind::Pick(c, d)) => {
             receivers.insert(c.0, t.0)?;
             receivers.insert(d.0, t.0)?;
         }
@@ -125,7 +125,7 @@ fn first_meeting(state: &PlainState, receivers: &BTreeMap<u32, u32>) -> Option<M
 {
     let mut last = 0;
     while let Some((t, e)) = state.thread_after(last) {
-        if let Some(meeting) = meeting_of(state, receivers, t, next_deed(e)) {
+        if let Some(meeting) = meeting_of(state, receivers, t, e.look()) {
             return Some(meeting);
         }
         last = t.0;
@@ -138,7 +138,7 @@ fn meeting_of(
     state: &PlainState,
     receivers: &BTreeMap<u32, u32>,
     t: ThreadId,
-    deed: Deed,
+    deed: Look,
 ) -> Option<Meeting>
     requires none { deed_in state.now.program state.now.state 0 ≡ None }
     requires receivers { HasReceivers (deed_in state.now.program state.now.state) receivers.now }
@@ -146,7 +146,7 @@ fn meeting_of(
     ensures { MatchOption result ((u c : ℕ) → sends_on c deed ≡ true → receives_at c (deed_in state.now.program state.now.state u) ≡ false)
         (CanMeet state.now.program state.now.state) }
 {
-    let Deed::Send(c) = deed else {
+    let Look::Act(ActKind::Send(c)) = deed else {
         return None;
     };
     if !receivers.contains_key(&c.0) {
@@ -170,7 +170,7 @@ fn first_receiver(state: &PlainState, c: ChanId) -> Option<ThreadId>
 {
     let mut last = 0;
     while let Some((t, e)) = state.thread_after(last) {
-        if next_deed(e).receives_on(c) {
+        if receives_on(e.look(), c) {
             return Some(t);
         }
         last = t.0;

@@ -10,7 +10,7 @@ loop-t-preserved c =
     let p = c.args.state.now.program in
     let s = c.args.state.now.state in
     further p s (λ (u : ℕ). rests_at (deed_in p s u) ≡ true) (λ u none. ap rests_at none) c.loop-t.last c.in-Some.t.0 c.in-Some.ensures.least c.loop-t.invariant
-    (ap rests_at (does p s c.in-Some.t.0 c.in-Some.e.now c.next_deed.result c.in-Some.ensures.stands (c.next_deed.ensures (body p))) ∙ sym c.is_resting.ensures ∙ c.if-not-is_resting.false)
+    (ap rests_at (does p s c.in-Some.t.0 c.in-Some.e.now c.look.result c.in-Some.ensures.stands (c.look.ensures (body p))) ∙ sym c.is_resting.ensures ∙ c.if-not-is_resting.false)
 
 pub returns : goal.returns
 returns c =

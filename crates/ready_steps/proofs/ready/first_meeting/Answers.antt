@@ -13,7 +13,7 @@ loop-t-preserved c =
     further p s (λ (u : ℕ). (v k : ℕ) → sends_at k (deed_in p s u) ≡ true → receives_at k (deed_in p s v) ≡ false) (λ u none v k sends. absurd (false≢true (sym (ap (sends_at k) none) ∙ sends))) c.loop-t.last
     c.in-Some.t.0 c.in-Some.ensures.least c.loop-t.invariant
     (λ v k sends.
-    c.in_default-meeting_of.ensures v k (sym (ap (sends_at k) (does p s c.in-Some.t.0 c.in-Some.e.now c.next_deed.result c.in-Some.ensures.stands (c.next_deed.ensures (body p)))) ∙ sends))
+    c.in_default-meeting_of.ensures v k (sym (ap (sends_at k) (does p s c.in-Some.t.0 c.in-Some.e.now c.look.result c.in-Some.ensures.stands (c.look.ensures (body p)))) ∙ sends))
 
 pub returns : goal.returns
 returns c =

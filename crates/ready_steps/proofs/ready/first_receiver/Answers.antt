@@ -11,4 +11,4 @@ loop-t-preserved c =
     let s = c.args.state.now.state in
     let k = c.args.c.0 in
     further p s (λ (u : ℕ). receives_at k (deed_in p s u) ≡ false) (λ u none. ap (receives_at k) none) c.loop-t.last c.in-Some.t.0 c.in-Some.ensures.least c.loop-t.invariant
-    (ap (receives_at k) (does p s c.in-Some.t.0 c.in-Some.e.now c.next_deed.result c.in-Some.ensures.stands (c.next_deed.ensures (body p))) ∙ sym c.receives_on.ensures ∙ c.if-receives_on.false)
+    (ap (receives_at k) (does p s c.in-Some.t.0 c.in-Some.e.now c.look.result c.in-Some.ensures.stands (c.look.ensures (body p))) ∙ sym c.receives_on.ensures ∙ c.if-receives_on.false)
