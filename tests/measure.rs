@@ -35,6 +35,9 @@ fn once(command: &[String], wanted: i32) -> (f64, i64) {
     if unsafe { wait4(process, &mut status, 0, &mut usage) } != process {
         fail("the command can't be waited for");
     }
+    if status & 127 != 0 {
+        fail(&format!("{} was ended by signal {}", command.join(" "), status & 127));
+    }
     if status != wanted << 8 {
         fail(&format!("{} ended with {}, and not {wanted}", command.join(" "), status >> 8));
     }
