@@ -7,9 +7,8 @@ use Rattle.stab_base.specs.declared.numbers.ThreadId.{ThreadId}
 use Rattle.stab_code.specs.Program.{ProgramParts}
 use Rattle.stab_journal.specs.declared.event.Label.TheVariants.{Comm, Local, Refuse}
 use Rattle.stab_journal.specs.Since.{is_mark_revocable_since, is_revocable_since}
-use Rattle.plain_language.specs.declared.look.ActKind.TheVariants.{Send, Recv, Pick, Stabilize}
-use Rattle.plain_language.specs.declared.look.Look.{Look}
-use Rattle.plain_language.specs.declared.look.Look.TheVariants.{Done, Failed, Pure, Act}
+use Rattle.plain_language.specs.declared.look.ActKind.TheVariants.{Stabilize}
+use Rattle.plain_language.specs.declared.look.Look.TheVariants.{Pure, Act}
 use Rattle.plain_language.specs.Expression.{Expr}
 use Rattle.plain_language.specs.Held.{Held}
 use Rattle.plain_language.specs.Plain.{language_of, look_in, mark_in, plain_step, standing}
@@ -19,14 +18,12 @@ use Rattle.plain_language.specs.Since.{MayUndoSince}
 use Rattle.ready_steps.specs.declared.ready.Meeting.{Meeting}
 use Rattle.ready_steps.specs.declared.ready.Ready.{Ready}
 use Rattle.ready_steps.specs.declared.ready.Ready.TheVariants.{Alone, Meet}
-use Rattle.ready_steps.specs.Resting.{is_resting}
-use Rattle.ready_steps.specs.Ready.{CanMeet, IsReady, deed_in}
+use Rattle.ready_steps.specs.Ready.{CanMeet, IsReady, look_of}
 use Rattle.ready_steps.proofs.Searching.{meets_none, rests_all}
 use Rattle.ready_steps.proofs.Together.{meets, refuses, stands, steps_purely}
 use Rattle.image_laws.specs.Image.{IsContinuedBy}
 use Rattle.image_run.specs.declared.machine.Machine.{Machine}
 use Rattle.image_run.specs.declared.origin.Origin.{Origin}
-use Rattle.image_run.specs.Acting.{is_lone}
 use Rattle.image_run.specs.Machine.{IsAt, MayMake, number_of, run_of, state_of}
 use Rattle.image_run.specs.Origin.{image_of}
 use Rattle.image_run.proofs.Fitting.{state_below}
@@ -42,7 +39,7 @@ module _ (m : Machine) where
     fits = record { may = tt; script = tt; next = tt; some = omega arith; little = omega arith };
   }
 
-  module _ (t : ThreadId) (at : deed_in m.surviving.state.program (state_of m) t.0 ≡ Some (Act Stabilize)) where
+  module _ (t : ThreadId) (at : look_of m.surviving.state.program (state_of m) t.0 ≡ Some (Act Stabilize)) where
     pub may_refuse : is_mark_revocable_since m.origin.cut (run_of m) (mark_in (state_of m) t.0) ≡ false → MayMake m (Refuse t)
     may_refuse not = record {
       has = refuses m.surviving.state.program (state_of m) (number_of m) t at;
@@ -54,11 +51,11 @@ module _ (m : Machine) where
     may_undo q mark revocable = record { at = stands m.surviving.state.program (state_of m) (number_of m) t.0 at; mark = mark; revocable = revocable }
 
   -- no thread is numbered 0
-  pub first_thread : IsAt m → deed_in m.surviving.state.program (state_of m) 0 ≡ None
+  pub first_thread : IsAt m → look_of m.surviving.state.program (state_of m) 0 ≡ None
   first_thread h = ap (option_map (λ (e : Expr). seen (look_in m.surviving.state.program e))) (none_of (standing (state_of m) 0) (λ yes. let one = (state_below m h).threads 0 yes in omega (arith, one.0)))
 
   -- a thread that has a pure step makes one
-  pub some_made : (t : ThreadId) (n : ℕ) → deed_in m.surviving.state.program (state_of m) t.0 ≡ Some Pure → (n ≡ 0 → plain_step m.surviving.state.program (state_of m) (number_of m) (Local t 1) ≡ None) → 1 ≤ n
+  pub some_made : (t : ThreadId) (n : ℕ) → look_of m.surviving.state.program (state_of m) t.0 ≡ Some Pure → (n ≡ 0 → plain_step m.surviving.state.program (state_of m) (number_of m) (Local t 1) ≡ None) → 1 ≤ n
   some_made t zero at none = absurd (false≢true (subst IsSome (none refl) (steps_purely m.surviving.state.program (state_of m) (number_of m) t at)))
   some_made t (suc n) at none = omega arith
 
@@ -82,13 +79,3 @@ module _ (m : Machine) where
     ready_for k s r same also at q =
         not_quiet r (subst (λ (x : Held). IsReady x.program x.state r) also at)
         (subst (λ (p : ProgramParts). IsQuiet (language_of p) (state_of m)) (sym program) (subst (λ (x : Held). IsQuiet (language_of o.state.program) x.state) same q))
-
--- a thread that doesn't rest and has no pure step makes another one by itself
-pub lone : (d : Look) → is_resting d ≡ false → (d ≡ Pure → ⊥) → is_lone d ≡ true
-lone Done h n = absurd (false≢true (sym h))
-lone (Failed k) h n = absurd (false≢true (sym h))
-lone (Act (Send c)) h n = absurd (false≢true (sym h))
-lone (Act (Recv c)) h n = absurd (false≢true (sym h))
-lone (Act (Pick c d)) h n = absurd (false≢true (sym h))
-lone Pure h n = absurd (n refl)
-lone d h n = refl

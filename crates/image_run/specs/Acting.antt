@@ -26,4 +26,4 @@ is_lone Pure = false
 is_lone (Act (Send c)) = false
 is_lone (Act (Recv c)) = false
 is_lone (Act (Pick c d)) = false
-is_lone deed = true
+is_lone look = true

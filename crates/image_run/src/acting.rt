@@ -8,36 +8,36 @@ ghost use Rattle.plain_language.specs.Plain.{mark_in};
 ghost use Rattle.trace_verify.specs.Generations.{times};
 ghost use Rattle.image_laws.specs.Image.{generation_at};
 ghost use Rattle.ready_steps.specs.Labels.{IsOpen};
-ghost use Rattle.ready_steps.specs.Ready.{deed_in};
+ghost use Rattle.ready_steps.specs.Ready.{look_of};
 ghost use Rattle.image_run.specs.Acting.{IsGivenBy, is_lone};
 ghost use Rattle.image_run.specs.Machine.{HasRoom, IsAt, MayMake, run_of, state_of};
 ghost use Rattle.image_run.specs.Origin.{image_of};
 
 use crate::machine::Machine;
 use plain_language::{ActKind, Look};
-use ready_steps::{Given, deed_in, label_for};
+use ready_steps::{Given, label_for, look_of};
 use stab_base::{ChanId, NoMemory, RefId, Seq, ThreadId};
 use stab_journal::Label;
 use std::alloc::Global;
 
 impl Machine {
     /// What a thread does next, if it is there.
-    pub fn deed(&self, t: ThreadId) -> Option<Look>
-        ensures { result ≡ deed_in self.now.surviving.state.program (state_of self.now) t.0 }
+    pub fn look(&self, t: ThreadId) -> Option<Look>
+        ensures { result ≡ look_of self.now.surviving.state.program (state_of self.now) t.0 }
     {
-        deed_in(self.surviving.state(), t)
+        look_of(self.surviving.state(), t)
     }
 
     /// The step by which a thread does what it does next, if it makes one by itself that isn't pure and isn't a `stabilize`.
-    pub fn label(&self, t: ThreadId, deed: Look) -> Option<Label>
+    pub fn label(&self, t: ThreadId, look: Look) -> Option<Label>
         requires at { IsAt self.now }
         requires room { HasRoom self.now }
-        requires deed { deed_in self.now.surviving.state.program (state_of self.now) t.0 ≡ Some deed }
+        requires look { look_of self.now.surviving.state.program (state_of self.now) t.0 ≡ Some look }
         ensures may { IfSome result (MayMake self.now) }
         ensures one { IfSome result (λ l. weigh (Step l) ≡ 1) }
-        ensures some { is_lone deed ≡ true → (deed ≡ Look.Act ActKind.Stabilize → ⊥) → IsSome result }
+        ensures some { is_lone look ≡ true → (look ≡ Look.Act ActKind.Stabilize → ⊥) → IsSome result }
     {
-        label_for(t, deed, self.given(t))
+        label_for(t, look, self.given(t))
     }
 
     // What a step of a thread gets that the language leaves open.

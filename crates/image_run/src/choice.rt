@@ -2,12 +2,12 @@
 ghost use Rattle.std.specs.Prelude.{◌≡◌, None, IfOk, IfSome, MatchOption};
 ghost use Rattle.plain_language.specs.Plain.{language_of};
 ghost use Rattle.plain_language.specs.Quiet.{IsQuiet};
-ghost use Rattle.ready_steps.specs.Ready.{CanMeet, IsReady, deed_in};
+ghost use Rattle.ready_steps.specs.Ready.{CanMeet, IsReady, look_of};
 
 use crate::order::Order;
 use crate::waiting::{candidate, wait};
 use plain_language::{Look, PlainState};
-use ready_steps::{Meeting, Ready, deed_in, first_ready, is_resting, meets};
+use ready_steps::{Meeting, Ready, first_ready, is_resting, look_of, meets};
 use stab_base::{NoMemory, ThreadId};
 use std::alloc::Global;
 
@@ -36,7 +36,7 @@ pub(crate) fn first_queued(
 
 /// The first of all threads that can step.
 pub(crate) fn first_chosen(alloc: Global, state: &PlainState) -> Result<Option<Chosen>, NoMemory>
-    requires { deed_in state.now.program state.now.state 0 ≡ None }
+    requires { look_of state.now.program state.now.state 0 ≡ None }
     ensures { IfOk result (λ o. MatchOption o (IsQuiet (language_of state.now.program) state.now.state)
         (λ k. IsReady state.now.program state.now.state k.ready)) }
 {
@@ -71,12 +71,12 @@ fn ready(
 ) -> Result<Option<Ready>, NoMemory>
     ensures { IfOk result (λ o. IfSome o (IsReady state.now.program state.now.state)) }
 {
-    match deed_in(state, t) {
+    match look_of(state, t) {
         None | Some(Look::Done | Look::Failed(_)) => Ok(None),
-        Some(deed) if is_resting(deed) => match partner(order, state, t, deed) {
+        Some(look) if is_resting(look) => match partner(order, state, t, look) {
             Some(meeting) => Ok(Some(Ready::Meet(meeting))),
             None => {
-                wait(order, alloc, t, deed)?;
+                wait(order, alloc, t, look)?;
                 Ok(None)
             }
         },
@@ -89,11 +89,11 @@ pub(crate) fn partner(
     order: &mut Order,
     state: &PlainState,
     t: ThreadId,
-    deed: Look,
+    look: Look,
 ) -> Option<Meeting>
     ensures { IfSome result (CanMeet state.now.program state.now.state) }
 {
-    let meeting = candidate(order, t, deed)?;
+    let meeting = candidate(order, t, look)?;
     if meets(state, meeting) {
         Some(meeting)
     } else {

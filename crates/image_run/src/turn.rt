@@ -4,7 +4,7 @@ ghost use Rattle.plain_language.specs.declared.look.ActKind.TheVariants as ActKi
 ghost use Rattle.plain_language.specs.declared.look.Look.TheVariants as Look;
 ghost use Rattle.plain_language.specs.Plain.{language_of};
 ghost use Rattle.plain_language.specs.Quiet.{IsQuiet};
-ghost use Rattle.ready_steps.specs.Ready.{CanMeet, IsReady, deed_in};
+ghost use Rattle.ready_steps.specs.Ready.{CanMeet, IsReady, look_of};
 ghost use Rattle.image_run.specs.Acting.{is_lone};
 ghost use Rattle.image_run.specs.Machine.{HasRoom, state_of};
 ghost use Rattle.image_run.specs.Turns.{IsMoved, IsRun};
@@ -83,13 +83,13 @@ impl Run {
         requires ready { IsReady self.old.machine.surviving.state.program (state_of self.old.machine) (Ready.Alone t) }
         ensures { OnOk result (IsMoved 1 10001 self.old self.new) }
     {
-        match self.machine.deed(t) {
+        match self.machine.look(t) {
             Some(Look::Pure) => {
                 self.pure(t)?;
                 Ok(())
             }
-            Some(deed) => {
-                self.act(t, deed)?;
+            Some(look) => {
+                self.act(t, look)?;
                 Ok(())
             }
             None => unreachable!(),
@@ -100,7 +100,7 @@ impl Run {
     fn pure(&mut self, t: ThreadId) -> Result<(), NoMemory>
         requires run { IsRun self.old }
         requires room { self.old.machine.weight ≤ 16000000 }
-        requires pure { deed_in self.old.machine.surviving.state.program (state_of self.old.machine) t.0 ≡ Some Look.Pure }
+        requires pure { look_of self.old.machine.surviving.state.program (state_of self.old.machine) t.0 ≡ Some Look.Pure }
         ensures { OnOk result (IsMoved 1 10001 self.old self.new) }
     {
         self.machine.local(self.alloc, t, self.quantum)?;
@@ -114,33 +114,33 @@ impl Run {
         requires room { HasRoom self.old.machine }
         ensures { OnOk result (IsMoved 0 1 self.old self.new) }
     {
-        match self.machine.deed(t) {
+        match self.machine.look(t) {
             None | Some(Look::Done | Look::Failed(_)) => {}
             Some(Look::Pure) => self.order.push(t)?,
-            Some(deed) if is_resting(deed) => {
-                match partner(&mut self.order, self.machine.state(), t, deed) {
+            Some(look) if is_resting(look) => {
+                match partner(&mut self.order, self.machine.state(), t, look) {
                     Some(meeting) => self.meet(meeting, t)?,
-                    None => wait(&mut self.order, self.alloc, t, deed)?,
+                    None => wait(&mut self.order, self.alloc, t, look)?,
                 }
             }
-            Some(deed) => self.act(t, deed)?,
+            Some(look) => self.act(t, look)?,
         }
         Ok(())
     }
 
     // The act of a thread that isn't one of a meeting.
-    fn act(&mut self, t: ThreadId, deed: Look) -> Result<(), NoMemory>
+    fn act(&mut self, t: ThreadId, look: Look) -> Result<(), NoMemory>
         requires run { IsRun self.old }
         requires room { HasRoom self.old.machine }
-        requires deed { deed_in self.old.machine.surviving.state.program (state_of self.old.machine) t.0 ≡ Some deed }
-        requires lone { is_lone deed ≡ true }
+        requires look { look_of self.old.machine.surviving.state.program (state_of self.old.machine) t.0 ≡ Some look }
+        requires lone { is_lone look ≡ true }
         ensures { OnOk result (IsMoved 1 1 self.old self.new) }
     {
-        if let Look::Act(ActKind::Stabilize) = deed {
+        if let Look::Act(ActKind::Stabilize) = look {
             self.stabilize(t)?;
             return Ok(());
         }
-        let Some(label) = self.machine.label(t, deed) else {
+        let Some(label) = self.machine.label(t, look) else {
             unreachable!()
         };
         self.machine.step(self.alloc, label)?;
@@ -152,7 +152,7 @@ impl Run {
     fn stabilize(&mut self, t: ThreadId) -> Result<(), NoMemory>
         requires run { IsRun self.old }
         requires room { HasRoom self.old.machine }
-        requires deed { deed_in self.old.machine.surviving.state.program (state_of self.old.machine) t.0 ≡ Some (Look.Act ActKind.Stabilize) }
+        requires look { look_of self.old.machine.surviving.state.program (state_of self.old.machine) t.0 ≡ Some (Look.Act ActKind.Stabilize) }
         ensures { OnOk result (IsMoved 1 1 self.old self.new) }
     {
         let mark = self.machine.revocable(self.alloc, t)?;

@@ -9,8 +9,8 @@ use std::alloc::Global;
 use std::collections::BTreeSet;
 
 /// The thread that waits for this one for longest, as a meeting of the two. A pick looks at its first channel first.
-pub(crate) fn candidate(order: &mut Order, t: ThreadId, deed: Look) -> Option<Meeting> {
-    match deed {
+pub(crate) fn candidate(order: &mut Order, t: ThreadId, look: Look) -> Option<Meeting> {
+    match look {
         Look::Act(ActKind::Send(c)) => Some(Meeting {
             sender: t,
             receiver: order.receiver(c)?,
@@ -42,9 +42,9 @@ pub(crate) fn wait(
     order: &mut Order,
     alloc: Global,
     t: ThreadId,
-    deed: Look,
+    look: Look,
 ) -> Result<(), NoMemory> {
-    match deed {
+    match look {
         Look::Act(ActKind::Send(c)) => order.send(alloc, t, c),
         Look::Act(ActKind::Recv(c)) => order.receive(alloc, t, c, c),
         Look::Act(ActKind::Pick(c, d)) => order.receive(alloc, t, c, d),

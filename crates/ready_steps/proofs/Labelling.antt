@@ -22,7 +22,7 @@ use Rattle.journal_laws.proofs.Occurring.{kept}
 use Rattle.journal_laws.proofs.Stepping.{plain_of}
 use Rattle.ready_steps.specs.declared.label.Given.{Given}
 use Rattle.ready_steps.specs.Labels.{IsOpen, label_of}
-use Rattle.ready_steps.specs.Ready.{deed_in}
+use Rattle.ready_steps.specs.Ready.{look_of}
 
 some_is : {A : Type 0} {x y : A} → Some x ≡ Some y → x ≡ y
 some_is h = cc
@@ -79,5 +79,5 @@ module _ (p : ProgramParts) (s : PlainState) (q : ℕ) (t : ThreadId) where
         subst (λ (x : told.Look). IfSome (label_of t given x) (λ l. IsSome (plain_step p s q l))) (some_is is)
         (by_look e (look_in p e) at refl ((kept p).look (known_in s) e (opened.known.threads t.0 e at)))
 
-    pub can : (d : told.Look) → deed_in p s t.0 ≡ Some d → IfSome (label_of t given d) (λ l. IsSome (plain_step p s q l))
+    pub can : (d : told.Look) → look_of p s t.0 ≡ Some d → IfSome (label_of t given d) (λ l. IsSome (plain_step p s q l))
     can d is = by_standing (standing s t.0) d refl is

@@ -13,7 +13,7 @@ use Rattle.plain_language.specs.Plain.{PlainState, language_of, look_in, standin
 use Rattle.plain_language.specs.Quiet as rest
 use Rattle.plain_language.specs.Quiet.{IsQuiet}
 use Rattle.plain_language.specs.Seen.{seen}
-use Rattle.ready_steps.specs.Ready.{AllRest, NobodyMeets, deed_in, receives_at, rests_at, sends_at}
+use Rattle.ready_steps.specs.Ready.{AllRest, NobodyMeets, look_of, receives_at, rests_at, sends_at}
 use Rattle.ready_steps.proofs.Telling.{same_receives, same_rest, same_sends}
 
 none_of : (o : Option Expr) → is_some o ≡ false → o ≡ None
@@ -25,12 +25,12 @@ not_true true h = absurd (h refl)
 not_true false h = refl
 
 module _ (p : ProgramParts) (s : PlainState) where
-  gone : (u : ℕ) → map.contains_key s.threads u ≡ false → deed_in p s u ≡ None
+  gone : (u : ℕ) → map.contains_key s.threads u ≡ false → look_of p s u ≡ None
   gone u h = ap (option_map (λ (e : Expr). seen (look_in p e))) (none_of (standing s u) h)
 
-  module _ (P : ℕ → Type 0) (nobody : (u : ℕ) → deed_in p s u ≡ None → P u) where
+  module _ (P : ℕ → Type 0) (nobody : (u : ℕ) → look_of p s u ≡ None → P u) where
     -- before the first thread
-    pub at_first : deed_in p s 0 ≡ None → (u : ℕ) → u ≤ 0 → P u
+    pub at_first : look_of p s 0 ≡ None → (u : ℕ) → u ≤ 0 → P u
     at_first none u le = subst P (let is : 0 ≡ u = omega arith in is) (nobody 0 none)
 
     -- one thread further
@@ -59,7 +59,7 @@ module _ (p : ProgramParts) (s : PlainState) where
         ] refl
 
   -- a thread that is there does what its expression does next
-  pub does : (t : ℕ) (e : Expr) (d : Look) → standing s t ≡ Some e → d ≡ seen (look_in p e) → deed_in p s t ≡ Some d
+  pub does : (t : ℕ) (e : Expr) (d : Look) → standing s t ≡ Some e → d ≡ seen (look_in p e) → look_of p s t ≡ Some d
   does t e d at is = ap (option_map (λ (x : Expr). seen (look_in p x))) at ∙ ap Some (sym is)
 
   rests_by : (o : Option Expr) → rests_at (option_map (λ (e : Expr). seen (look_in p e)) o) ≡ true → IfSome o (λ e. rest.is_resting (look_in p e) ≡ true)
@@ -81,7 +81,7 @@ module _ (p : ProgramParts) (s : PlainState) where
   apart_by c (Some a) (Some b) h = apart_of _ _ (λ sends. same_receives c (look_in p b) ∙ h (sym (same_sends c (look_in p a)) ∙ sends))
 
   -- a state is quiet where nobody can step
-  pub is_quiet : AllRest (deed_in p s) → NobodyMeets (deed_in p s) → IsQuiet (language_of p) s
+  pub is_quiet : AllRest (look_of p s) → NobodyMeets (look_of p s) → IsQuiet (language_of p) s
   is_quiet all nobody = record {
     rests = λ t. rests_by (standing s t) (all t);
     apart = λ t u c. apart_by c (standing s t) (standing s u) (nobody t u c);
@@ -95,8 +95,8 @@ module _ (p : ProgramParts) (s : PlainState) where
       false≢true (sym h ∙ ap (λ z. z && rest.receives_on c (look_in p b)) (same_sends c (look_in p a) ∙ sends) ∙ same_receives c (look_in p b) ∙ receives)
 
   -- nobody can step in a quiet state
-  pub rests_all : IsQuiet (language_of p) s → (t : ℕ) → rests_at (deed_in p s t) ≡ false → ⊥
+  pub rests_all : IsQuiet (language_of p) s → (t : ℕ) → rests_at (look_of p s t) ≡ false → ⊥
   rests_all quiet t h = false≢true (sym h ∙ rests_back (standing s t) (quiet.rests t))
 
-  pub meets_none : IsQuiet (language_of p) s → (t u c : ℕ) → sends_at c (deed_in p s t) ≡ true → receives_at c (deed_in p s u) ≡ true → ⊥
+  pub meets_none : IsQuiet (language_of p) s → (t u c : ℕ) → sends_at c (look_of p s t) ≡ true → receives_at c (look_of p s u) ≡ true → ⊥
   meets_none quiet t u c = meets_back c (standing s t) (standing s u) (quiet.apart t u c)

@@ -18,7 +18,7 @@ use Rattle.plain_language.specs.Table.{sends, receives, picks, stabilizes, Look,
 use Rattle.journal_laws.proofs.Stepping.{plain_of}
 use Rattle.ready_steps.specs.declared.ready.Meeting.{Meeting}
 use Rattle.ready_steps.specs.Resting.{receives_on, sends_on}
-use Rattle.ready_steps.specs.Ready.{CanMeet, deed_in, receives_at, sends_at}
+use Rattle.ready_steps.specs.Ready.{CanMeet, look_of, receives_at, sends_at}
 use Rattle.ready_steps.proofs.Labelling.{alone}
 
 either : {X : Type 0} (a b : Bool) (x y : X) → (a || b) ≡ true → (z : X) × (cond a (Some x) (cond b (Some y) None) ≡ Some z)
@@ -75,22 +75,22 @@ module _ (p : ProgramParts) (s : PlainState) (q : ℕ) where
   stabilizing (act stabilizes) is = refl
   stabilizing k is = cc
 
-  deed_some : {x y : told.Look} → Some x ≡ Some y → x ≡ y
-  deed_some h = cc
+  look_some : {x y : told.Look} → Some x ≡ Some y → x ≡ y
+  look_some h = cc
 
   refused_by : (t : ThreadId) (o : Option Expr) → standing s t.0 ≡ o → option_map (λ (e : Expr). seen (look_in p e)) o ≡ Some (Act Stabilize) → IsSome (plain_step p s q (Refuse t))
   refused_by t None at is = absurd (let no : None ≡ Some (Act Stabilize) = is in cc)
-  refused_by t (Some e) at is = alone p s q t (Refuse t) e _ refl at refl (ap (refuse_by (language_of p)) (stabilizing (look_in p e) (deed_some is)))
+  refused_by t (Some e) at is = alone p s q t (Refuse t) e _ refl at refl (ap (refuse_by (language_of p)) (stabilizing (look_in p e) (look_some is)))
 
   -- a thread at a `stabilize` has a step by which it is refused
-  pub refuses : (t : ThreadId) → deed_in p s t.0 ≡ Some (Act Stabilize) → IsSome (plain_step p s q (Refuse t))
+  pub refuses : (t : ThreadId) → look_of p s t.0 ≡ Some (Act Stabilize) → IsSome (plain_step p s q (Refuse t))
   refuses t is = refused_by t (standing s t.0) refl is
 
   stands_by : (o : Option Expr) → option_map (λ (e : Expr). seen (look_in p e)) o ≡ Some (Act Stabilize) → IsSomeAnd o (λ e. is_stabilize (look_in p e) ≡ true)
   stands_by None is = absurd (let no : None ≡ Some (Act Stabilize) = is in cc)
-  stands_by (Some e) is = ap is_stabilize (stabilizing (look_in p e) (deed_some is))
+  stands_by (Some e) is = ap is_stabilize (stabilizing (look_in p e) (look_some is))
 
-  pub stands : (t : ℕ) → deed_in p s t ≡ Some (Act Stabilize) → IsSomeAnd (standing s t) (λ e. is_stabilize (look_in p e) ≡ true)
+  pub stands : (t : ℕ) → look_of p s t ≡ Some (Act Stabilize) → IsSomeAnd (standing s t) (λ e. is_stabilize (look_in p e) ≡ true)
   stands t is = stands_by (standing s t) is
 
   purely : (k : Look Expr) → seen k ≡ Pure → IsSome (pure_of (language_of p) k)
@@ -104,9 +104,9 @@ module _ (p : ProgramParts) (s : PlainState) (q : ℕ) where
   stepped_by : (t : ThreadId) (o : Option Expr) → standing s t.0 ≡ o → option_map (λ (e : Expr). seen (look_in p e)) o ≡ Some Pure → IsSome (plain_step p s q (Local t 1))
   stepped_by t None at is = absurd (let no : None ≡ Some Pure = is in cc)
   stepped_by t (Some e) at is =
-      let x : (x : Expr) × (pure_of (language_of p) (look_in p e) ≡ Some x) = there _ (purely (look_in p e) (deed_some is)) in
+      let x : (x : Expr) × (pure_of (language_of p) (look_in p e) ≡ Some x) = there _ (purely (look_in p e) (look_some is)) in
       alone p s q t (Local t 1) e (to (language_of p) x.0) refl at refl (ap (λ (o : Option Expr). option_map (to (language_of p)) (option_and_then (pure_steps (language_of p) 0) o)) x.1)
 
   -- a thread that has a pure step makes it
-  pub steps_purely : (t : ThreadId) → deed_in p s t.0 ≡ Some Pure → IsSome (plain_step p s q (Local t 1))
+  pub steps_purely : (t : ThreadId) → look_of p s t.0 ≡ Some Pure → IsSome (plain_step p s q (Local t 1))
   steps_purely t is = stepped_by t (standing s t.0) refl is

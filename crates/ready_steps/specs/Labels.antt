@@ -26,7 +26,7 @@ label_of t g (Act Pin) = Some (step.Pin t)
 label_of t g (Act Print) = Some (step.Print t)
 label_of t g (Act Probe) = Some (step.Probe t g.probe)
 label_of t g (Act Attempt) = Some (step.Attempt t g.generation)
-label_of t g deed = None
+label_of t g look = None
 
 -- the numbers are new in the state, and what is answered is in its range; each channel and reference that occurs in the state is there
 pub record IsOpen (s : PlainState) (g : Given) : Type 0 where

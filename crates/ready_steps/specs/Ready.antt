@@ -12,8 +12,8 @@ use Rattle.ready_steps.specs.declared.ready.Ready.TheVariants.{Alone, Meet}
 use Rattle.ready_steps.specs.Resting.{is_resting, receives_on, sends_on}
 
 -- what each thread does next
-abbrev pub deed_in : ProgramParts → PlainState → ℕ → Option Look
-deed_in p s t = option_map (λ e. seen (look_in p e)) (standing s t)
+abbrev pub look_of : ProgramParts → PlainState → ℕ → Option Look
+look_of p s t = option_map (λ e. seen (look_in p e)) (standing s t)
 
 -- a thread that isn't there rests, and sends and receives nothing
 abbrev pub rests_at : Option Look → Bool
@@ -30,12 +30,12 @@ receives_at c (Some d) = receives_on c d
 
 -- one sends and the other receives on the channel
 pub record CanMeet (p : ProgramParts) (s : PlainState) (m : Meeting) : Type 0 where
-  pub sends : sends_at m.chan.0 (deed_in p s m.sender.0) ≡ true
-  pub receives : receives_at m.chan.0 (deed_in p s m.receiver.0) ≡ true
+  pub sends : sends_at m.chan.0 (look_of p s m.sender.0) ≡ true
+  pub receives : receives_at m.chan.0 (look_of p s m.receiver.0) ≡ true
 
 -- the thread can step by itself, or the two can meet
 abbrev pub IsReady : ProgramParts → PlainState → Ready → Type 0
-IsReady p s (Alone t) = rests_at (deed_in p s t.0) ≡ false
+IsReady p s (Alone t) = rests_at (look_of p s t.0) ≡ false
 IsReady p s (Meet m) = CanMeet p s m
 
 -- no thread can step by itself

@@ -3,7 +3,7 @@ ghost use Rattle.std.specs.Prelude.{◌≡◌, ℕ, ◌≤◌, ◌<◌, ◌^◌,
 ghost use Rattle.plain_language.specs.Plain.{PlainState as State, plain_step};
 ghost use Rattle.stab_code.specs.Program.{ProgramParts};
 ghost use Rattle.ready_steps.specs.Labels.{IsOpen, label_of};
-ghost use Rattle.ready_steps.specs.Ready.{deed_in};
+ghost use Rattle.ready_steps.specs.Ready.{look_of};
 
 use plain_language::{ActKind, Look};
 use stab_base::{ChanId, RefId, ThreadId};
@@ -20,11 +20,11 @@ pub struct Given {
 }
 
 /// The step of a thread that does this next, where it makes one by itself that isn't pure and isn't a `stabilize`.
-pub fn label_for(t: ThreadId, deed: Look, given: Given) -> Option<Label>
-    ensures label { result ≡ label_of t given deed }
-    ensures can { (p : ProgramParts) (s : State) (q : ℕ) → deed_in p s t.0 ≡ Some deed → IsOpen s given → IfSome result (λ l. IsSome (plain_step p s q l)) }
+pub fn label_for(t: ThreadId, look: Look, given: Given) -> Option<Label>
+    ensures label { result ≡ label_of t given look }
+    ensures can { (p : ProgramParts) (s : State) (q : ℕ) → look_of p s t.0 ≡ Some look → IsOpen s given → IfSome result (λ l. IsSome (plain_step p s q l)) }
 {
-    let Look::Act(kind) = deed else {
+    let Look::Act(kind) = look else {
         return None;
     };
     match kind {

@@ -6,5 +6,5 @@ mod ready;
 mod resting;
 
 pub use label::{Given, label_for};
-pub use ready::{Meeting, Ready, deed_in, first_ready, meets};
+pub use ready::{Meeting, Ready, first_ready, look_of, meets};
 pub use resting::is_resting;

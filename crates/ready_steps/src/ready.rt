@@ -5,7 +5,7 @@ ghost use Rattle.std.specs.Ordering.{nat_cmp};
 ghost use Rattle.plain_language.specs.Plain.{language_of};
 ghost use Rattle.plain_language.specs.Quiet.{IsQuiet};
 ghost use Rattle.ready_steps.specs.Resting.{receives_on, sends_on};
-ghost use Rattle.ready_steps.specs.Ready.{AllRest, CanMeet, HasReceivers, IsReady, NobodyMeets, deed_in, receives_at, rests_at};
+ghost use Rattle.ready_steps.specs.Ready.{AllRest, CanMeet, HasReceivers, IsReady, NobodyMeets, look_of, receives_at, rests_at};
 
 use crate::resting::{is_resting, receives_on, sends_on};
 use plain_language::{ActKind, Look, PlainState};
@@ -31,8 +31,8 @@ pub enum Ready {
 }
 
 /// What a thread does next, if it is there.
-pub fn deed_in(state: &PlainState, t: ThreadId) -> Option<Look>
-    ensures { result ≡ deed_in state.now.program state.now.state t.0 }
+pub fn look_of(state: &PlainState, t: ThreadId) -> Option<Look>
+    ensures { result ≡ look_of state.now.program state.now.state t.0 }
 {
     match state.expr(t) {
         Some(e) => Some(e.look()),
@@ -44,12 +44,12 @@ pub fn deed_in(state: &PlainState, t: ThreadId) -> Option<Look>
 pub fn meets(state: &PlainState, meeting: Meeting) -> bool
     ensures { IsTrue result ↔ CanMeet state.now.program state.now.state meeting }
 {
-    let sends = match deed_in(state, meeting.sender) {
-        Some(deed) => sends_on(deed, meeting.chan),
+    let sends = match look_of(state, meeting.sender) {
+        Some(look) => sends_on(look, meeting.chan),
         None => false,
     };
-    let receives = match deed_in(state, meeting.receiver) {
-        Some(deed) => receives_on(deed, meeting.chan),
+    let receives = match look_of(state, meeting.receiver) {
+        Some(look) => receives_on(look, meeting.chan),
         None => false,
     };
     sends && receives
@@ -57,7 +57,7 @@ pub fn meets(state: &PlainState, meeting: Meeting) -> bool
 
 /// Somebody who can step. It looks at each thread once or twice. No state has a thread 0.
 pub fn first_ready(alloc: Global, state: &PlainState) -> Result<Option<Ready>, NoMemory>
-    requires { deed_in state.now.program state.now.state 0 ≡ None }
+    requires { look_of state.now.program state.now.state 0 ≡ None }
     ensures { IfOk result (λ o. MatchOption o (IsQuiet (language_of state.now.program) state.now.state) (IsReady state.now.program state.now.state)) }
 {
     if let Some(t) = first_alone(state) {
@@ -72,8 +72,8 @@ pub fn first_ready(alloc: Global, state: &PlainState) -> Result<Option<Ready>, N
 
 // The first thread that can step by itself.
 fn first_alone(state: &PlainState) -> Option<ThreadId>
-    requires { deed_in state.now.program state.now.state 0 ≡ None }
-    ensures { MatchOption result (AllRest (deed_in state.now.program state.now.state)) (λ t. rests_at (deed_in state.now.program state.now.state t.0) ≡ false) }
+    requires { look_of state.now.program state.now.state 0 ≡ None }
+    ensures { MatchOption result (AllRest (look_of state.now.program state.now.state)) (λ t. rests_at (look_of state.now.program state.now.state t.0) ≡ false) }
 {
     let mut last = 0;
     while let Some((t, e)) = state.thread_after(last) {
@@ -87,8 +87,8 @@ fn first_alone(state: &PlainState) -> Option<ThreadId>
 
 // The channels on which threads receive, each with one of these.
 fn receivers_of(alloc: Global, state: &PlainState) -> Result<BTreeMap<u32, u32>, NoMemory>
-    requires { deed_in state.now.program state.now.state 0 ≡ None }
-    ensures { IfOk result (HasReceivers (deed_in state.now.program state.now.state)) }
+    requires { look_of state.now.program state.now.state 0 ≡ None }
+    ensures { IfOk result (HasReceivers (look_of state.now.program state.now.state)) }
 {
     let mut receivers = BTreeMap::new(alloc);
     let mut last = 0;
@@ -100,11 +100,11 @@ fn receivers_of(alloc: Global, state: &PlainState) -> Result<BTreeMap<u32, u32>,
 }
 
 // Notes the channels on which a thread receives.
-fn note(receivers: &mut BTreeMap<u32, u32>, t: ThreadId, deed: Look) -> Result<(), NoMemory>
+fn note(receivers: &mut BTreeMap<u32, u32>, t: ThreadId, look: Look) -> Result<(), NoMemory>
     ensures more { OnOk result ((c : ℕ) → is_some (get nat_cmp receivers.old c) ≡ true → is_some (get nat_cmp receivers.new c) ≡ true) }
-    ensures these { OnOk result ((c : ℕ) → receives_on c deed ≡ true → is_some (get nat_cmp receivers.new c) ≡ true) }
+    ensures these { OnOk result ((c : ℕ) → receives_on c look ≡ true → is_some (get nat_cmp receivers.new c) ≡ true) }
 {
-    match deed {
+    match look {
         Look::Act(ActKind::Recv(c)) => {
             receivers.insert(c.0, t.0)?;
         }
@@ -119,9 +119,9 @@ fn note(receivers: &mut BTreeMap<u32, u32>, t: ThreadId, deed: Look) -> Result<(
 
 // The first sender that can meet somebody.
 fn first_meeting(state: &PlainState, receivers: &BTreeMap<u32, u32>) -> Option<Meeting>
-    requires none { deed_in state.now.program state.now.state 0 ≡ None }
-    requires receivers { HasReceivers (deed_in state.now.program state.now.state) receivers.now }
-    ensures { MatchOption result (NobodyMeets (deed_in state.now.program state.now.state)) (CanMeet state.now.program state.now.state) }
+    requires none { look_of state.now.program state.now.state 0 ≡ None }
+    requires receivers { HasReceivers (look_of state.now.program state.now.state) receivers.now }
+    ensures { MatchOption result (NobodyMeets (look_of state.now.program state.now.state)) (CanMeet state.now.program state.now.state) }
 {
     let mut last = 0;
     while let Some((t, e)) = state.thread_after(last) {
@@ -138,15 +138,15 @@ fn meeting_of(
     state: &PlainState,
     receivers: &BTreeMap<u32, u32>,
     t: ThreadId,
-    deed: Look,
+    look: Look,
 ) -> Option<Meeting>
-    requires none { deed_in state.now.program state.now.state 0 ≡ None }
-    requires receivers { HasReceivers (deed_in state.now.program state.now.state) receivers.now }
-    requires deed { deed_in state.now.program state.now.state t.0 ≡ Some deed }
-    ensures { MatchOption result ((u c : ℕ) → sends_on c deed ≡ true → receives_at c (deed_in state.now.program state.now.state u) ≡ false)
+    requires none { look_of state.now.program state.now.state 0 ≡ None }
+    requires receivers { HasReceivers (look_of state.now.program state.now.state) receivers.now }
+    requires look { look_of state.now.program state.now.state t.0 ≡ Some look }
+    ensures { MatchOption result ((u c : ℕ) → sends_on c look ≡ true → receives_at c (look_of state.now.program state.now.state u) ≡ false)
         (CanMeet state.now.program state.now.state) }
 {
-    let Look::Act(ActKind::Send(c)) = deed else {
+    let Look::Act(ActKind::Send(c)) = look else {
         return None;
     };
     if !receivers.contains_key(&c.0) {
@@ -164,9 +164,9 @@ fn meeting_of(
 
 // The first thread that receives on a channel.
 fn first_receiver(state: &PlainState, c: ChanId) -> Option<ThreadId>
-    requires { deed_in state.now.program state.now.state 0 ≡ None }
-    ensures { MatchOption result ((u : ℕ) → receives_at c.0 (deed_in state.now.program state.now.state u) ≡ false)
-        (λ r. receives_at c.0 (deed_in state.now.program state.now.state r.0) ≡ true) }
+    requires { look_of state.now.program state.now.state 0 ≡ None }
+    ensures { MatchOption result ((u : ℕ) → receives_at c.0 (look_of state.now.program state.now.state u) ≡ false)
+        (λ r. receives_at c.0 (look_of state.now.program state.now.state r.0) ≡ true) }
 {
     let mut last = 0;
     while let Some((t, e)) = state.thread_after(last) {

@@ -3,7 +3,7 @@ use Rattle.std.specs.Prelude.{None}
 use Rattle.plain_language.specs.Held.{Held}
 use Rattle.plain_language.specs.Plain.{language_of}
 use Rattle.plain_language.specs.Quiet.{IsQuiet}
-use Rattle.ready_steps.specs.Ready.{IsReady, deed_in}
+use Rattle.ready_steps.specs.Ready.{IsReady, look_of}
 use Rattle.image_run.specs.declared.machine.Machine.{Machine}
 use Rattle.image_run.specs.Machine.{state_of}
 use Rattle.image_run.proofs.Turning.{first_thread, quiet_for, ready_for}
@@ -20,7 +20,7 @@ turn-requires-clause-ready c =
     subst (λ (m : Machine). IsReady m.surviving.state.program (state_of m) c.in-Some.chosen.ready) (sym c.in_ok-next.ensures.machine) (rw c.in-Some.is at c.in_ok-next.ensures.next)
 
 pub first_ready-requires : goal.first_ready-requires
-first_ready-requires c = subst (λ (h : Held). deed_in h.program h.state 0 ≡ None) (sym c.state.ensures) (first_thread c.loop-run.run.machine c.loop-run.invariant.run.at)
+first_ready-requires c = subst (λ (h : Held). look_of h.program h.state 0 ≡ None) (sym c.state.ensures) (first_thread c.loop-run.run.machine c.loop-run.invariant.run.at)
 
 pub returns-in-None-clause-quiet : goal.returns-in-None-clause-quiet
 returns-in-None-clause-quiet c = λ off.
