@@ -12,7 +12,7 @@ use Rattle.std.specs.FinMap.{FinMap, put, get-empty, entries-insert, len-empty, 
 use Rattle.std.specs.FinMap.Entries.{by_order}
 use Rattle.std.proofs.lemmas.List.{append-nil}
 use Rattle.std.proofs.lemmas.Grind.{flat_map-append}
-use Rattle.plain_language.proofs.Applying.{get_inserted}
+use Rattle.language.proofs.Applying.{get_inserted}
 use Rattle.commit_book.proofs.Keeping.Floors.{differs_too}
 use Rattle.commit_book.proofs.Threads.Waiting.{get_removed}
 

@@ -5,12 +5,12 @@ use Rattle.std.specs.FinMap as map
 use Rattle.stab_code.specs.Program.{ProgramParts}
 use Rattle.stab_code.specs.Valid.{IsValid}
 use Rattle.thread_slots.specs.Slot.{Slot}
-use Rattle.plain_language.specs.Expression.{Expr, value, failed}
-use Rattle.plain_language.specs.Look.{look_at, look_by}
-use Rattle.plain_language.specs.Outcome.{Outcome, becomes, fails, acts, outcome}
-use Rattle.plain_language.specs.Plain.{look_in}
-use Rattle.plain_language.specs.Program.{body}
-use Rattle.plain_language.specs.Redex.{Frame, Redex, redex}
+use Rattle.language.specs.Expression.{Expr, value, failed}
+use Rattle.language.specs.Look.{look_at, look_by}
+use Rattle.language.specs.Outcome.{Outcome, becomes, fails, acts, outcome}
+use Rattle.language.specs.Plain.{look_in}
+use Rattle.language.specs.Program.{body}
+use Rattle.language.specs.Redex.{Frame, Redex, redex}
 use Rattle.step_eval.specs.declared.rest.Rest.TheVariants.{Going}
 use Rattle.step_eval.specs.ControlView.{ControlView, Fits, expr_of}
 use Rattle.step_eval.specs.Rests.{rest_of}

@@ -11,11 +11,11 @@ use Rattle.thread_slots.specs.declared.state.State.{State}
 use Rattle.thread_slots.specs.declared.state.State.TheVariants.{Ready, Leased, Parked, Ended}
 use Rattle.thread_slots.specs.Ready.{numbers}
 use Rattle.thread_slots.specs.Slot.{Slot, same_state, is_in}
-use Rattle.plain_language.specs.Expression.{Expr, value, failed}
-use Rattle.plain_language.specs.Plain.{PlainState, end_of, look_in}
-use Rattle.plain_language.specs.Shown.{is_done, is_fault, fault_line, counts, count_line, shown, value_lines}
-use Rattle.plain_language.specs.Table.{Look, done, fault, act, pure}
-use Rattle.plain_language.specs.Table as table
+use Rattle.language.specs.Expression.{Expr, value, failed}
+use Rattle.language.specs.Plain.{PlainState, end_of, look_in}
+use Rattle.language.specs.Shown.{is_done, is_fault, fault_line, counts, count_line, shown, value_lines}
+use Rattle.language.specs.Table.{Look, done, fault, act, pure}
+use Rattle.language.specs.Table as table
 use Rattle.step_eval.specs.ControlView.{ControlView, expr_of}
 use Rattle.journal_laws.proofs.Surviving.{some_is}
 use Rattle.journal_laws.proofs.Undone.{stands_run}

@@ -4,9 +4,9 @@ use Rattle.std.specs.Option.{option_map_or}
 use Rattle.stab_journal.specs.Due.{released}
 use Rattle.stab_journal.specs.Journal.{survivors}
 use Rattle.thread_slots.specs.declared.state.State.TheVariants.{Ready, Leased, Parked, Ended}
-use Rattle.plain_language.specs.Plain.{PlainState, end_of}
-use Rattle.plain_language.specs.Shown.{counts, fault_line, shown, value_lines}
-use Rattle.plain_language.specs.Table.{fault}
+use Rattle.language.specs.Plain.{PlainState, end_of}
+use Rattle.language.specs.Shown.{counts, fault_line, shown, value_lines}
+use Rattle.language.specs.Table.{fault}
 use Rattle.commit_book.specs.Book.{BookView, fault_at}
 use Rattle.commit_book.specs.Counts.{faulted_in, in_state}
 

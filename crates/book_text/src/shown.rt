@@ -2,8 +2,8 @@
 ghost use Rattle.std.specs.Prelude.{◌≡◌, ◌+◌, ◌++◌, ◌≤◌, IfOk, OnOk};
 ghost use Rattle.std.specs.List.{flat_map};
 ghost use Rattle.stab_base.specs.Printed.{printed};
-ghost use Rattle.plain_language.specs.Shown.{counts, fault_line, line};
-ghost use Rattle.plain_language.specs.Table.{fault as failed};
+ghost use Rattle.language.specs.Shown.{counts, fault_line, line};
+ghost use Rattle.language.specs.Table.{fault as failed};
 ghost use Rattle.book_text.specs.Written.{IsRestText, IsShownText, count_text, fault_line_of, fault_lines};
 
 use commit_book::{Book, Counts};

@@ -11,10 +11,10 @@ use Rattle.stab_journal.specs.Journal.{Journal, survivors}
 use Rattle.thread_slots.specs.declared.state.State.{State}
 use Rattle.thread_slots.specs.declared.state.State.TheVariants.{Ready, Ended}
 use Rattle.thread_slots.specs.Slot.{changed, started, IsSound}
-use Rattle.plain_language.specs.Plain.{look_in}
-use Rattle.plain_language.specs.Program.{body}
-use Rattle.plain_language.specs.Expression.{Expr}
-use Rattle.plain_language.specs.Table.{Look, act}
+use Rattle.language.specs.Plain.{look_in}
+use Rattle.language.specs.Program.{body}
+use Rattle.language.specs.Expression.{Expr}
+use Rattle.language.specs.Table.{Look, act}
 use Rattle.step_eval.specs.declared.act.Act.{Act}
 use Rattle.step_eval.specs.declared.act.Act.TheVariants as own
 use Rattle.step_eval.specs.Acts.{act_with}

@@ -4,7 +4,7 @@ use Rattle.std.specs.Ordering.{nat_cmp}
 use Rattle.std.specs.FinMap as map
 use Rattle.std.specs.FinMap.{FinMap}
 use Rattle.stab_base.specs.declared.fault.Fault.{Fault}
-use Rattle.plain_language.specs.Expression.{Expr, failed}
+use Rattle.language.specs.Expression.{Expr, failed}
 use Rattle.stab_base.specs.Datum.{Datum}
 use Rattle.stab_code.specs.JobParts.{JobParts}
 use Rattle.stab_code.specs.Program.{ProgramParts}
@@ -18,8 +18,8 @@ use Rattle.rendezvous.specs.Line.{Seen}
 use Rattle.ref_log.specs.Log.{Write}
 use Rattle.checkpoint_store.specs.Saved.{place_cmp}
 use Rattle.comm_graph.specs.Node.{Node}
-use Rattle.plain_language.specs.Plain.{PlainState, effect_of, look_in, start}
-use Rattle.plain_language.specs.Standing.{Shows}
+use Rattle.language.specs.Plain.{PlainState, effect_of, look_in, start}
+use Rattle.language.specs.Standing.{Shows}
 use Rattle.step_eval.specs.ControlView.{ControlView, Fits, RedexIsFound, expr_of}
 use Rattle.commit_book.specs.Threads.{AreThreads, AllControls}
 use Rattle.commit_book.specs.Channels.{AreChannels}

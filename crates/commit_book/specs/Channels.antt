@@ -3,7 +3,7 @@ use Rattle.std.specs.Prelude.{◌≡◌, ℕ}
 use Rattle.std.specs.FinMap as map
 use Rattle.std.specs.FinSet as set
 use Rattle.rendezvous.specs.Line.{Lines}
-use Rattle.plain_language.specs.Steps.{State}
+use Rattle.language.specs.Steps.{State}
 
 -- the channels are those of the state
 abbrev pub AreChannels : {E : Type 0} → Lines → State E → Type 0

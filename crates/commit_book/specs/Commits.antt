@@ -10,7 +10,7 @@ use Rattle.thread_slots.specs.declared.state.State.TheVariants.{Ended}
 use Rattle.thread_slots.specs.Slot.{Slot, is_in}
 use Rattle.rendezvous.specs.Line.{Line, joined, left}
 use Rattle.reach_line.specs.MarkList.{numbers}
-use Rattle.plain_language.specs.Plain.{look_in}
+use Rattle.language.specs.Plain.{look_in}
 use Rattle.step_eval.specs.ControlView.{ControlView, expr_of}
 use Rattle.step_eval.specs.Progress.{ProgressView}
 use Rattle.commit_book.specs.declared.done.Done.{Done}

@@ -7,8 +7,8 @@ use Rattle.thread_slots.specs.declared.state.State.TheVariants.{Parked, Ended}
 use Rattle.thread_slots.specs.Slot.{Slot, same_state}
 use Rattle.rendezvous.specs.declared.offer.Offer.{Offer}
 use Rattle.rendezvous.specs.declared.offer.Offer.TheVariants as offer
-use Rattle.plain_language.specs.Expression.{Expr, value, failed}
-use Rattle.plain_language.specs.Table.{Look, act, sends, receives, picks}
+use Rattle.language.specs.Expression.{Expr, value, failed}
+use Rattle.language.specs.Table.{Look, act, sends, receives, picks}
 
 -- whether an expression is a value or a fault
 abbrev pub is_over : Expr → Bool

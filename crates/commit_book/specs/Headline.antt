@@ -13,8 +13,8 @@ use Rattle.stab_journal.specs.Names.{has}
 use Rattle.stab_journal.specs.Reached.{reached, without_reached}
 use Rattle.stab_journal.specs.Script.{FollowsScript}
 use Rattle.stab_journal.specs.Surviving.{run_of}
-use Rattle.plain_language.specs.Plain.{PlainState, IsRun, look_in, mark_in, standing}
-use Rattle.plain_language.specs.Standing.{StandsFor, MayUndo, event, is_stabilize}
+use Rattle.language.specs.Plain.{PlainState, IsRun, look_in, mark_in, standing}
+use Rattle.language.specs.Standing.{StandsFor, MayUndo, event, is_stabilize}
 use Rattle.step_eval.specs.ControlView.{expr_of}
 use Rattle.commit_book.specs.Book.{BookView}
 use Rattle.commit_book.specs.Channels.{AreChannels}

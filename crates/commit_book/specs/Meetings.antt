@@ -11,10 +11,10 @@ use Rattle.rendezvous.specs.declared.offer.Offer.{Offer}
 use Rattle.rendezvous.specs.declared.offer.Offer.TheVariants as offer
 use Rattle.rendezvous.specs.Line.{Lines}
 use Rattle.rendezvous.specs.Offer.{receives_on, sends_on}
-use Rattle.plain_language.specs.Look.{answered}
-use Rattle.plain_language.specs.Plain.{language_of, look_in}
-use Rattle.plain_language.specs.Table.{act, received_by}
-use Rattle.plain_language.specs.Table as table
+use Rattle.language.specs.Look.{answered}
+use Rattle.language.specs.Plain.{language_of, look_in}
+use Rattle.language.specs.Table.{act, received_by}
+use Rattle.language.specs.Table as table
 use Rattle.step_eval.specs.declared.act.Act.TheVariants as own
 use Rattle.step_eval.specs.declared.ask.Ask.{Ask}
 use Rattle.step_eval.specs.declared.ask.Ask.TheVariants as ask

@@ -7,7 +7,7 @@ use Rattle.stab_base.specs.Datum.{Datum}
 use Rattle.stab_journal.specs.declared.event.Numbered.{Numbered}
 use Rattle.stab_journal.specs.Floor.{floor}
 use Rattle.ref_log.specs.Log.{Write, kept, last_of}
-use Rattle.plain_language.specs.Steps.{State, Table}
+use Rattle.language.specs.Steps.{State, Table}
 use Rattle.commit_book.specs.Run.{writes_in}
 
 -- the writes that are kept of the reference r, none where it isn't there

@@ -6,8 +6,8 @@ use Rattle.stab_base.specs.Printed.{printed}
 use Rattle.stab_journal.specs.declared.event.What.TheVariants.{Release}
 use Rattle.stab_journal.specs.Due.{final_prints, released}
 use Rattle.stab_journal.specs.Surviving.{run_of}
-use Rattle.plain_language.specs.Shown.{line}
-use Rattle.plain_language.specs.Standing.{event}
+use Rattle.language.specs.Shown.{line}
+use Rattle.language.specs.Standing.{event}
 use Rattle.commit_book.specs.declared.parts.Parts.{Parts}
 use Rattle.commit_book.specs.Book.{BookView}
 

@@ -15,10 +15,10 @@ use Rattle.stab_journal.specs.Journal.{survivors}
 use Rattle.stab_journal.specs.Script.{probed, script_at}
 use Rattle.rendezvous.specs.declared.offer.Offer.{Offer}
 use Rattle.rendezvous.specs.declared.offer.Offer.TheVariants as offer
-use Rattle.plain_language.specs.Expression.{Expr}
-use Rattle.plain_language.specs.Redex.{mark}
-use Rattle.plain_language.specs.Standing.{event}
-use Rattle.plain_language.specs.Table.{Look, act, spawns, makes_chan, makes_ref, gets, sets, sends, receives, picks, enters, stabilizes, cuts, pins, prints, probes, attempts}
+use Rattle.language.specs.Expression.{Expr}
+use Rattle.language.specs.Redex.{mark}
+use Rattle.language.specs.Standing.{event}
+use Rattle.language.specs.Table.{Look, act, spawns, makes_chan, makes_ref, gets, sets, sends, receives, picks, enters, stabilizes, cuts, pins, prints, probes, attempts}
 use Rattle.commit_book.specs.Book.{BookView}
 use Rattle.commit_book.specs.Offers.{sends_at, receives_at}
 

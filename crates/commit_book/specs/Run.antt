@@ -6,7 +6,7 @@ use Rattle.stab_journal.specs.declared.event.Label.TheVariants.{Comm, Get, Enter
 use Rattle.stab_journal.specs.declared.event.Numbered.{Numbered}
 use Rattle.stab_journal.specs.Label.{actors, written}
 use Rattle.stab_journal.specs.Names.{has, is_at}
-use Rattle.plain_language.specs.Steps.{State, Table, next}
+use Rattle.language.specs.Steps.{State, Table, next}
 use Rattle.ref_log.specs.Log.{Write}
 use Rattle.journal_laws.specs.Surviving.{thread_of, value_of}
 

@@ -5,7 +5,7 @@ use Rattle.std.specs.FinMap.{FinMap}
 use Rattle.stab_journal.specs.declared.event.Numbered.{Numbered}
 use Rattle.stab_journal.specs.Floor.{floor}
 use Rattle.checkpoint_store.specs.Saved.{place_cmp}
-use Rattle.plain_language.specs.Steps.{State, Table}
+use Rattle.language.specs.Steps.{State, Table}
 use Rattle.commit_book.specs.Run.{stood_at}
 
 -- what is saved of the thread t before the step numbered q

@@ -5,8 +5,8 @@ use Rattle.std.specs.FinSet as set
 use Rattle.stab_code.specs.Program.{ProgramParts}
 use Rattle.stab_code.specs.Valid.{IsValid}
 use Rattle.thread_slots.specs.Slot.{started, IsSound}
-use Rattle.plain_language.specs.Outcome.{called}
-use Rattle.plain_language.specs.Program.{body}
+use Rattle.language.specs.Outcome.{called}
+use Rattle.language.specs.Program.{body}
 use Rattle.ref_log.specs.Log.{writes_of}
 use Rattle.step_eval.specs.ControlView.{ControlView, Fits, expr_of}
 use Rattle.commit_book.specs.declared.parts.Parts.{Parts}

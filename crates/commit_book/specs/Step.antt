@@ -8,10 +8,10 @@ use Rattle.stab_journal.specs.Journal.{step_at, survivors}
 use Rattle.stab_journal.specs.Label.{actors, written}
 use Rattle.stab_journal.specs.Names.{has, is_at, made}
 use Rattle.stab_journal.specs.Script.{FollowsScript}
-use Rattle.plain_language.specs.Expression.{Expr}
-use Rattle.plain_language.specs.Plain.{PlainState}
-use Rattle.plain_language.specs.Standing.{event}
-use Rattle.plain_language.specs.Steps.{Effect}
+use Rattle.language.specs.Expression.{Expr}
+use Rattle.language.specs.Plain.{PlainState}
+use Rattle.language.specs.Standing.{event}
+use Rattle.language.specs.Steps.{Effect}
 use Rattle.step_eval.specs.ControlView.{Fits, expr_of}
 use Rattle.commit_book.specs.Book.{BookView}
 use Rattle.commit_book.specs.Graph.{node_of, wrote_by}

@@ -18,8 +18,8 @@ use Rattle.reach_line.specs.Reached as marks
 use Rattle.reach_line.specs.Reached.{AreReached}
 use Rattle.restore.specs.Left.{LineMap, is_from, is_touched, put_back, requeued, unmarked, without_all}
 use Rattle.restore.specs.Line.{IsLineOf}
-use Rattle.plain_language.specs.Plain.{PlainState}
-use Rattle.plain_language.specs.Standing.{MayUndo}
+use Rattle.language.specs.Plain.{PlainState}
+use Rattle.language.specs.Standing.{MayUndo}
 use Rattle.step_eval.specs.ControlView.{Fits}
 use Rattle.commit_book.specs.declared.parts.Parts.{Parts}
 use Rattle.commit_book.specs.Book.{ShowsRun}

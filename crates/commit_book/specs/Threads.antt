@@ -4,7 +4,7 @@ use Rattle.std.specs.Ordering.{nat_cmp}
 use Rattle.std.specs.FinMap as map
 use Rattle.std.specs.FinMap.{FinMap}
 use Rattle.thread_slots.specs.Slot.{Slot}
-use Rattle.plain_language.specs.Steps.{State}
+use Rattle.language.specs.Steps.{State}
 
 module _ {C E : Type 0} (expr : C → E) where
   -- what the control of a thread stands for, where the thread is live

@@ -11,8 +11,8 @@ use Rattle.thread_slots.specs.declared.state.State.TheVariants.{Ready, Leased}
 use Rattle.thread_slots.specs.Ready.{numbers}
 use Rattle.thread_slots.specs.Slot.{Slot, same_state, is_in, changed, recalled}
 use Rattle.stab_journal.specs.Journal.{survivors}
-use Rattle.plain_language.specs.Plain.{PlainState, end_of, language_of}
-use Rattle.plain_language.specs.Quiet.{IsQuiet}
+use Rattle.language.specs.Plain.{PlainState, end_of, language_of}
+use Rattle.language.specs.Quiet.{IsQuiet}
 use Rattle.step_eval.specs.ControlView.{ControlView, Fits}
 use Rattle.commit_book.specs.declared.turn.Turn.{Turn}
 use Rattle.commit_book.specs.declared.turn.Turn.TheVariants.{Work, Idle, Quiet, Spent, Release}

@@ -11,7 +11,7 @@ use Rattle.stab_journal.specs.Reached.{reached, without_reached}
 use Rattle.thread_slots.specs.Ready.{numbers}
 use Rattle.reach_line.specs.Reached as marks
 use Rattle.restore.specs.Left.{others, without_all}
-use Rattle.plain_language.specs.Standing.{event}
+use Rattle.language.specs.Standing.{event}
 use Rattle.journal_laws.specs.Lines.{is_node}
 use Rattle.journal_laws.specs.Lost.{is_hit, is_unmade}
 use Rattle.commit_book.specs.Book.{BookView}

@@ -1,7 +1,7 @@
 //! Acts on references.
 ghost use Rattle.std.specs.Prelude.{◌≡◌, ◌≢◌, ◌+◌, ◌<◌, ◌≤◌, [], length, Some, IfErr, IfOk, IfSome, IsSome, OnErr, OnOk};
 ghost use Rattle.ref_log.specs.Log.{last_of, writes_of};
-ghost use Rattle.plain_language.specs.Look.{answered};
+ghost use Rattle.language.specs.Look.{answered};
 ghost use Rattle.step_eval.specs.Asked.{act_next};
 ghost use Rattle.step_eval.specs.ControlView.{Fits, expr_of};
 ghost use Rattle.commit_book.specs.Acting.{AreAsBefore, IsDone, MayAct, StandsAt};

@@ -4,7 +4,7 @@ ghost use Rattle.std.specs.List.{flat_map};
 ghost use Rattle.stab_base.specs.Printed.{printed};
 ghost use Rattle.stab_journal.specs.Due.{due};
 ghost use Rattle.stab_journal.specs.Event.{IsWorker, weight_of};
-ghost use Rattle.plain_language.specs.Shown.{line};
+ghost use Rattle.language.specs.Shown.{line};
 ghost use Rattle.commit_book.specs.Book.{IsShown};
 ghost use Rattle.commit_book.specs.Releases.{IsReleased, IsReleasedBy, due_lines};
 

@@ -18,7 +18,7 @@ ghost use Rattle.ref_log.specs.Calls.{IsAllowed, struck};
 ghost use Rattle.ref_log.specs.Log.{without, writes_of};
 ghost use Rattle.print_log.specs.Log.{without as without_print};
 ghost use Rattle.rendezvous.specs.Line.{nobody};
-ghost use Rattle.plain_language.specs.Redex.{mark as section_of};
+ghost use Rattle.language.specs.Redex.{mark as section_of};
 ghost use Rattle.step_eval.specs.ControlView.{Fits, expr_of};
 ghost use Rattle.step_eval.specs.declared.act.Act.TheVariants as own;
 ghost use Rattle.commit_book.specs.Acting.{AreAsBefore, IsPerformed, MayAct, StandsAt};

@@ -1,6 +1,7 @@
 //! Whatever goes through an expression calls itself as often as that is deep.
 use expression_text::{Word, has_shape, read};
-use plain_language::{Expr, Head, Look, MAX_EXPR_DEPTH, PlainState, are_flat};
+use language::Head;
+use plain_language::{Expr, Look, MAX_EXPR_DEPTH, PlainState, are_flat};
 use stab_base::{Fault, NoMemory, Seq, ThreadId, Value};
 use stab_code::{Program, Slots};
 use stab_journal::Label;

@@ -6,8 +6,8 @@ use Rattle.stab_journal.specs.declared.event.Event.{Event}
 use Rattle.stab_journal.specs.declared.event.Numbered.{Numbered}
 use Rattle.stab_journal.specs.declared.event.What.TheVariants.{Step}
 use Rattle.stab_journal.specs.Journal.{step_at}
-use Rattle.plain_language.specs.Plain.{PlainState, plain_step}
-use Rattle.plain_language.specs.Standing.{StandsFor, MayStep, event, step}
+use Rattle.language.specs.Plain.{PlainState, plain_step}
+use Rattle.language.specs.Standing.{StandsFor, MayStep, event, step}
 use Rattle.eval_trial.specs.Alone.{StandsAlone, events_of}
 
 abbrev event_of : Numbered → Event

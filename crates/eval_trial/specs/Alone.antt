@@ -4,8 +4,8 @@ use Rattle.stab_code.specs.Program.{ProgramParts}
 use Rattle.stab_journal.specs.declared.event.Event.{Event}
 use Rattle.stab_journal.specs.declared.event.Numbered.{Numbered}
 use Rattle.stab_journal.specs.declared.event.What.TheVariants.{Step}
-use Rattle.plain_language.specs.Plain.{PlainState}
-use Rattle.plain_language.specs.Standing.{StandsFor, event}
+use Rattle.language.specs.Plain.{PlainState}
+use Rattle.language.specs.Standing.{StandsFor, event}
 
 -- the events that are these steps, of worker 1
 abbrev pub events_of : List Numbered → List Event

@@ -3,11 +3,11 @@ use Rattle.std.proofs.Common.{◌≡◌, ℕ, zero, suc, ◌+◌, ◌≤◌, con
 use Rattle.std.specs.Prelude.{option_map, option_and_then}
 use Rattle.std.specs.Bool.{⊤}
 use Rattle.stab_base.specs.Datum.{Datum, unit, truth, int, text, chan, reference, pair, depth_of}
-use Rattle.plain_language.specs.declared.head.Head.{Head}
-use Rattle.plain_language.specs.declared.head.Head.TheVariants as head
-use Rattle.plain_language.specs.Expression.{Expr, value, variable, failed, form, Parts, none, part, parts_of}
+use Rattle.language.specs.declared.head.Head.{Head}
+use Rattle.language.specs.declared.head.Head.TheVariants as head
+use Rattle.language.specs.Expression.{Expr, value, variable, failed, form, Parts, none, part, parts_of}
 use Rattle.expression_text.specs.declared.word.Word.{Word}
-use Rattle.plain_language.specs.Depth.{depth, depth_of_parts}
+use Rattle.language.specs.Depth.{depth, depth_of_parts}
 use Rattle.expression_text.specs.Spelling.{count, arity, opening, items_of, item_word, spell_value, spell, spell_parts, IsWithin, IsWell, AreWell, Spells}
 use Rattle.expression_text.specs.Reading.{few, block, plan, Read, pair_of, item_of, read_list, read_items, read_plan, read}
 

@@ -3,9 +3,9 @@ use Rattle.std.proofs.Common.{◌≡◌, ℕ, zero, suc, ◌+◌, true, List, []
 use Rattle.std.specs.Bool.{⊤}
 use Rattle.std.proofs.lemmas.Bool.{false≢true}
 use Rattle.stab_base.specs.Datum.{Datum, unit, truth, int, text, chan, reference, pair}
-use Rattle.plain_language.specs.declared.head.Head.{Head}
-use Rattle.plain_language.specs.declared.head.Head.TheVariants as head
-use Rattle.plain_language.specs.Expression.{Expr, value, variable, failed, form, Parts, none, part}
+use Rattle.language.specs.declared.head.Head.{Head}
+use Rattle.language.specs.declared.head.Head.TheVariants as head
+use Rattle.language.specs.Expression.{Expr, value, variable, failed, form, Parts, none, part}
 use Rattle.expression_text.specs.declared.word.Word.{Word}
 use Rattle.expression_text.specs.declared.word.Word.TheVariants.{Both, Block, Let, Do}
 use Rattle.expression_text.specs.Spelling.{count, arity, opening, items_of, item_word, spell_value, spell, spell_parts, IsWell, AreWell}

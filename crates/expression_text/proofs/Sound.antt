@@ -4,10 +4,10 @@ use Rattle.std.specs.Prelude.{option_map, option_and_then}
 use Rattle.std.specs.Bool.{⊤}
 use Rattle.stab_base.specs.Datum.{pair}
 use Rattle.stab_base.specs.Limits.{is_within_limits}
-use Rattle.plain_language.specs.Expression.{Expr, value, variable, failed, form, parts_of}
+use Rattle.language.specs.Expression.{Expr, value, variable, failed, form, parts_of}
 use Rattle.expression_text.specs.declared.word.Word.{Word}
 use Rattle.expression_text.specs.declared.word.Word.TheVariants.{Unit, Truth, Int, Text, Chan, Ref, Both, Var, Fault, Block, Let, Do, If, Two, Not, Neg, Pair, Fst, Snd, Call, Spawn, Stable, NewChan, NewRef, Get, Set, Send, Recv, Pick, Stabilize, Cut, Pin, Print, Probe, Attempt, Section}
-use Rattle.plain_language.specs.Depth.{depth, depth_of_parts}
+use Rattle.language.specs.Depth.{depth, depth_of_parts}
 use Rattle.expression_text.specs.Spelling.{count, arity, opening, items_of, item_word, spell_value, spell, spell_parts, IsWell, AreWell, Spells}
 use Rattle.expression_text.specs.Reading.{Plan, leaf, both, few, block, stray, plan, Read, pair_of, item_of, read_list, read_items, read_plan, read}
 

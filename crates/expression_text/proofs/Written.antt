@@ -2,9 +2,9 @@
 use Rattle.std.proofs.Common.{◌≡◌, ℕ, zero, suc, ◌+◌, ◌<◌, List, [], ◌∷◌, ◌++◌, length, drop, get_or, add-one, drop-cons, refl, sym, ap, ◌∙◌, append_assoc}
 use Rattle.std.specs.Prelude.{Option, Some, None, slice_get}
 use Rattle.std.proofs.lemmas.List.Concat.{flat_map-append}
-use Rattle.plain_language.specs.declared.head.Head.{Head}
-use Rattle.plain_language.specs.Expression.{Expr, Parts, form, part, parts_of}
-use Rattle.plain_language.specs.Forms.{form_in}
+use Rattle.language.specs.declared.head.Head.{Head}
+use Rattle.language.specs.Expression.{Expr, Parts, form, part, parts_of}
+use Rattle.language.specs.Forms.{form_in}
 use Rattle.expression_text.specs.declared.word.Word.{Word}
 use Rattle.expression_text.specs.Spelling.{count, items_of, opening, spell, spell_parts}
 use Rattle.expression_text.specs.WordText.{before, name, numbers, spaced, words_text}

@@ -2,9 +2,9 @@
 use Rattle.std.specs.Prelude.{ℕ, zero, suc, cond, List, [], ◌∷◌, ◌++◌, Option, Some, None, option_map, option_and_then}
 use Rattle.stab_base.specs.Datum.{unit, truth, int, text, chan, reference, pair}
 use Rattle.stab_base.specs.Limits.{is_within_limits}
-use Rattle.plain_language.specs.declared.head.Head.{Head}
-use Rattle.plain_language.specs.declared.head.Head.TheVariants as head
-use Rattle.plain_language.specs.Expression.{Expr, value, variable, failed, form, parts_of}
+use Rattle.language.specs.declared.head.Head.{Head}
+use Rattle.language.specs.declared.head.Head.TheVariants as head
+use Rattle.language.specs.Expression.{Expr, value, variable, failed, form, parts_of}
 use Rattle.expression_text.specs.declared.word.Word.{Word}
 use Rattle.expression_text.specs.declared.word.Word.TheVariants.{Unit, Truth, Int, Text, Chan, Ref, Both, Var, Fault, Block, Let, Do, If, Two, Not, Neg, Pair, Fst, Snd, Call, Spawn, Stable, NewChan, NewRef, Get, Set, Send, Recv, Pick, Stabilize, Cut, Pin, Print, Probe, Attempt, Section}
 

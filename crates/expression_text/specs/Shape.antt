@@ -2,7 +2,7 @@
 use Rattle.std.specs.Prelude.{◌≡◌, ℕ, zero, suc, Bool, true, false, List, [], ◌∷◌, ◌++◌, Option, Some, None}
 use Rattle.std.specs.Bool.{⊤}
 use Rattle.stab_base.specs.Datum.{Datum}
-use Rattle.plain_language.specs.Expression.{Expr, value, variable, failed, form, Parts, none, part}
+use Rattle.language.specs.Expression.{Expr, value, variable, failed, form, Parts, none, part}
 use Rattle.expression_text.specs.declared.word.Word.{Word}
 use Rattle.expression_text.specs.declared.word.Word.TheVariants.{Let, Do}
 use Rattle.expression_text.specs.Reading.{Plan, leaf, both, few, block, stray, plan}

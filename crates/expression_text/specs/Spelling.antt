@@ -3,10 +3,10 @@ use Rattle.std.specs.Prelude.{◌≡◌, ℕ, suc, ◌+◌, ◌≤◌, true, Lis
 use Rattle.std.specs.Bool.{⊤}
 use Rattle.stab_base.specs.Datum.{Datum, unit, truth, int, text, chan, reference, pair}
 use Rattle.stab_base.specs.Limits.{is_within_limits}
-use Rattle.plain_language.specs.declared.head.Head.{Head}
-use Rattle.plain_language.specs.declared.head.Head.TheVariants as head
-use Rattle.plain_language.specs.Depth.{depth}
-use Rattle.plain_language.specs.Expression.{Expr, value, variable, failed, form, Parts, none, part}
+use Rattle.language.specs.declared.head.Head.{Head}
+use Rattle.language.specs.declared.head.Head.TheVariants as head
+use Rattle.language.specs.Depth.{depth}
+use Rattle.language.specs.Expression.{Expr, value, variable, failed, form, Parts, none, part}
 use Rattle.expression_text.specs.declared.word.Word.{Word}
 use Rattle.expression_text.specs.declared.word.Word.TheVariants.{Unit, Truth, Int, Text, Chan, Ref, Both, Var, Fault, Block, Let, Do, If, Two, Not, Neg, Pair, Fst, Snd, Call, Spawn, Stable, NewChan, NewRef, Get, Set, Send, Recv, Pick, Stabilize, Cut, Pin, Print, Probe, Attempt, Section}
 

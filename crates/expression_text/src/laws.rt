@@ -1,6 +1,6 @@
 //! What holds of the words of expressions. The call does nothing.
 ghost use Rattle.std.specs.Prelude.{◌≡◌, ◌↔◌, ℕ, true, List, [], ◌∷◌, Some};
-ghost use Rattle.plain_language.specs.Expression.{Expr};
+ghost use Rattle.language.specs.Expression.{Expr};
 ghost use Rattle.expression_text.specs.declared.word.Word.{Word as Words};
 ghost use Rattle.expression_text.specs.Reading.{read};
 ghost use Rattle.expression_text.specs.Shape.{expression, shape, Pays};

@@ -1,11 +1,12 @@
 //! How an expression is read from its words.
 ghost use Rattle.std.specs.Prelude.{◌≡◌, IfOk, List, option_map, Some};
-ghost use Rattle.plain_language.specs.Expression.{form, parts_of};
+ghost use Rattle.language.specs.Expression.{form, parts_of};
 ghost use Rattle.expression_text.specs.declared.word.Word.{Word as Words};
 ghost use Rattle.expression_text.specs.Reading.{block, both, few, item_of, pair_of, plan, read, read_items, read_list, read_plan};
 
 use crate::word::Word;
-use plain_language::{Expr, Head};
+use language::Head;
+use plain_language::Expr;
 use stab_base::{NoMemory, PairFault, Value};
 use stab_code::Slots;
 use std::alloc::Global;

@@ -1,11 +1,12 @@
 //! How an expression is written.
 ghost use Rattle.std.specs.Prelude.{◌≡◌, ◌∷◌, ◌++◌, [], decimal, OnOk};
-ghost use Rattle.plain_language.specs.Expression.{parts_of};
+ghost use Rattle.language.specs.Expression.{parts_of};
 ghost use Rattle.expression_text.specs.Spelling.{items_of, opening, spell, spell_parts, spell_value};
 ghost use Rattle.expression_text.specs.WordText.{before, mark, spaced, words_text};
 
 use itoa::{Buffer, Integer};
-use plain_language::{Expr, Head};
+use language::Head;
+use plain_language::Expr;
 use stab_base::{NoMemory, PairParts, Shape, Value};
 use stab_code::Op;
 

@@ -6,7 +6,7 @@ use Rattle.stab_journal.specs.declared.event.Label.TheVariants.{Cut}
 use Rattle.stab_journal.specs.declared.event.What.{What}
 use Rattle.stab_journal.specs.declared.event.What.TheVariants.{Step}
 use Rattle.stab_journal.specs.Journal.{event_at}
-use Rattle.plain_language.specs.Standing.{event}
+use Rattle.language.specs.Standing.{event}
 
 abbrev pub is_cut : What → Bool
 is_cut (Step (Cut t)) = true

@@ -1,6 +1,6 @@
 -- What a run shows that went on from an image.
 use Rattle.std.specs.Prelude.{◌≡◌, ◌++◌, ℕ, true, false}
-use Rattle.plain_language.specs.Shown.{shown, value_lines}
+use Rattle.language.specs.Shown.{shown, value_lines}
 use Rattle.image_laws.specs.Image.{Image}
 use Rattle.stab_image.specs.Resumed.{IsResumed}
 use Rattle.state_text.specs.Ended.{AllDone, SomeHeld}

@@ -16,12 +16,12 @@ use Rattle.stab_journal.specs.Reached.{reached, without_reached}
 use Rattle.stab_journal.specs.Generation.{puts_back, generation}
 use Rattle.stab_journal.specs.Surviving.{after_events, run_of}
 use Rattle.stab_code.specs.Program.{ProgramParts}
-use Rattle.plain_language.specs.Expression.{Expr}
-use Rattle.plain_language.specs.Steps.{after_steps}
-use Rattle.plain_language.specs.Plain.{PlainState, effect_of, start, plain_step, end_of, mark_in}
-use Rattle.plain_language.specs.Since.{MayUndoSince}
-use Rattle.plain_language.specs.Standing as history
-use Rattle.plain_language.specs.Standing.{StandsFor, MayStep, MayUndo, event}
+use Rattle.language.specs.Expression.{Expr}
+use Rattle.language.specs.Steps.{after_steps}
+use Rattle.language.specs.Plain.{PlainState, effect_of, start, plain_step, end_of, mark_in}
+use Rattle.language.specs.Since.{MayUndoSince}
+use Rattle.language.specs.Standing as history
+use Rattle.language.specs.Standing.{StandsFor, MayStep, MayUndo, event}
 use Rattle.journal_laws.proofs.Runs.{steps_append}
 use Rattle.journal_laws.proofs.Undone.{stands_run}
 use Rattle.stab_journal.specs.Numbers.{threads_by, greatest}

@@ -12,8 +12,8 @@ use Rattle.stab_journal.specs.Floor.{floor}
 use Rattle.stab_journal.specs.Names.{has}
 use Rattle.stab_journal.specs.Reached.{reached, rest}
 use Rattle.stab_code.specs.Program.{ProgramParts}
-use Rattle.plain_language.specs.Plain.{PlainState}
-use Rattle.plain_language.specs.Standing.{StandsFor, nothing, step, undo, release, event}
+use Rattle.language.specs.Plain.{PlainState}
+use Rattle.language.specs.Standing.{StandsFor, nothing, step, undo, release, event}
 use Rattle.image_laws.proofs.Behind.{AreUpTo, floor_append}
 
 pub length_more : {A : Type 0} (es : List A) (e : A) → length (es ++ e ∷ []) ≡ length es + 1

@@ -16,9 +16,9 @@ use Rattle.stab_journal.specs.Numbers.{AreNext}
 use Rattle.stab_journal.specs.Script.{FollowsScript, probed}
 use Rattle.stab_journal.specs.Since.{is_mark_revocable_since, generation_since, FollowsSince}
 use Rattle.stab_code.specs.Program.{ProgramParts}
-use Rattle.plain_language.specs.Plain.{PlainState, plain_step, standing, mark_in}
-use Rattle.plain_language.specs.Since.{MayUndoSince, end_from}
-use Rattle.plain_language.specs.Standing.{StandsFor, event}
+use Rattle.language.specs.Plain.{PlainState, plain_step, standing, mark_in}
+use Rattle.language.specs.Since.{MayUndoSince, end_from}
+use Rattle.language.specs.Standing.{StandsFor, event}
 
 -- the bytes of the program, the program, the script, how many probes were made, the number of the cut, the next numbers, the state, and
 -- the generation of each of its threads

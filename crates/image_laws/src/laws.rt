@@ -3,7 +3,7 @@
 ghost use Rattle.std.specs.Prelude.{List, ℤ, ◌++◌};
 ghost use Rattle.stab_code.specs.Program.{ProgramParts};
 ghost use Rattle.stab_journal.specs.declared.event.Event.{Event};
-ghost use Rattle.plain_language.specs.Plain.{PlainState};
+ghost use Rattle.language.specs.Plain.{PlainState};
 ghost use Rattle.image_laws.specs.Image.{Image, IsContinuedBy, IsHistoryTo, StandsAt};
 
 /// Where events continue an image, they continue each history of a program and a script for which the image stands: the

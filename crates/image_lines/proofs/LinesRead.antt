@@ -4,8 +4,8 @@ use Rattle.std.specs.Prelude.{decimal}
 use Rattle.text_lines.specs.Lines.{split}
 use Rattle.text_lines.proofs.Numerals.{number_in-some}
 use Rattle.stab_base.specs.Datum.{Datum}
-use Rattle.plain_language.specs.Depth.{max_expr_depth}
-use Rattle.plain_language.specs.Expression.{Expr, value, variable, failed, form}
+use Rattle.language.specs.Depth.{max_expr_depth}
+use Rattle.language.specs.Expression.{Expr, value, variable, failed, form}
 use Rattle.trace_text.proofs.Lines.{named_in-some}
 use Rattle.expression_text.specs.Spelling.{spell}
 use Rattle.image_text.specs.declared.fault.LineFault.TheVariants.{BadLine, BadNumber}

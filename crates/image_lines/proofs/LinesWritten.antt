@@ -3,8 +3,8 @@ use Rattle.std.proofs.Common.{◌≡◌, ℕ, true, false, cond, Option, Some, R
 use Rattle.std.specs.Prelude.{decimal}
 use Rattle.std.proofs.lemmas.Bool.{and_from}
 use Rattle.stab_base.specs.Datum.{Datum, unit, truth, int, text, chan, reference, pair}
-use Rattle.plain_language.specs.Depth.{max_expr_depth}
-use Rattle.plain_language.specs.Expression.{Expr, value}
+use Rattle.language.specs.Depth.{max_expr_depth}
+use Rattle.language.specs.Expression.{Expr, value}
 use Rattle.expression_text.specs.Spelling.{spell, spell_value}
 use Rattle.image_text.specs.declared.fault.LineFault.{LineFault}
 use Rattle.image_text.specs.declared.fault.LineFault.TheVariants.{BadLine}

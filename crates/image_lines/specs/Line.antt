@@ -1,8 +1,8 @@
 -- Which line of a state the pieces of bytes are, or what is wrong with them: first their shape, then their numbers, then their value.
 use Rattle.std.specs.Prelude.{ℕ, ◌&&◌, ◌||◌, ◌==◌, Bool, true, false, is_some, List, [], ◌∷◌, Option, Some, None, Result, Ok, Err, codes, if◌then◌else◌}
 use Rattle.stab_base.specs.Datum.{Datum}
-use Rattle.plain_language.specs.Depth.{max_expr_depth}
-use Rattle.plain_language.specs.Expression.{Expr}
+use Rattle.language.specs.Depth.{max_expr_depth}
+use Rattle.language.specs.Expression.{Expr}
 use Rattle.plain_language.specs.Given.{as_value}
 use Rattle.text_lines.specs.Table.{named_in}
 use Rattle.image_text.specs.declared.fault.LineFault.{LineFault}

@@ -1,7 +1,7 @@
 -- The text of a line, without its line feed.
 use Rattle.std.specs.Prelude.{ℕ, ◌≤◌, List, [], ◌∷◌, ◌++◌, codes, decimal}
-use Rattle.plain_language.specs.Depth.{depth, max_expr_depth}
-use Rattle.plain_language.specs.Expression.{Expr, value}
+use Rattle.language.specs.Depth.{depth, max_expr_depth}
+use Rattle.language.specs.Expression.{Expr, value}
 use Rattle.expression_text.specs.Spelling.{IsWell, spell, spell_value}
 use Rattle.expression_text.specs.WordText.{spaced, words_text}
 use Rattle.image_text.specs.Range.{AreInRange, IsCount, IsName}

@@ -12,7 +12,7 @@ use Rattle.stab_journal.specs.Event.{weigh}
 use Rattle.plain_language.specs.declared.look.ActKind.TheVariants.{Spawn, NewChan, NewRef, Get, Set, Send, Recv, Pick, Enter, Stabilize, Cut, Pin, Print, Probe, Attempt}
 use Rattle.plain_language.specs.declared.look.Look.{Look}
 use Rattle.plain_language.specs.declared.look.Look.TheVariants.{Done, Failed, Pure, Act}
-use Rattle.plain_language.specs.Plain.{effect_of, plain_step}
+use Rattle.language.specs.Plain.{effect_of, plain_step}
 use Rattle.journal_laws.specs.Known.{IsExprIn, IsKnown}
 use Rattle.journal_laws.proofs.Runs.{closed, run_keeps}
 use Rattle.ready_steps.specs.declared.label.Given.{Given}

@@ -11,11 +11,11 @@ use Rattle.stab_journal.specs.declared.event.Label.TheVariants.{Local, Spawn, Ne
 use Rattle.stab_journal.specs.declared.event.Numbered.{Numbered}
 use Rattle.stab_journal.specs.Label.{actors, touched, written}
 use Rattle.stab_journal.specs.Names.{has, is_at, made}
-use Rattle.plain_language.specs.Expression.{Expr}
-use Rattle.plain_language.specs.Plain.{PlainState, effect_of, plain_step}
-use Rattle.plain_language.specs.Since.{end_from}
-use Rattle.plain_language.specs.Steps.{after_steps, allows}
-use Rattle.plain_language.proofs.Applying.{put_channel-is, put_threads-apart, put_value-apart}
+use Rattle.language.specs.Expression.{Expr}
+use Rattle.language.specs.Plain.{PlainState, effect_of, plain_step}
+use Rattle.language.specs.Since.{end_from}
+use Rattle.language.specs.Steps.{after_steps, allows}
+use Rattle.language.proofs.Applying.{put_channel-is, put_threads-apart, put_value-apart}
 use Rattle.journal_laws.proofs.Stepping.{IsStep, step_of}
 use Rattle.journal_laws.proofs.Surviving.{no_steps, some_is, some_none}
 use Rattle.image_laws.proofs.Threads.{actor_there}

@@ -19,7 +19,7 @@ use Rattle.trace_verify.specs.Generations.{AreBefore}
 use Rattle.trace_verify.proofs.Events.{probed_last}
 use Rattle.image_run.specs.declared.next.Next.{Next}
 use Rattle.image_run.specs.Next.{AreBelowNext, IsMadeBelow, IsMadeNext, next_after}
-use Rattle.plain_language.specs.Plain.{PlainState}
+use Rattle.language.specs.Plain.{PlainState}
 
 pub below_more : (q : ℕ) (ns : List Numbered) → AreBelow q ns → AreBelow (q + 1) ns
 below_more q [] h = tt

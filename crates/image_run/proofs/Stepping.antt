@@ -19,11 +19,11 @@ use Rattle.stab_journal.specs.Reached.{reached, without_reached}
 use Rattle.stab_journal.specs.Script.{probed, probed_by}
 use Rattle.stab_journal.specs.Since.{AreBelow, FollowsSince, generation_since}
 use Rattle.stab_journal.specs.Surviving.{after_events}
-use Rattle.plain_language.specs.Held.{Held}
-use Rattle.plain_language.specs.Plain.{PlainState, plain_step}
+use Rattle.language.specs.Held.{Held}
+use Rattle.language.specs.Plain.{PlainState, plain_step}
 use Rattle.plain_language.specs.Plays.{step_in}
-use Rattle.plain_language.specs.Since.{MayUndoSince, end_from}
-use Rattle.plain_language.specs.Standing.{event}
+use Rattle.language.specs.Since.{MayUndoSince, end_from}
+use Rattle.language.specs.Standing.{event}
 use Rattle.trace_verify.specs.declared.generations.Generations.{Generations}
 use Rattle.trace_verify.specs.declared.surviving.Surviving.{Surviving}
 use Rattle.trace_verify.specs.Generations.{AreBefore, times}

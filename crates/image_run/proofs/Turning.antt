@@ -9,12 +9,12 @@ use Rattle.stab_journal.specs.declared.event.Label.TheVariants.{Comm, Local, Ref
 use Rattle.stab_journal.specs.Since.{is_mark_revocable_since, is_revocable_since}
 use Rattle.plain_language.specs.declared.look.ActKind.TheVariants.{Stabilize}
 use Rattle.plain_language.specs.declared.look.Look.TheVariants.{Pure, Act}
-use Rattle.plain_language.specs.Expression.{Expr}
-use Rattle.plain_language.specs.Held.{Held}
-use Rattle.plain_language.specs.Plain.{language_of, look_in, mark_in, plain_step, standing}
-use Rattle.plain_language.specs.Quiet.{IsQuiet}
+use Rattle.language.specs.Expression.{Expr}
+use Rattle.language.specs.Held.{Held}
+use Rattle.language.specs.Plain.{language_of, look_in, mark_in, plain_step, standing}
+use Rattle.language.specs.Quiet.{IsQuiet}
 use Rattle.plain_language.specs.Seen.{seen}
-use Rattle.plain_language.specs.Since.{MayUndoSince}
+use Rattle.language.specs.Since.{MayUndoSince}
 use Rattle.ready_steps.specs.declared.ready.Meeting.{Meeting}
 use Rattle.ready_steps.specs.declared.ready.Ready.{Ready}
 use Rattle.ready_steps.specs.declared.ready.Ready.TheVariants.{Alone, Meet}

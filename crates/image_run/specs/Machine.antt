@@ -10,7 +10,7 @@ use Rattle.stab_journal.specs.Event.{weigh, weight_of}
 use Rattle.stab_journal.specs.Script.{probed, script_at}
 use Rattle.stab_journal.specs.Since.{AreBelow, FollowsSince, generation_since}
 use Rattle.stab_journal.specs.Surviving.{after_events}
-use Rattle.plain_language.specs.Plain.{PlainState, plain_step}
+use Rattle.language.specs.Plain.{PlainState, plain_step}
 use Rattle.trace_verify.specs.Generations.{AreBefore, times}
 use Rattle.trace_verify.specs.Parts.{run_in}
 use Rattle.trace_verify.specs.Surviving.{IsKept}

@@ -6,7 +6,7 @@ use Rattle.stab_journal.specs.declared.event.Label.{Label}
 use Rattle.stab_journal.specs.declared.event.Label.TheVariants.{Spawn, NewChan, NewRef}
 use Rattle.stab_journal.specs.declared.event.What.{What}
 use Rattle.stab_journal.specs.declared.event.What.TheVariants.{Step}
-use Rattle.plain_language.specs.Plain.{PlainState}
+use Rattle.language.specs.Plain.{PlainState}
 use Rattle.image_run.specs.declared.next.Next.{Next}
 
 -- the next numbers after an event

@@ -3,7 +3,7 @@ use Rattle.std.specs.Prelude.{◌≡◌, ◌+◌, [], ◌∷◌, ◌++◌, lengt
 use Rattle.stab_journal.specs.declared.event.What.{What}
 use Rattle.stab_journal.specs.Event.{weigh}
 use Rattle.stab_journal.specs.Script.{probed_by}
-use Rattle.plain_language.specs.Standing.{event}
+use Rattle.language.specs.Standing.{event}
 use Rattle.image_run.specs.declared.machine.Machine.{Machine}
 use Rattle.image_run.specs.Machine.{worker}
 use Rattle.image_run.specs.Next.{next_after}

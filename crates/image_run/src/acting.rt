@@ -4,7 +4,7 @@ ghost use Rattle.stab_journal.specs.declared.event.What.TheVariants.{Step};
 ghost use Rattle.stab_journal.specs.Event.{weigh};
 ghost use Rattle.stab_journal.specs.Script.{script_at};
 ghost use Rattle.stab_journal.specs.Since.{is_mark_revocable_since, is_revocable_since};
-ghost use Rattle.plain_language.specs.Plain.{mark_in};
+ghost use Rattle.language.specs.Plain.{mark_in};
 ghost use Rattle.trace_verify.specs.Generations.{times};
 ghost use Rattle.image_laws.specs.Image.{generation_at};
 ghost use Rattle.ready_steps.specs.Labels.{IsOpen};

@@ -1,7 +1,7 @@
 //! Who comes next.
 ghost use Rattle.std.specs.Prelude.{◌≡◌, None, IfOk, IfSome, MatchOption};
-ghost use Rattle.plain_language.specs.Plain.{language_of};
-ghost use Rattle.plain_language.specs.Quiet.{IsQuiet};
+ghost use Rattle.language.specs.Plain.{language_of};
+ghost use Rattle.language.specs.Quiet.{IsQuiet};
 ghost use Rattle.ready_steps.specs.Ready.{CanMeet, IsReady, look_of};
 
 use crate::order::Order;

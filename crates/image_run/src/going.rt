@@ -1,8 +1,8 @@
 //! A run that goes on to its end.
 ghost use Rattle.std.specs.Prelude.{◌≡◌, ◌≤◌, true, false, IfOk};
 ghost use Rattle.stab_journal.specs.Event.{weight_of};
-ghost use Rattle.plain_language.specs.Plain.{language_of};
-ghost use Rattle.plain_language.specs.Quiet.{IsQuiet};
+ghost use Rattle.language.specs.Plain.{language_of};
+ghost use Rattle.language.specs.Quiet.{IsQuiet};
 ghost use Rattle.image_laws.specs.Image.{IsContinuedBy};
 ghost use Rattle.image_run.specs.Origin.{IsOrigin, image_of};
 

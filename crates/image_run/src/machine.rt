@@ -5,8 +5,8 @@ ghost use Rattle.stab_journal.specs.declared.event.What.TheVariants.{Step, Undo}
 ghost use Rattle.stab_journal.specs.Event.{weigh};
 ghost use Rattle.stab_journal.specs.Script.{probed_by};
 ghost use Rattle.plain_language.specs.Plays.{step_in};
-ghost use Rattle.plain_language.specs.Since.{MayUndoSince};
-ghost use Rattle.plain_language.specs.Standing.{event};
+ghost use Rattle.language.specs.Since.{MayUndoSince};
+ghost use Rattle.language.specs.Standing.{event};
 ghost use Rattle.image_run.specs.Machine.{HasRoom, IsAt, MayMake, number_of, run_of, state_of, worker};
 ghost use Rattle.image_run.specs.Noted.{IsNoted};
 ghost use Rattle.image_run.specs.Origin.{IsOrigin};

@@ -2,8 +2,8 @@
 ghost use Rattle.std.specs.Prelude.{◌≡◌, ◌≤◌, true, Some, IfOk, MatchOption, OnOk};
 ghost use Rattle.plain_language.specs.declared.look.ActKind.TheVariants as ActKind;
 ghost use Rattle.plain_language.specs.declared.look.Look.TheVariants as Look;
-ghost use Rattle.plain_language.specs.Plain.{language_of};
-ghost use Rattle.plain_language.specs.Quiet.{IsQuiet};
+ghost use Rattle.language.specs.Plain.{language_of};
+ghost use Rattle.language.specs.Quiet.{IsQuiet};
 ghost use Rattle.ready_steps.specs.Ready.{CanMeet, IsReady, look_of};
 ghost use Rattle.image_run.specs.Acting.{is_lone};
 ghost use Rattle.image_run.specs.Machine.{HasRoom, state_of};

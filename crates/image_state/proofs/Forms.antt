@@ -3,9 +3,9 @@ use Rattle.std.proofs.Common.{◌≡◌, ℕ, Bool, true, false, List, [], ◌�
 use Rattle.std.specs.Prelude.{◌&&◌}
 use Rattle.stab_code.specs.Program.{ProgramParts}
 use Rattle.journal_laws.specs.Known.{Known}
-use Rattle.plain_language.specs.declared.head.Head.{Head}
-use Rattle.plain_language.specs.Expression.{Expr, Parts, value, variable, failed, form, parts_of}
-use Rattle.plain_language.specs.Forms.{form_in}
+use Rattle.language.specs.declared.head.Head.{Head}
+use Rattle.language.specs.Expression.{Expr, Parts, value, variable, failed, form, parts_of}
+use Rattle.language.specs.Forms.{form_in}
 use Rattle.expression_text.specs.Spelling.{count, items_of}
 use Rattle.image_state.specs.Stands.{head_stands, parts_stand, stands}
 

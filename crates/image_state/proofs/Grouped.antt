@@ -7,7 +7,7 @@ use Rattle.stab_base.specs.Datum.{Datum}
 use Rattle.stab_base.specs.declared.numbers.ChanId.{ChanId}
 use Rattle.stab_base.specs.declared.numbers.RefId.{RefId}
 use Rattle.stab_base.specs.declared.numbers.ThreadId.{ThreadId}
-use Rattle.plain_language.specs.Expression.{Expr}
+use Rattle.language.specs.Expression.{Expr}
 use Rattle.image_lines.specs.declared.line.Line.{Line}
 use Rattle.image_lines.specs.declared.line.Line.TheVariants.{Chan, Ref, Out, Thread, End}
 use Rattle.image_lines.specs.BodyText.{AreLines}

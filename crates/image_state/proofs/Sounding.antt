@@ -16,9 +16,9 @@ use Rattle.stab_base.specs.declared.numbers.RefId.{RefId}
 use Rattle.stab_base.specs.declared.numbers.ThreadId.{ThreadId}
 use Rattle.stab_code.specs.Program.{ProgramParts}
 use Rattle.journal_laws.specs.Known.{IsExprIn, IsIn, IsKnown, IsMore, Known, known_in}
-use Rattle.plain_language.specs.Depth.{are_flat, depth, max_expr_depth}
-use Rattle.plain_language.specs.Expression.{Expr}
-use Rattle.plain_language.specs.Plain.{PlainState}
+use Rattle.language.specs.Depth.{are_flat, depth, max_expr_depth}
+use Rattle.language.specs.Expression.{Expr}
+use Rattle.language.specs.Plain.{PlainState}
 use Rattle.image_lines.specs.declared.head.Next.{Next}
 use Rattle.image_lines.specs.declared.line.Line.{Line}
 use Rattle.image_lines.specs.declared.line.Line.TheVariants.{Chan, Ref, Out, Thread, End}

@@ -1,9 +1,9 @@
 -- Whether the functions and texts that an expression names are those of a program.
 use Rattle.std.specs.Prelude.{ℕ, ◌&&◌, Bool, true, length, nat_lt}
 use Rattle.stab_code.specs.Program.{ProgramParts}
-use Rattle.plain_language.specs.declared.head.Head.{Head}
-use Rattle.plain_language.specs.declared.head.Head.TheVariants.{Call, Spawn, Stable}
-use Rattle.plain_language.specs.Expression.{Expr, value, variable, failed, form, Parts, none, part}
+use Rattle.language.specs.declared.head.Head.{Head}
+use Rattle.language.specs.declared.head.Head.TheVariants.{Call, Spawn, Stable}
+use Rattle.language.specs.Expression.{Expr, value, variable, failed, form, Parts, none, part}
 use Rattle.image_state.specs.Values.{has_texts}
 
 module _ (p : ProgramParts) where

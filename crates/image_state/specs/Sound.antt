@@ -5,9 +5,9 @@ use Rattle.std.specs.FinMap as map
 use Rattle.std.specs.FinMap.{from_entries}
 use Rattle.std.specs.FinSet as set
 use Rattle.journal_laws.specs.Known.{IsExprIn, IsKnown}
-use Rattle.plain_language.specs.Depth.{are_flat}
-use Rattle.plain_language.specs.Parts.{state_of}
-use Rattle.plain_language.specs.Plain.{PlainState}
+use Rattle.language.specs.Depth.{are_flat}
+use Rattle.language.specs.Parts.{state_of}
+use Rattle.language.specs.Plain.{PlainState}
 use Rattle.image_text.specs.Rising.{IsRising}
 use Rattle.image_lines.specs.declared.head.Next.{Next}
 use Rattle.image_state.specs.Parts.{Parts}

@@ -4,10 +4,10 @@ use Rattle.std.specs.List.{list_any}
 use Rattle.stab_base.specs.declared.numbers.FnId.{FnId}
 use Rattle.stab_code.specs.Program.{FunctionParts, ProgramParts, arity_of}
 use Rattle.journal_laws.specs.Known.{Known}
-use Rattle.plain_language.specs.declared.head.Head.{Head}
-use Rattle.plain_language.specs.declared.head.Head.TheVariants.{Block, Call, Spawn, Stable, Section}
-use Rattle.plain_language.specs.Expression.{Expr, value, variable, failed, form, Parts, none, part}
-use Rattle.plain_language.specs.Redex.{max_spine, spine}
+use Rattle.language.specs.declared.head.Head.{Head}
+use Rattle.language.specs.declared.head.Head.TheVariants.{Block, Call, Spawn, Stable, Section}
+use Rattle.language.specs.Expression.{Expr, value, variable, failed, form, Parts, none, part}
+use Rattle.language.specs.Redex.{max_spine, spine}
 use Rattle.expression_text.specs.Spelling.{count, items_of}
 use Rattle.image_state.specs.Values.{is_known}
 

@@ -1,10 +1,11 @@
 //! Whether the functions and texts that an expression names are those of a program.
 ghost use Rattle.std.specs.Prelude.{◌≡◌};
-ghost use Rattle.plain_language.specs.Expression.{parts_of};
+ghost use Rattle.language.specs.Expression.{parts_of};
 ghost use Rattle.image_state.specs.Counted.{are_of, has_function, is_of};
 
 use crate::values::has_texts;
-use plain_language::{Expr, Head};
+use language::Head;
+use plain_language::Expr;
 use stab_code::Program;
 
 /// Whether each function and each text that an expression names is the program's.

@@ -1,13 +1,14 @@
 //! Whether an expression may be that of a thread.
 ghost use Rattle.std.specs.Prelude.{◌≡◌, ◌≤◌, IfOk, OnOk, length, take};
-ghost use Rattle.plain_language.specs.Expression.{parts_of};
+ghost use Rattle.language.specs.Expression.{parts_of};
 ghost use Rattle.expression_text.specs.Spelling.{items_of};
 ghost use Rattle.image_state.specs.Held.{known_of};
 ghost use Rattle.image_state.specs.Stands.{head_stands, parts_stand, stands, takes, thread_stands};
 
 use crate::bounds::Bounds;
 use crate::scope::Scope;
-use plain_language::{Expr, Head};
+use language::Head;
+use plain_language::Expr;
 use stab_base::{FnId, NoMemory};
 use std::alloc::Global;
 

@@ -1,7 +1,7 @@
 -- The pieces of an expression are read as it, and no others.
 use Rattle.std.proofs.Common.{◌≡◌, ℕ, true, false, cond, List, [], ◌∷◌, length, Option, Some, None, Ok, Err, refl, sym, ap, subst, ◌∙◌, arith}
 use Rattle.std.proofs.lemmas.List.{append-nil}
-use Rattle.plain_language.specs.Expression.{Expr, value, variable, failed, form, Parts, none, part}
+use Rattle.language.specs.Expression.{Expr, value, variable, failed, form, Parts, none, part}
 use Rattle.expression_text.specs.declared.word.Word.{Word}
 use Rattle.expression_text.specs.Reading.{read}
 use Rattle.expression_text.specs.Shape.{AreFormed, IsFormed, expression, shape}

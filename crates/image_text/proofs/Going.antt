@@ -7,7 +7,7 @@ use Rattle.std.specs.FinMap as map
 use Rattle.std.specs.FinMap.{FinMap, entries}
 use Rattle.std.proofs.lemmas.List.{take_more, append-nil}
 use Rattle.std.proofs.lemmas.List.Concat.{flat_map-append}
-use Rattle.plain_language.specs.Above.{IsLeastAbove}
+use Rattle.language.specs.Above.{IsLeastAbove}
 use Rattle.image_text.proofs.Left.{IsLeft, IsNextOf, all_left, next_left, none_left}
 
 -- the text so far and that of what is left are the whole text

@@ -8,7 +8,7 @@ use Rattle.std.specs.FinMap as map
 use Rattle.std.specs.FinMap.{FinMap, find, is_sorted, entries, entries_sorted, get-entries, get-from_entries, from_entries}
 use Rattle.std.proofs.lemmas.Bool.{false≢true, eqb-true, eqb-false, ltb-true, ne_eqb, eq-eqb, and_parts}
 use Rattle.std.proofs.lemmas.Cmp.{nat_cmp_total}
-use Rattle.plain_language.specs.Above.{IsLeastAbove}
+use Rattle.language.specs.Above.{IsLeastAbove}
 use Rattle.image_text.specs.Rising.{IsRising}
 
 -- the entries that are left have the numbers above this one

@@ -4,7 +4,7 @@ use Rattle.std.specs.Prelude.{Some, None}
 use Rattle.std.specs.List.{flat_map}
 use Rattle.std.proofs.lemmas.Bool.{false≢true}
 use Rattle.std.proofs.lemmas.List.{append-nil}
-use Rattle.plain_language.specs.Above.{IsLeastAbove}
+use Rattle.language.specs.Above.{IsLeastAbove}
 use Rattle.image_text.specs.Rising.{those}
 
 module _ (has : ℕ → Bool) where

@@ -1,6 +1,6 @@
 -- Which expression the pieces of a line are, or what is wrong with them: first their shape, then their numbers, then the expression.
 use Rattle.std.specs.Prelude.{ℕ, cond, List, [], ◌∷◌, Option, Some, None, Result, Ok, Err}
-use Rattle.plain_language.specs.Expression.{Expr}
+use Rattle.language.specs.Expression.{Expr}
 use Rattle.expression_text.specs.declared.word.Word.{Word}
 use Rattle.expression_text.specs.Reading.{read}
 use Rattle.expression_text.specs.Shape.{expression, shape}

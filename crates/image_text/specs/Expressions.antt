@@ -1,7 +1,7 @@
 -- How an expression stands in a line.
 use Rattle.std.specs.Prelude.{◌≡◌, ℕ, ◌≤◌, List}
-use Rattle.plain_language.specs.Depth.{depth}
-use Rattle.plain_language.specs.Expression.{Expr}
+use Rattle.language.specs.Depth.{depth}
+use Rattle.language.specs.Expression.{Expr}
 use Rattle.expression_text.specs.Spelling.{IsWell, spell}
 use Rattle.image_text.specs.Range.{AreInRange, all_pieces}
 

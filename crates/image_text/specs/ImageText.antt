@@ -8,8 +8,8 @@ use Rattle.std.specs.FinMap.{FinMap}
 use Rattle.std.specs.FinSet as set
 use Rattle.std.specs.FinSet.{FinSet}
 use Rattle.stab_base.specs.Datum.{Datum}
-use Rattle.plain_language.specs.Expression.{Expr}
-use Rattle.plain_language.specs.Plain.{PlainState}
+use Rattle.language.specs.Expression.{Expr}
+use Rattle.language.specs.Plain.{PlainState}
 use Rattle.expression_text.specs.Spelling.{spell, spell_value}
 use Rattle.expression_text.specs.WordText.{spaced, words_text}
 use Rattle.image_text.specs.Rising.{those}

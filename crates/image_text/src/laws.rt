@@ -1,7 +1,7 @@
 //! What holds of the words of a line and of its expression. The calls do nothing.
 ghost use Rattle.std.specs.Prelude.{◌≡◌, ℕ, true, List, Ok, Some};
 ghost use Rattle.expression_text.specs.declared.word.Word.{Word};
-ghost use Rattle.plain_language.specs.Expression.{Expr};
+ghost use Rattle.language.specs.Expression.{Expr};
 ghost use Rattle.image_text.specs.ExpressionIn.{expression_in};
 ghost use Rattle.image_text.specs.Expressions.{IsSpelled};
 ghost use Rattle.image_text.specs.Range.{AreInRange, all_pieces};

@@ -9,8 +9,8 @@ use Rattle.std.proofs.lemmas.Bool.{false≢true}
 use Rattle.stab_base.specs.Datum.{Datum}
 use Rattle.stab_journal.specs.Names.{has, is_at}
 use Rattle.stab_journal.specs.Reached.{reads_of}
-use Rattle.plain_language.specs.Steps.{exprs_at, held_at, put_threads, put_value}
-use Rattle.plain_language.proofs.Applying.{get_inserted}
+use Rattle.language.specs.Steps.{exprs_at, held_at, put_threads, put_value}
+use Rattle.language.proofs.Applying.{get_inserted}
 
 pub is_some_cond : {X : Type 0} (b : Bool) (v : X) (o : Option X) → is_some o ≡ true → is_some (cond b (Some v) o) ≡ true
 is_some_cond true v o h = refl

@@ -4,7 +4,7 @@ use Rattle.std.proofs.lemmas.Bool.{false≢true}
 use Rattle.stab_journal.specs.declared.event.Label.{Label}
 use Rattle.stab_journal.specs.declared.event.Numbered.{Numbered}
 use Rattle.stab_journal.specs.Label.{actors}
-use Rattle.plain_language.specs.Steps.{State, Effect, Table, allows, apply, effect_in, plain, after_steps}
+use Rattle.language.specs.Steps.{State, Effect, Table, allows, apply, effect_in, plain, after_steps}
 use Rattle.stab_journal.specs.Names.{has, read}
 use Rattle.stab_journal.specs.Reached.{Lost, lose, keep, after_step, depends, reads_of}
 use Rattle.journal_laws.proofs.Without.{IsClosedFrom, IsWithout, IsClosedTable}

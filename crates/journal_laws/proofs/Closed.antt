@@ -15,13 +15,13 @@ use Rattle.stab_base.specs.declared.numbers.RefId.{RefId}
 use Rattle.stab_journal.specs.declared.event.Label.{Label}
 use Rattle.stab_journal.specs.declared.event.Label.TheVariants.{Local, Spawn, NewChan, Comm, NewRef, Get, Set, Enter, Cut, Print, Probe, Refuse, Pin, Attempt}
 use Rattle.stab_journal.specs.Label.{actors, touched, written}
-use Rattle.plain_language.specs.Numbers.{fits_word}
-use Rattle.plain_language.specs.Steps.{State, Effect, exprs_at, held_at, put_threads, put_value, put_channel, apply, effect_in}
+use Rattle.language.specs.Numbers.{fits_word}
+use Rattle.language.specs.Steps.{State, Effect, exprs_at, held_at, put_threads, put_value, put_channel, apply, effect_in}
 use Rattle.stab_journal.specs.Names.{read, made}
-use Rattle.plain_language.specs.Table.{spawns, makes_chan, makes_ref, gets, sets, sends, receives, picks, enters, stabilizes, cuts, pins, prints, probes, attempts, Look, done, fault, act, pure, Language, pure_of, pure_steps, to, local_by, spawn_by, chan_by, ref_by, get_by, set_by, sent_by, picked, received_by, comm_by, enter_by, cut_by, pin_by, print_by, probe_by, refuse_by, attempt_by, effect}
+use Rattle.language.specs.Table.{spawns, makes_chan, makes_ref, gets, sets, sends, receives, picks, enters, stabilizes, cuts, pins, prints, probes, attempts, Look, done, fault, act, pure, Language, pure_of, pure_steps, to, local_by, spawn_by, chan_by, ref_by, get_by, set_by, sent_by, picked, received_by, comm_by, enter_by, cut_by, pin_by, print_by, probe_by, refuse_by, attempt_by, effect}
 use Rattle.journal_laws.specs.Known.{Known, without_sections, IsMore, IsIn, IsLookIn, AreNumbersKept, IsKnown, known_in}
 use Rattle.journal_laws.proofs.Without.{IsClosedTable}
-use Rattle.plain_language.proofs.Applying.{get_inserted, put_channel-is}
+use Rattle.language.proofs.Applying.{get_inserted, put_channel-is}
 use Rattle.journal_laws.proofs.Applying.{put_value-there, put_value-here}
 use Rattle.journal_laws.proofs.Stepping.{step_of, or_right}
 use Rattle.journal_laws.proofs.Surviving.{some_is}

@@ -7,7 +7,7 @@ use Rattle.stab_journal.specs.declared.event.Label.TheVariants.{Local, Spawn, Ne
 use Rattle.stab_journal.specs.declared.event.Numbered.{Numbered}
 use Rattle.stab_journal.specs.Label.{actors, touched, spawned}
 use Rattle.stab_journal.specs.Journal.{RiseFrom}
-use Rattle.plain_language.specs.Steps.{State, Table, plain, after_steps}
+use Rattle.language.specs.Steps.{State, Table, plain, after_steps}
 use Rattle.stab_journal.specs.Names.{has, is_at}
 use Rattle.stab_journal.specs.Reached.{Lost, nothing_lost, after_step, depends, is_reached, reached}
 use Rattle.journal_laws.specs.Lost.{is_hit}

@@ -7,7 +7,7 @@ use Rattle.stab_base.specs.Datum.{Datum}
 use Rattle.stab_journal.specs.declared.event.Label.{Label}
 use Rattle.stab_journal.specs.declared.event.Numbered.{Numbered}
 use Rattle.stab_journal.specs.Label.{touched, written}
-use Rattle.plain_language.specs.Steps.{State, Table, after_steps, next}
+use Rattle.language.specs.Steps.{State, Table, after_steps, next}
 use Rattle.stab_journal.specs.Names.{has, is_at, made}
 use Rattle.stab_journal.specs.Reached.{Lost, nothing_lost, after_step}
 use Rattle.journal_laws.specs.Lost.{is_hit, is_unmade, is_written, is_stale}

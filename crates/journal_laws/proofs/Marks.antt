@@ -12,11 +12,11 @@ use Rattle.stab_journal.specs.declared.event.Label.TheVariants.{Local, Spawn, Ne
 use Rattle.stab_journal.specs.declared.event.Numbered.{Numbered}
 use Rattle.stab_journal.specs.Label.{actors, touched, written}
 use Rattle.stab_journal.specs.Names.{read, made}
-use Rattle.plain_language.specs.Steps.{State, Effect, exprs_at, held_at, put_threads, effect_in, plain, after_steps}
-use Rattle.plain_language.specs.Table.{spawns, Look, act, Language, spawn_by, received_by, effect}
+use Rattle.language.specs.Steps.{State, Effect, exprs_at, held_at, put_threads, effect_in, plain, after_steps}
+use Rattle.language.specs.Table.{spawns, Look, act, Language, spawn_by, received_by, effect}
 use Rattle.journal_laws.specs.Entered.{enters_by, is_entered_by}
 use Rattle.journal_laws.specs.Known.{Known, sections_alone, IsMore, IsIn, IsLookIn, AreNumbersKept}
-use Rattle.plain_language.proofs.Applying.{get_inserted}
+use Rattle.language.proofs.Applying.{get_inserted}
 use Rattle.journal_laws.proofs.Chains.{or_right}
 use Rattle.journal_laws.proofs.Closed.{SectionIn, IsEffectIn, SomeIn, ExprIn, ValueIn, NameIn, effect_is_in, received_in}
 use Rattle.journal_laws.proofs.Stepping.{step_of}

@@ -9,19 +9,19 @@ use Rattle.stab_code.specs.declared.head.Head as code
 use Rattle.stab_code.specs.declared.head.Head.TheVariants as code_head
 use Rattle.stab_code.specs.Trees.{Tree, Trees, tree, none as no_trees, more as more_trees}
 use Rattle.stab_code.specs.Program.{ProgramParts, FunctionParts, body_of}
-use Rattle.plain_language.specs.declared.head.Head.{Head}
-use Rattle.plain_language.specs.declared.head.Head.TheVariants.{Section}
-use Rattle.plain_language.specs.Expression.{Expr, value, variable, failed, form, Parts, none, part, put_variable, put, put_parts, only}
-use Rattle.plain_language.specs.Redex.{first_counts_alone, Frame, after_values, within, Redex, redex_of, redex_in, redex, frames_of, frames, rebuild, spine, max_spine, cap}
-use Rattle.plain_language.specs.Program.{form_of, expr_of, exprs_of, body_by, body}
-use Rattle.plain_language.specs.Numbers.{fits_word}
-use Rattle.plain_language.specs.declared.head.Head.TheVariants.{Block, If, Two, Not, Neg, Pair, Fst, Snd, Call, Spawn, Stable, NewChan, NewRef, Get, Set, Send, Recv, Pick, Stabilize, Cut, Pin, Print, Probe, Attempt}
+use Rattle.language.specs.declared.head.Head.{Head}
+use Rattle.language.specs.declared.head.Head.TheVariants.{Section}
+use Rattle.language.specs.Expression.{Expr, value, variable, failed, form, Parts, none, part, put_variable, put, put_parts, only}
+use Rattle.language.specs.Redex.{first_counts_alone, Frame, after_values, within, Redex, redex_of, redex_in, redex, frames_of, frames, rebuild, spine, max_spine, cap}
+use Rattle.language.specs.Program.{form_of, expr_of, exprs_of, body_by, body}
+use Rattle.language.specs.Numbers.{fits_word}
+use Rattle.language.specs.declared.head.Head.TheVariants.{Block, If, Two, Not, Neg, Pair, Fst, Snd, Call, Spawn, Stable, NewChan, NewRef, Get, Set, Send, Recv, Pick, Stabilize, Cut, Pin, Print, Probe, Attempt}
 use Rattle.stab_code.specs.declared.head.Op.{Op}
 use Rattle.stab_code.specs.declared.head.Op.TheVariants.{Or, And, Eq, Ne, Lt, Le, Gt, Ge, Add, Sub, Mul, Div, Rem}
 use Rattle.stab_base.specs.Limits.{is_within_limits}
-use Rattle.plain_language.specs.Outcome.{Outcome, becomes, fails, acts, with_one, with_two, with_truth, with_number, with_chan, with_reference, with_pair, with_numbers, number, divided, by_operator, waiting_one, two_of, block_of, after_item, branch_of, pair_of, called, outcome}
-use Rattle.plain_language.specs.Plain.{language_of}
-use Rattle.plain_language.specs.Look.{look_by, look_at, look}
+use Rattle.language.specs.Outcome.{Outcome, becomes, fails, acts, with_one, with_two, with_truth, with_number, with_chan, with_reference, with_pair, with_numbers, number, divided, by_operator, waiting_one, two_of, block_of, after_item, branch_of, pair_of, called, outcome}
+use Rattle.language.specs.Plain.{language_of}
+use Rattle.language.specs.Look.{look_by, look_at, look}
 use Rattle.journal_laws.specs.Known.{IsActIn, IsLookIn, Known, IsMore, without_sections, AreNumbersKept, IsIn, IsHeadIn, IsExprIn, ArePartsIn}
 use Rattle.journal_laws.proofs.Closed.{more_in}
 use Rattle.journal_laws.proofs.Surviving.{some_is}

@@ -6,18 +6,18 @@ use Rattle.std.specs.FinMap.{get-empty}
 use Rattle.std.specs.Ordering.{nat_cmp}
 use Rattle.stab_journal.specs.declared.event.Numbered.{Numbered}
 use Rattle.stab_code.specs.Program.{ProgramParts}
-use Rattle.plain_language.specs.Expression.{Expr}
-use Rattle.plain_language.specs.Steps.{State, Table, plain, next, after_steps}
-use Rattle.plain_language.specs.Plain.{PlainState, effect_of, language_of, start, IsRun}
-use Rattle.plain_language.specs.Outcome.{called}
-use Rattle.plain_language.specs.Program.{body}
+use Rattle.language.specs.Expression.{Expr}
+use Rattle.language.specs.Steps.{State, Table, plain, next, after_steps}
+use Rattle.language.specs.Plain.{PlainState, effect_of, language_of, start, IsRun}
+use Rattle.language.specs.Outcome.{called}
+use Rattle.language.specs.Program.{body}
 use Rattle.journal_laws.specs.Known.{Known, known_in, sections_alone, IsExprIn, IsKnown}
 use Rattle.journal_laws.specs.Surviving.{SurvivesFrom, Survives}
 use Rattle.journal_laws.proofs.Without.{IsClosedTable}
 use Rattle.journal_laws.specs.Entered.{is_entered_by}
 use Rattle.stab_journal.specs.Dependence.{IsUpward}
 use Rattle.stab_journal.specs.Journal.{RiseFrom}
-use Rattle.plain_language.proofs.Applying.{get_inserted}
+use Rattle.language.proofs.Applying.{get_inserted}
 use Rattle.journal_laws.proofs.Closed.{closed_table}
 use Rattle.journal_laws.proofs.Occurring.{body_in, put_in, got_in, kept}
 use Rattle.journal_laws.proofs.Chains.{closed_run}

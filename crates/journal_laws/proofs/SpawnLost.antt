@@ -7,7 +7,7 @@ use Rattle.std.proofs.Math.Bool.{and-false}
 use Rattle.stab_journal.specs.declared.event.Numbered.{Numbered}
 use Rattle.stab_journal.specs.Label.{spawned}
 use Rattle.stab_journal.specs.Names.{is_at}
-use Rattle.plain_language.specs.Steps.{State, Table, plain, next, after_steps}
+use Rattle.language.specs.Steps.{State, Table, plain, next, after_steps}
 use Rattle.journal_laws.specs.Lines.{is_touched}
 use Rattle.journal_laws.specs.Lost.{is_hit}
 use Rattle.journal_laws.specs.Surviving.{IsLawful, thread_of}

@@ -9,8 +9,8 @@ use Rattle.stab_journal.specs.Label.{actors, spawned, touched}
 use Rattle.stab_journal.specs.Names.{has, is_at, read}
 use Rattle.stab_journal.specs.Reached.{nothing_lost, reached}
 use Rattle.stab_code.specs.Program.{ProgramParts}
-use Rattle.plain_language.specs.Plain.{PlainState, IsRun, effect_of, start}
-use Rattle.plain_language.specs.Steps.{after_steps}
+use Rattle.language.specs.Plain.{PlainState, IsRun, effect_of, start}
+use Rattle.language.specs.Steps.{after_steps}
 use Rattle.journal_laws.specs.Lines.{is_touched}
 use Rattle.journal_laws.proofs.Chains.{any_of, or_right, upward}
 use Rattle.journal_laws.proofs.FirstLost.{spawned_once}

@@ -10,11 +10,11 @@ use Rattle.stab_base.specs.Datum.{Datum}
 use Rattle.stab_journal.specs.declared.event.Label.{Label}
 use Rattle.stab_journal.specs.declared.event.Label.TheVariants.{Local, Spawn, NewChan, Comm, NewRef, Get, Set, Enter, Cut, Print, Probe, Refuse, Pin, Attempt}
 use Rattle.stab_journal.specs.Label.{actors, spawned, touched, written}
-use Rattle.plain_language.specs.Steps.{State, Effect, Table, allows, exprs_at, held_at, apply, effect_in, plain, put_value}
+use Rattle.language.specs.Steps.{State, Effect, Table, allows, exprs_at, held_at, apply, effect_in, plain, put_value}
 use Rattle.stab_journal.specs.Names.{has, is_at, read, made}
 use Rattle.stab_journal.specs.Reached.{Lost, lose, keep, reads_of, depends}
 use Rattle.journal_laws.proofs.Without.{IsWithout, IsClosedTable}
-use Rattle.plain_language.proofs.Applying.{put_threads-apart, put_value-apart, put_channel-is}
+use Rattle.language.proofs.Applying.{put_threads-apart, put_value-apart, put_channel-is}
 use Rattle.journal_laws.proofs.Applying.{or_false, put_threads-agree, put_threads-there, put_threads-named, exprs_at-agree, held_at-agree, put_value-here, put_value-agree, put_value-there}
 
 pub both : (b : Bool) → b ≡ true → b ≡ false → ⊥

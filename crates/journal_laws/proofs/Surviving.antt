@@ -5,12 +5,12 @@ use Rattle.std.specs.FinMap as map
 use Rattle.stab_base.specs.Datum.{Datum}
 use Rattle.stab_journal.specs.declared.event.Numbered.{Numbered}
 use Rattle.stab_journal.specs.Label.{touched, written}
-use Rattle.plain_language.specs.Steps.{State, Effect, Table, allows, apply, put_value, effect_in, plain, after_steps}
+use Rattle.language.specs.Steps.{State, Effect, Table, allows, apply, put_value, effect_in, plain, after_steps}
 use Rattle.stab_journal.specs.Names.{has, is_at}
 use Rattle.stab_journal.specs.Reached.{Lost, lose, keep, after_step, depends, rest}
 use Rattle.journal_laws.proofs.Without.{IsClosedFrom, lost_after, IsWithout, IsClosedTable, IsSurvivor, stood, held}
 use Rattle.journal_laws.specs.Surviving.{value_of, printed_of, prints}
-use Rattle.plain_language.proofs.Applying.{put_threads-apart, put_value-apart}
+use Rattle.language.proofs.Applying.{put_threads-apart, put_value-apart}
 use Rattle.journal_laws.proofs.Applying.{put_value-here}
 use Rattle.journal_laws.proofs.Stepping.{step_of, plain_of, same_effect, allows_too, apart, without_kept, without_lost, or_right}
 

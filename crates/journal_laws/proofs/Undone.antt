@@ -9,9 +9,9 @@ use Rattle.stab_journal.specs.Names.{has}
 use Rattle.stab_journal.specs.Reached.{reached, rest, without_reached}
 use Rattle.stab_journal.specs.Surviving.{after_event, after_events, run_of}
 use Rattle.stab_code.specs.Program.{ProgramParts}
-use Rattle.plain_language.specs.Steps.{after_steps}
-use Rattle.plain_language.specs.Plain.{PlainState, effect_of, start, end_of, IsRun}
-use Rattle.plain_language.specs.Standing.{StandsFor, nothing, step, undo, release, event}
+use Rattle.language.specs.Steps.{after_steps}
+use Rattle.language.specs.Plain.{PlainState, effect_of, start, end_of, IsRun}
+use Rattle.language.specs.Standing.{StandsFor, nothing, step, undo, release, event}
 use Rattle.journal_laws.proofs.Runs.{steps_append}
 
 -- the numbers rise from q on, and none is above b

@@ -11,7 +11,7 @@ use Rattle.stab_journal.specs.declared.event.Numbered.{Numbered}
 use Rattle.stab_journal.specs.Label.{touched, written}
 use Rattle.stab_journal.specs.Names.{has, is_at}
 use Rattle.stab_journal.specs.Reached.{Lost, after_step, depends, is_reached, rest}
-use Rattle.plain_language.specs.Steps.{State, Effect, Table, effect_in, plain, next, after_steps}
+use Rattle.language.specs.Steps.{State, Effect, Table, effect_in, plain, next, after_steps}
 use Rattle.journal_laws.specs.Surviving.{thread_of, value_of, prints}
 
 -- no step that stays depends directly on one that goes

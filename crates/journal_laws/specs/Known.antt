@@ -5,11 +5,11 @@ use Rattle.std.specs.FinMap as map
 use Rattle.std.specs.FinSet as set
 use Rattle.stab_base.specs.Datum.{Datum, chan, reference, pair}
 use Rattle.stab_base.specs.declared.fault.Fault.{Fault}
-use Rattle.plain_language.specs.declared.head.Head.{Head}
-use Rattle.plain_language.specs.declared.head.Head.TheVariants.{Section}
-use Rattle.plain_language.specs.Expression.{Expr, value, variable, failed, form, Parts, none, part}
-use Rattle.plain_language.specs.Steps.{State}
-use Rattle.plain_language.specs.Table.{Act, spawns, makes_ref, gets, sets, sends, receives, picks, enters, prints, Look, done, fault, act, pure, Language}
+use Rattle.language.specs.declared.head.Head.{Head}
+use Rattle.language.specs.declared.head.Head.TheVariants.{Section}
+use Rattle.language.specs.Expression.{Expr, value, variable, failed, form, Parts, none, part}
+use Rattle.language.specs.Steps.{State}
+use Rattle.language.specs.Table.{Act, spawns, makes_ref, gets, sets, sends, receives, picks, enters, prints, Look, done, fault, act, pure, Language}
 
 -- which numbers of channels, of references and of sections are known
 pub record Known : Type 0 where

@@ -10,8 +10,8 @@ use Rattle.stab_journal.specs.Label.{spawned, touched, written}
 use Rattle.stab_journal.specs.Names.{has, is_at}
 use Rattle.stab_journal.specs.Reached.{rest}
 use Rattle.stab_code.specs.Program.{ProgramParts}
-use Rattle.plain_language.specs.Plain.{PlainState, effect_of, start}
-use Rattle.plain_language.specs.Steps.{State, Effect, Table, effect_in, next, after_steps}
+use Rattle.language.specs.Plain.{PlainState, effect_of, start}
+use Rattle.language.specs.Steps.{State, Effect, Table, effect_in, next, after_steps}
 use Rattle.journal_laws.specs.Known.{IsExprIn, IsKnown}
 use Rattle.journal_laws.specs.Lost.{is_hit, is_unmade, is_written, is_stale}
 

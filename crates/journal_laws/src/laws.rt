@@ -12,16 +12,15 @@ ghost use Rattle.stab_journal.specs.Label.{actors, spawned};
 ghost use Rattle.stab_journal.specs.Names.{has, is_at};
 ghost use Rattle.stab_journal.specs.Reached.{reached};
 ghost use Rattle.stab_journal.specs.Surviving.{IsStruckBack, run_of};
-ghost use Rattle.plain_language.specs.Plain.{IsRun, PlainState as State, effect_of};
-ghost use Rattle.plain_language.specs.Steps.{after_steps};
-ghost use Rattle.plain_language.specs.Standing.{Shows, StandsFor};
+ghost use Rattle.language.specs.Plain.{IsRun, PlainState as State, effect_of};
+ghost use Rattle.language.specs.Steps.{after_steps};
+ghost use Rattle.language.specs.Standing.{Shows, StandsFor};
 ghost use Rattle.journal_laws.specs.Entered.{is_entered_by};
 ghost use Rattle.journal_laws.specs.Known.{sections_alone, IsExprIn, IsKnown};
 ghost use Rattle.journal_laws.specs.Lines.{is_node, is_meeting, is_touched, Marked, IsFromLine};
 ghost use Rattle.journal_laws.specs.Lost.{is_hit};
 ghost use Rattle.journal_laws.specs.Surviving.{is_among, SurvivesFrom, Survives};
 
-use plain_language::PlainState;
 use stab_base::Seq;
 use stab_code::Program;
 use stab_journal::Numbered;
@@ -58,12 +57,11 @@ pub fn marks_entered(program: &Program, run: &[Numbered])
 
 /// The law of surviving runs, from any state in which the channels and references that occur, in its output too, are there:
 /// where the steps that go are closed under direct dependence, the others are a run from it.
-pub fn survive_from(state: &PlainState, run: &[Numbered], gone: &[Seq])
-    requires known { IsKnown IsExprIn state.now.state }
+pub fn survive_from(program: &Program, run: &[Numbered], gone: &[Seq])
     requires rise { RiseFrom 1 run.now }
     requires closed { IsUpward (λ (n : Numbered). is_among gone.now n.seq.0 ≡ true) run.now }
-    ensures { (end : State) → after_steps (effect_of state.now.program) (Some state.now.state) run.now ≡ Some end
-        → SurvivesFrom state.now.program (is_among gone.now) state.now.state run.now end }
+    ensures { (s : State) → IsKnown IsExprIn s → (end : State) → after_steps (effect_of program.now) (Some s) run.now ≡ Some end
+        → SurvivesFrom program.now (is_among gone.now) s run.now end }
 {}
 
 /// The law of surviving runs: where the steps that go are closed under direct dependence, the others are a run. Where it

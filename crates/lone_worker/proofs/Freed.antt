@@ -20,9 +20,9 @@ use Rattle.rendezvous.specs.declared.offer.Offer.{Offer}
 use Rattle.rendezvous.specs.declared.offer.Offer.TheVariants as offers
 use Rattle.rendezvous.specs.Line.{AreThere, Line, LineBacked, joined, offered as offered_in}
 use Rattle.rendezvous.specs.Offer.{receives_on, sends_on}
-use Rattle.plain_language.specs.Expression.{Expr}
-use Rattle.plain_language.specs.Plain.{look_in, standing}
-use Rattle.plain_language.specs.Table.{Look, act, sends, receives, picks}
+use Rattle.language.specs.Expression.{Expr}
+use Rattle.language.specs.Plain.{look_in, standing}
+use Rattle.language.specs.Table.{Look, act, sends, receives, picks}
 use Rattle.journal_laws.proofs.Surviving.{some_is, some_none}
 use Rattle.step_eval.specs.ControlView.{ControlView, expr_of}
 use Rattle.step_eval.specs.Progress.{Advances, ProgressView}

@@ -13,9 +13,9 @@ use Rattle.thread_slots.specs.Slot.{Slot, is_in}
 use Rattle.thread_slots.specs.Ready.{numbers}
 use Rattle.rendezvous.specs.Line.{Line}
 use Rattle.restore.specs.Left.{others, without_all}
-use Rattle.plain_language.specs.Expression.{Expr}
-use Rattle.plain_language.specs.Plain.{language_of}
-use Rattle.plain_language.specs.Table.{pure_steps}
+use Rattle.language.specs.Expression.{Expr}
+use Rattle.language.specs.Plain.{language_of}
+use Rattle.language.specs.Table.{pure_steps}
 use Rattle.journal_laws.specs.Lost.{is_unmade}
 use Rattle.step_eval.specs.ControlView.{ControlView, expr_of}
 use Rattle.step_eval.specs.Progress.{ProgressView}

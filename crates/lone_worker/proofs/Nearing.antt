@@ -13,9 +13,9 @@ use Rattle.stab_journal.specs.declared.event.What.TheVariants.{Step}
 use Rattle.stab_journal.specs.Event.{weigh, weight_of}
 use Rattle.thread_slots.specs.declared.state.State.TheVariants.{Ended}
 use Rattle.thread_slots.specs.Slot.{is_in}
-use Rattle.plain_language.specs.Expression.{Expr}
-use Rattle.plain_language.specs.Plain.{language_of, look_in}
-use Rattle.plain_language.specs.Table.{Look, done, fault, pure, act, pure_of, pure_steps}
+use Rattle.language.specs.Expression.{Expr}
+use Rattle.language.specs.Plain.{language_of, look_in}
+use Rattle.language.specs.Table.{Look, done, fault, pure, act, pure_of, pure_steps}
 use Rattle.journal_laws.proofs.Surviving.{some_is, some_none}
 use Rattle.step_eval.specs.ControlView.{ControlView, expr_of}
 use Rattle.step_eval.specs.Progress.{ProgressView}

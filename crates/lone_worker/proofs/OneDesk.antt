@@ -14,7 +14,7 @@ use Rattle.thread_slots.specs.declared.state.State.{State}
 use Rattle.thread_slots.specs.declared.state.State.TheVariants.{Ready, Leased, Parked, Ended}
 use Rattle.thread_slots.specs.Slot.{Slot, same_state, is_in}
 use Rattle.rendezvous.specs.declared.offer.Offer.{Offer}
-use Rattle.plain_language.specs.Plain.{PlainState, end_of, look_in}
+use Rattle.language.specs.Plain.{PlainState, end_of, look_in}
 use Rattle.journal_laws.proofs.Surviving.{some_is, some_none}
 use Rattle.journal_laws.proofs.Undone.{stands_run}
 use Rattle.step_eval.specs.ControlView.{ControlView, expr_of}

@@ -7,7 +7,7 @@ use Rattle.stab_journal.specs.declared.event.What.TheVariants.{Release}
 use Rattle.stab_journal.specs.Due.{due}
 use Rattle.stab_journal.specs.Event.{weight_of}
 use Rattle.thread_slots.specs.declared.state.State.TheVariants.{Leased}
-use Rattle.plain_language.specs.Standing.{event}
+use Rattle.language.specs.Standing.{event}
 use Rattle.commit_book.specs.declared.turn.Turn.TheVariants as turn
 use Rattle.commit_book.specs.Book.{BookView}
 use Rattle.commit_book.specs.Counts.{in_state}

@@ -12,10 +12,10 @@ use Rattle.thread_slots.specs.declared.state.State.{State}
 use Rattle.thread_slots.specs.declared.state.State.TheVariants.{Ready, Leased, Ended}
 use Rattle.thread_slots.specs.Slot.{Slot, started, same_state, is_in}
 use Rattle.rendezvous.specs.Line.{Line}
-use Rattle.plain_language.specs.Outcome.{called}
-use Rattle.plain_language.specs.Plain.{start}
-use Rattle.plain_language.specs.Program.{body}
-use Rattle.plain_language.proofs.Applying.{get_inserted}
+use Rattle.language.specs.Outcome.{called}
+use Rattle.language.specs.Plain.{start}
+use Rattle.language.specs.Program.{body}
+use Rattle.language.proofs.Applying.{get_inserted}
 use Rattle.journal_laws.proofs.Surviving.{some_none}
 use Rattle.step_eval.specs.ControlView.{ControlView, expr_of}
 use Rattle.commit_book.specs.Book.{BookView, IsAtStart, IsShown, over}

@@ -17,10 +17,10 @@ use Rattle.thread_slots.specs.Ready.{numbers}
 use Rattle.thread_slots.specs.Slot.{Slot, is_in}
 use Rattle.rendezvous.specs.Line.{Line}
 use Rattle.restore.specs.Left.{others, without_all}
-use Rattle.plain_language.specs.Expression.{Expr}
-use Rattle.plain_language.specs.Plain.{language_of, look_in}
-use Rattle.plain_language.specs.Redex.{mark}
-use Rattle.plain_language.specs.Table.{Look, act, stabilizes}
+use Rattle.language.specs.Expression.{Expr}
+use Rattle.language.specs.Plain.{language_of, look_in}
+use Rattle.language.specs.Redex.{mark}
+use Rattle.language.specs.Table.{Look, act, stabilizes}
 use Rattle.journal_laws.specs.Lost.{is_unmade}
 use Rattle.journal_laws.proofs.Surviving.{some_is}
 use Rattle.journal_laws.proofs.Undone.{stands_run}

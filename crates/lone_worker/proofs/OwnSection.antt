@@ -11,8 +11,8 @@ use Rattle.stab_journal.specs.Journal.{survivors}
 use Rattle.stab_journal.specs.Names.{has}
 use Rattle.stab_journal.specs.Reached.{Lost, is_reached, keep, lose, nothing_lost, reached, reached_from, depends}
 use Rattle.stab_journal.specs.Surviving.{after_event, after_events, run_of}
-use Rattle.plain_language.specs.Plain.{PlainState}
-use Rattle.plain_language.specs.Standing.{MayUndo, StandsFor, event, nothing, step, undo, release}
+use Rattle.language.specs.Plain.{PlainState}
+use Rattle.language.specs.Standing.{MayUndo, StandsFor, event, nothing, step, undo, release}
 use Rattle.journal_laws.specs.Lost.{is_hit}
 use Rattle.journal_laws.proofs.Undone.{stands_run}
 use Rattle.commit_book.specs.Book.{BookView, IsShown}

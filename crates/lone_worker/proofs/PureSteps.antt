@@ -1,7 +1,7 @@
 -- How many pure steps an expression makes, up to a number, is fixed, and so is where they lead.
 use Rattle.std.proofs.Common.{◌≡◌, ℕ, zero, suc, ◌<◌, ◌≤◌, Option, Some, None, refl, sym, ap, ◌∙◌, arith}
 use Rattle.std.specs.Prelude.{option_and_then}
-use Rattle.plain_language.specs.Table.{Language, pure_of, pure_steps}
+use Rattle.language.specs.Table.{Language, pure_of, pure_steps}
 use Rattle.journal_laws.proofs.Surviving.{some_is, some_none}
 
 module _ {E : Type 0} (g : Language E) where

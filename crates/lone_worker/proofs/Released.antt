@@ -4,7 +4,7 @@ use Rattle.stab_journal.specs.declared.event.What.TheVariants.{Release}
 use Rattle.stab_journal.specs.Due.{final_prints}
 use Rattle.stab_journal.specs.Surviving.{run_of}
 use Rattle.thread_slots.specs.declared.state.State.TheVariants.{Leased}
-use Rattle.plain_language.specs.Standing.{event}
+use Rattle.language.specs.Standing.{event}
 use Rattle.commit_book.specs.Book.{BookView, IsShown}
 use Rattle.commit_book.specs.Counts.{in_state}
 use Rattle.commit_book.specs.Releases.{IsReleased, finals}

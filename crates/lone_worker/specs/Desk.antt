@@ -8,7 +8,7 @@ use Rattle.thread_slots.specs.declared.state.State.{State}
 use Rattle.thread_slots.specs.declared.state.State.TheVariants.{Leased}
 use Rattle.thread_slots.specs.Slot.{Slot}
 use Rattle.rendezvous.specs.Line.{Seen}
-use Rattle.plain_language.specs.Expression.{Expr}
+use Rattle.language.specs.Expression.{Expr}
 use Rattle.step_eval.specs.ControlView.{ControlView, expr_of}
 use Rattle.commit_book.specs.Book.{BookView, IsShown, Next}
 use Rattle.commit_book.specs.Counts.{in_state}

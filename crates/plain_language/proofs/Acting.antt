@@ -9,9 +9,9 @@ use Rattle.stab_base.specs.declared.numbers.RefId.{RefId}
 use Rattle.plain_language.specs.declared.act.Act.{Act}
 use Rattle.plain_language.specs.declared.act.Act.TheVariants.{Spawn, NewRef, Get, Set, Send, Enter, Print, Probe}
 use Rattle.plain_language.specs.Acts.{act_of, act_in}
-use Rattle.plain_language.specs.Expression.{Expr}
-use Rattle.plain_language.specs.Table as table
-use Rattle.plain_language.specs.Table.{gets, Look, act, Language, to, spawn_by, ref_by, get_by, set_by, sent_by, enter_by, print_by, probe_by}
+use Rattle.language.specs.Expression.{Expr}
+use Rattle.language.specs.Table as table
+use Rattle.language.specs.Table.{gets, Look, act, Language, to, spawn_by, ref_by, get_by, set_by, sent_by, enter_by, print_by, probe_by}
 
 -- the act at which an expression stands is what is next
 at_act : (l : Look Expr) (a : table.Act Expr) → Some a ≡ act_in l → l ≡ act a

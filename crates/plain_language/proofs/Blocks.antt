@@ -4,15 +4,15 @@ use Rattle.std.specs.Prelude.{option_and_then}
 use Rattle.stab_base.specs.Datum.{Datum}
 use Rattle.stab_base.specs.declared.fault.Fault.TheVariants.{WrongKind}
 use Rattle.plain_language.specs.declared.given.Given.TheVariants.{Nothing}
-use Rattle.plain_language.specs.declared.head.Head.TheVariants.{Block}
-use Rattle.plain_language.specs.Expression.{Expr, value, variable, failed, form, Parts, none, part, parts_of, put}
-use Rattle.plain_language.specs.Busy.{values_in, waiting_parts}
+use Rattle.language.specs.declared.head.Head.TheVariants.{Block}
+use Rattle.language.specs.Expression.{Expr, value, variable, failed, form, Parts, none, part, parts_of, put}
+use Rattle.language.specs.Busy.{values_in, waiting_parts}
 use Rattle.plain_language.specs.Given.{given_to, as_value}
-use Rattle.plain_language.specs.Operands.{one_of, truth_of}
+use Rattle.language.specs.Operands.{one_of, truth_of}
 use Rattle.plain_language.specs.Pures.{left_of_block}
-use Rattle.plain_language.specs.Outcome.{Outcome, becomes, fails, with_one, with_truth, after_item, block_of, branch_of, waiting_one}
-use Rattle.plain_language.proofs.Operands.{with_truth-some}
-use Rattle.plain_language.proofs.Putting.{put-nothing}
+use Rattle.language.specs.Outcome.{Outcome, becomes, fails, with_one, with_truth, after_item, block_of, branch_of, waiting_one}
+use Rattle.language.proofs.Operands.{with_truth-some}
+use Rattle.language.proofs.Putting.{put-nothing}
 
 pub put-given_nothing : (e : Expr) → put (given_to Nothing) e ≡ e
 put-given_nothing e = put-nothing e

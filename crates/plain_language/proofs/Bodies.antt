@@ -4,9 +4,9 @@ use Rattle.std.specs.Prelude.{option_map, option_and_then, slice_get}
 use Rattle.stab_code.specs.declared.node_id.NodeId.{NodeId}
 use Rattle.stab_code.specs.Program.{FunctionParts, ProgramParts, tree_at, tree_among, trees_among}
 use Rattle.stab_code.specs.Trees.{Tree}
-use Rattle.plain_language.specs.Expression.{Expr, value, variable, failed, form, part, parts_of}
-use Rattle.plain_language.specs.Program.{expr_of, exprs_of, body_by}
-use Rattle.plain_language.specs.Busy.{busy_at, values_in}
+use Rattle.language.specs.Expression.{Expr, value, variable, failed, form, part, parts_of}
+use Rattle.language.specs.Program.{expr_of, exprs_of, body_by}
+use Rattle.language.specs.Busy.{busy_at, values_in}
 use Rattle.plain_language.specs.Given.{as_value}
 
 -- the expressions of nodes are those of their trees

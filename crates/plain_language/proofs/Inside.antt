@@ -5,13 +5,13 @@ use Rattle.std.proofs.lemmas.Bool.{false≢true}
 use Rattle.std.proofs.lemmas.Bool.Decides.{nat_tests}
 use Rattle.plain_language.specs.declared.instead.Instead.{Instead}
 use Rattle.plain_language.specs.declared.instead.Instead.TheVariants.{Put, Pass}
-use Rattle.plain_language.specs.declared.head.Head.{Head}
-use Rattle.plain_language.specs.Expression.{Expr, form, part, parts_of}
-use Rattle.plain_language.specs.Redex.{first_counts_alone, Frame, after_values, within, Redex, redex, frames_of, rebuild, section_or}
+use Rattle.language.specs.declared.head.Head.{Head}
+use Rattle.language.specs.Expression.{Expr, form, part, parts_of}
+use Rattle.language.specs.Redex.{first_counts_alone, Frame, after_values, within, Redex, redex, frames_of, rebuild, section_or}
 use Rattle.plain_language.specs.Pures.{changed}
-use Rattle.plain_language.specs.Size.{size_of}
-use Rattle.plain_language.specs.Busy.{busy_at, IsRedexOf, passes, innermost_or, mark_or}
-use Rattle.plain_language.proofs.Finding.{some_is, deeper, frame_at, found, redex_busy}
+use Rattle.language.specs.Size.{size_of}
+use Rattle.language.specs.Busy.{busy_at, IsRedexOf, passes, innermost_or, mark_or}
+use Rattle.language.proofs.Finding.{some_is, deeper, frame_at, found, redex_busy}
 
 fewer : (limit n : ℕ) → (nat_eq limit 0 || nat_lt (limit - 1) n) ≡ nat_lt limit (n + 1)
 fewer limit n = grind (arith, nat_tests)

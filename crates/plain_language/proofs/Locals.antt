@@ -3,13 +3,13 @@ use Rattle.std.proofs.Common.{◌≡◌, ℕ, [], ◌∷◌, ◌++◌, Option, S
 use Rattle.std.specs.Prelude.{option_and_then, option_map}
 use Rattle.stab_base.specs.declared.numbers.ThreadId.{ThreadId}
 use Rattle.stab_journal.specs.declared.event.Label.TheVariants.{Local}
-use Rattle.plain_language.specs.Changes.{with_thread}
-use Rattle.plain_language.specs.Expression.{Expr}
-use Rattle.plain_language.specs.Held.{Held}
-use Rattle.plain_language.specs.Plain.{PlainState, language_of, standing}
+use Rattle.language.specs.Changes.{with_thread}
+use Rattle.language.specs.Expression.{Expr}
+use Rattle.language.specs.Held.{Held}
+use Rattle.language.specs.Plain.{PlainState, language_of, standing}
 use Rattle.plain_language.specs.Plays.{step_in}
-use Rattle.plain_language.specs.Steps.{apply}
-use Rattle.plain_language.specs.Table.{effect, local_by, to}
+use Rattle.language.specs.Steps.{apply}
+use Rattle.language.specs.Table.{effect, local_by, to}
 
 -- what prints nothing leaves the output
 same_output : (s : PlainState) → record s { output = s.output ++ [] } ≡ s

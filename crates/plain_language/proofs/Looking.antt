@@ -1,16 +1,16 @@
 -- What is next for an expression, by its redex.
 use Rattle.std.proofs.Common.{◌≡◌, List, ℕ, suc, ◌+◌, ◌<◌, Some, None, refl, sym, ap, ◌∙◌, arith}
 use Rattle.std.specs.Prelude.{option_and_then, ◌-◌}
-use Rattle.plain_language.specs.declared.head.Head.{Head}
+use Rattle.language.specs.declared.head.Head.{Head}
 use Rattle.plain_language.specs.declared.look.Look.TheVariants.{Act as ActLook}
-use Rattle.plain_language.specs.Expression.{Expr, value, variable, failed, form}
-use Rattle.plain_language.specs.Redex.{first_counts_alone, Frame, Redex, redex}
-use Rattle.plain_language.specs.Busy.{counted, waiting_parts, redex_with, IsRedexOf}
-use Rattle.plain_language.specs.Outcome.{Outcome, becomes, fails, acts, outcome}
-use Rattle.plain_language.specs.Acts.{told}
+use Rattle.language.specs.Expression.{Expr, value, variable, failed, form}
+use Rattle.language.specs.Redex.{first_counts_alone, Frame, Redex, redex}
+use Rattle.language.specs.Busy.{counted, waiting_parts, redex_with, IsRedexOf}
+use Rattle.language.specs.Outcome.{Outcome, becomes, fails, acts, outcome}
+use Rattle.language.specs.Outcome.{told}
 use Rattle.plain_language.specs.Seen.{kind_of, seen}
-use Rattle.plain_language.specs.Table.{Act, pure_of, pure_steps}
-use Rattle.plain_language.specs.Look.{look, look_at, look_by, language}
+use Rattle.language.specs.Table.{Act, pure_of, pure_steps}
+use Rattle.language.specs.Look.{look, look_at, look_by, language}
 
 -- what the redex with this head and these parts does
 abbrev pub outcome_with : (ℕ → Expr) → Head → List Expr → Outcome

@@ -2,11 +2,11 @@
 use Rattle.std.specs.Prelude.{◌≡◌, ℕ, false, Option, Some, None}
 use Rattle.plain_language.specs.declared.act.Act.{Act}
 use Rattle.plain_language.specs.declared.act.Act.TheVariants.{Spawn, NewChan, NewRef, Get, Set, Send, Recv, Pick, Enter, Stabilize, Cut, Pin, Print, Probe, Attempt}
-use Rattle.plain_language.specs.Busy.{busy_at, values_in}
-use Rattle.plain_language.specs.Expression.{Expr}
-use Rattle.plain_language.specs.Outcome.{Outcome, acts, called}
-use Rattle.plain_language.specs.Table as table
-use Rattle.plain_language.specs.Table.{spawns, makes_chan, makes_ref, gets, sets, sends, receives, picks, enters, stabilizes, cuts, pins, prints, probes, attempts, Look, act}
+use Rattle.language.specs.Busy.{busy_at, values_in}
+use Rattle.language.specs.Expression.{Expr}
+use Rattle.language.specs.Outcome.{called}
+use Rattle.language.specs.Table as table
+use Rattle.language.specs.Table.{spawns, makes_chan, makes_ref, gets, sets, sends, receives, picks, enters, stabilizes, cuts, pins, prints, probes, attempts, Look, act}
 
 -- the act, where functions have these bodies
 abbrev pub act_of : (ℕ → Expr) → Act → table.Act Expr
@@ -25,11 +25,6 @@ act_of body Pin = pins
 act_of body (Print v) = prints v.now
 act_of body Probe = probes
 act_of body Attempt = attempts
-
--- the act that a redex is
-abbrev pub told : Outcome → Option (table.Act Expr)
-told (acts a) = Some a
-told _ = None
 
 -- the act at which an expression stands
 abbrev pub act_in : Look Expr → Option (table.Act Expr)

@@ -4,7 +4,7 @@ use Rattle.std.proofs.Common.{arith}
 use Rattle.plain_language.specs.declared.expr.Node.{Node}
 use Rattle.plain_language.specs.declared.expr.Node.TheVariants.{Value, Var, Fault, Form}
 use Rattle.plain_language.specs.declared.expr.Expr.TheDeep.{deep-Node}
-use Rattle.plain_language.specs.Size.{size_of, most_le-size_of_parts}
+use Rattle.language.specs.Size.{size_of, most_le-size_of_parts}
 use Rattle.plain_language.specs.View.{node_expr}
 
 pub deep_le-size : (n : Node) → max (deep-Node n) 0 ≤ size_of (node_expr n)

@@ -3,7 +3,7 @@ use Rattle.std.specs.Prelude.{ℕ, Option, Some, None, slice_get, option_and_the
 use Rattle.stab_base.specs.Datum.{Datum}
 use Rattle.plain_language.specs.declared.given.Given.{Given}
 use Rattle.plain_language.specs.declared.given.Given.TheVariants.{Nothing, One, All}
-use Rattle.plain_language.specs.Expression.{Expr, value, only}
+use Rattle.language.specs.Expression.{Expr, value, only}
 
 -- the value that an expression is
 abbrev pub as_value : Expr → Option Datum

@@ -4,11 +4,11 @@ use Rattle.plain_language.specs.declared.instead.Instead.TheVariants.{Pass}
 use Rattle.plain_language.specs.declared.pure.Pure.TheVariants.{Becomes, Fails}
 use Rattle.plain_language.specs.declared.pure.Next.{Next}
 use Rattle.plain_language.specs.declared.pure.Next.TheVariants.{Makes, Passes}
-use Rattle.plain_language.specs.Expression.{Expr, failed}
-use Rattle.plain_language.specs.Redex.{Redex, redex, frames, rebuild, cap}
-use Rattle.plain_language.specs.Outcome.{Outcome}
+use Rattle.language.specs.Expression.{Expr, failed}
+use Rattle.language.specs.Redex.{Redex, redex, frames, rebuild, cap}
+use Rattle.language.specs.Outcome.{Outcome}
 use Rattle.plain_language.specs.Pures.{changed}
-use Rattle.plain_language.specs.Look.{look, look_by}
+use Rattle.language.specs.Look.{look, look_by}
 
 -- there is a redex, and it does this
 pub record IsNext (body : ℕ → Expr) (e : Expr) (o : Outcome) : Type 0 where

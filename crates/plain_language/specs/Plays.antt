@@ -3,8 +3,8 @@ use Rattle.std.specs.Prelude.{◌≡◌, ℕ, Option, Some, None, Result, Ok, Er
 use Rattle.stab_journal.specs.declared.event.Label.{Label}
 use Rattle.plain_language.specs.declared.play.PlayFault.{PlayFault}
 use Rattle.plain_language.specs.declared.play.PlayFault.TheVariants.{NoStep, NoMemory}
-use Rattle.plain_language.specs.Held.{Held}
-use Rattle.plain_language.specs.Plain.{PlainState, plain_step}
+use Rattle.language.specs.Held.{Held}
+use Rattle.language.specs.Plain.{PlainState, plain_step}
 
 -- the state after the step numbered q with this label, if the language has it
 abbrev pub step_in : Held → ℕ → Label → Option PlainState

@@ -3,14 +3,14 @@ use Rattle.std.specs.Prelude.{ℕ, List, [], Option, Some, None}
 use Rattle.stab_base.specs.declared.fault.Fault.TheVariants.{WrongKind}
 use Rattle.plain_language.specs.declared.instead.Instead.{Instead}
 use Rattle.plain_language.specs.declared.instead.Instead.TheVariants.{Put, Pass}
-use Rattle.plain_language.specs.declared.head.Head.TheVariants.{Block}
+use Rattle.language.specs.declared.head.Head.TheVariants.{Block}
 use Rattle.plain_language.specs.declared.pure.Pure.{Pure}
 use Rattle.plain_language.specs.declared.pure.Pure.TheVariants.{Becomes, Fails}
 use Rattle.plain_language.specs.declared.pure.Next.{Next}
 use Rattle.plain_language.specs.declared.pure.Next.TheVariants.{Makes, Passes}
-use Rattle.plain_language.specs.Expression.{Expr, failed, form, Parts, none, part}
-use Rattle.plain_language.specs.Outcome.{Outcome, becomes, fails, block_of}
-use Rattle.plain_language.specs.Redex.{Redex}
+use Rattle.language.specs.Expression.{Expr, failed, form, Parts, none, part}
+use Rattle.language.specs.Outcome.{Outcome, becomes, fails, block_of}
+use Rattle.language.specs.Redex.{Redex}
 
 abbrev pub made_of : Pure → Outcome
 made_of (Becomes e) = becomes e

@@ -3,9 +3,9 @@ use Rattle.plain_language.specs.declared.look.ActKind.{ActKind}
 use Rattle.plain_language.specs.declared.look.ActKind.TheVariants as kind
 use Rattle.plain_language.specs.declared.look.Look as told
 use Rattle.plain_language.specs.declared.look.Look.TheVariants.{Done, Failed, Pure, Act}
-use Rattle.plain_language.specs.Expression.{Expr}
-use Rattle.plain_language.specs.Table as table
-use Rattle.plain_language.specs.Table.{spawns, makes_chan, makes_ref, gets, sets, sends, receives, picks, enters, stabilizes, cuts, pins, prints, probes, attempts, Look, done, fault, act, pure}
+use Rattle.language.specs.Expression.{Expr}
+use Rattle.language.specs.Table as table
+use Rattle.language.specs.Table.{spawns, makes_chan, makes_ref, gets, sets, sends, receives, picks, enters, stabilizes, cuts, pins, prints, probes, attempts, Look, done, fault, act, pure}
 
 abbrev pub kind_of : table.Act Expr → ActKind
 kind_of (spawns body) = kind.Spawn

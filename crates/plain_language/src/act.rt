@@ -1,16 +1,17 @@
 //! The acts of redexes.
 ghost use Rattle.std.specs.Prelude.{◌≡◌, ℕ, false, None, option_map, IfSome};
 ghost use Rattle.std.specs.Option.{option_copied};
-ghost use Rattle.plain_language.specs.Acts.{HasValues, act_of, told};
-ghost use Rattle.plain_language.specs.Busy.{busy_at, counted, values_in, waiting_parts};
-ghost use Rattle.plain_language.specs.Expression.{Expr as Expression};
-ghost use Rattle.plain_language.specs.Operands.{chan_of, one_of, reference_of, two_values_of};
-ghost use Rattle.plain_language.specs.Outcome.{outcome};
-ghost use Rattle.plain_language.specs.Redex.{first_counts_alone};
+ghost use Rattle.language.specs.Outcome.{told};
+ghost use Rattle.plain_language.specs.Acts.{HasValues, act_of};
+ghost use Rattle.language.specs.Busy.{busy_at, counted, values_in, waiting_parts};
+ghost use Rattle.language.specs.Expression.{Expr as Expression};
+ghost use Rattle.language.specs.Operands.{one_of, two_values_of};
+ghost use Rattle.language.specs.Outcome.{outcome};
+ghost use Rattle.language.specs.Redex.{first_counts_alone};
 
 use crate::expr::Expr;
-use crate::head::Head;
-use stab_base::{ChanId, FnId, RefId, Shape, Value};
+use language::{Head, as_chan, as_reference};
+use stab_base::{ChanId, FnId, RefId, Value};
 
 /// What a redex does to others than its thread.
 #[derive(Clone, Copy)]
@@ -30,26 +31,6 @@ pub(crate) enum Act<'a> {
     Print(&'a Value),
     Probe,
     Attempt,
-}
-
-/// The channel that a value is, if it is one.
-pub fn as_chan(v: &Value) -> Option<ChanId>
-    ensures { option_map (λ c. c.0) result ≡ chan_of v.now }
-{
-    match v.shape() {
-        Shape::Chan(c) => Some(*c),
-        _ => None,
-    }
-}
-
-/// The reference that a value is, if it is one.
-pub fn as_reference(v: &Value) -> Option<RefId>
-    ensures { option_map (λ r. r.0) result ≡ reference_of v.now }
-{
-    match v.shape() {
-        Shape::Ref(r) => Some(*r),
-        _ => None,
-    }
 }
 
 /// The value of the only part.

@@ -1,14 +1,14 @@
 //! The expressions that functions have for their bodies.
 ghost use Rattle.std.specs.Prelude.{◌≡◌, ◌<◌, false, None, length, IfOk};
 ghost use Rattle.stab_code.specs.Program.{tree_at};
-ghost use Rattle.plain_language.specs.Busy.{busy_at, values_in};
-ghost use Rattle.plain_language.specs.Expression.{parts_of};
-ghost use Rattle.plain_language.specs.Outcome.{called};
-ghost use Rattle.plain_language.specs.Program.{body, expr_of, form_of};
+ghost use Rattle.language.specs.Busy.{busy_at, values_in};
+ghost use Rattle.language.specs.Expression.{parts_of};
+ghost use Rattle.language.specs.Outcome.{called};
+ghost use Rattle.language.specs.Program.{body, expr_of, form_of};
 
 use crate::expr::Expr;
 use crate::given::Given;
-use crate::head::Head;
+use language::Head;
 use stab_base::{Fault, FnId, NoMemory, Value};
 use stab_code::{Head as NodeHead, NodeId, Program, Slots, no_other_nodes, nodes_are_trees};
 use std::alloc::Global;

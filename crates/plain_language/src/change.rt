@@ -2,11 +2,11 @@
 ghost use Rattle.std.specs.Prelude.{◌≡◌, ℕ, IfSome, IsSome, IsSomeAnd, MatchResult};
 ghost use Rattle.std.specs.FinMap as map;
 ghost use Rattle.std.specs.Ordering.{nat_cmp};
-ghost use Rattle.plain_language.specs.Changes.{with_channel, with_printed, with_reference, with_thread};
-ghost use Rattle.plain_language.specs.Look.{answered};
+ghost use Rattle.language.specs.Changes.{with_channel, with_printed, with_reference, with_thread};
+ghost use Rattle.language.specs.Look.{answered};
 ghost use Rattle.plain_language.specs.Next.{after_next};
-ghost use Rattle.plain_language.specs.Plain.{standing};
-ghost use Rattle.plain_language.specs.Redex.{redex};
+ghost use Rattle.language.specs.Plain.{standing};
+ghost use Rattle.language.specs.Redex.{redex};
 
 use crate::expr::Expr;
 use crate::numbered::{add, put, replace};

@@ -1,6 +1,6 @@
 //! How deep an expression is.
 ghost use Rattle.std.specs.Prelude.{◌≡◌, nat_le};
-ghost use Rattle.plain_language.specs.Depth.{are_flat, depth};
+ghost use Rattle.language.specs.Depth.{are_flat, depth};
 
 use crate::expr::{Expr, Node};
 use stab_base::ThreadId;

@@ -1,12 +1,12 @@
 //! What steps make that change more than one thread's expression.
 ghost use Rattle.std.specs.Prelude.{◌≡◌, ℕ, IfOk, IsSome, option_map};
 ghost use Rattle.std.specs.Option.{option_copied};
-ghost use Rattle.plain_language.specs.Effects.{picked_at, picked_by, printed_of, spawned_of, written_of};
-ghost use Rattle.plain_language.specs.Expression.{Expr as Expression};
-ghost use Rattle.plain_language.specs.Look.{language, look};
-ghost use Rattle.plain_language.specs.Program.{body};
-ghost use Rattle.plain_language.specs.Redex.{redex};
-ghost use Rattle.plain_language.specs.Table.{chan_by, print_by, received_by, ref_by, sent_by, set_by, spawn_by, to};
+ghost use Rattle.language.specs.Effects.{picked_at, picked_by, printed_of, spawned_of, written_of};
+ghost use Rattle.language.specs.Expression.{Expr as Expression};
+ghost use Rattle.language.specs.Look.{language, look};
+ghost use Rattle.language.specs.Program.{body};
+ghost use Rattle.language.specs.Redex.{redex};
+ghost use Rattle.language.specs.Table.{chan_by, print_by, received_by, ref_by, sent_by, set_by, spawn_by, to};
 
 use crate::act::Act;
 use crate::body::called;

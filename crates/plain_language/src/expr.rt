@@ -1,13 +1,13 @@
 //! Expressions in memory.
 ghost use Rattle.std.specs.Prelude.{◌≡◌, IfOk, option_map};
 ghost use Rattle.std.specs.Option.{option_copied};
-ghost use Rattle.plain_language.specs.Busy.{is_value};
-ghost use Rattle.plain_language.specs.Forms.{fault_of, form_in, slot_of};
+ghost use Rattle.language.specs.Busy.{is_value};
+ghost use Rattle.language.specs.Forms.{fault_of, form_in, slot_of};
 ghost use Rattle.plain_language.specs.Given.{given_to, as_value};
-ghost use Rattle.plain_language.specs.Expression.{value, variable, failed, form, parts_of, put, put_parts};
+ghost use Rattle.language.specs.Expression.{value, variable, failed, form, parts_of, put, put_parts};
 
 use crate::given::Given;
-use crate::head::Head;
+use language::Head;
 use stab_base::{Fault, NoMemory, Value};
 use std::alloc::Global;
 use std::marker::Model;
@@ -31,11 +31,11 @@ pub(crate) enum Node {
 }
 
 impl Model for Expr {
-    ghost use Rattle.plain_language.specs.Expression.{Expr as Expression};
-    ghost use Rattle.plain_language.specs.ExpressionCode.{coded_expr};
-    ghost use Rattle.plain_language.specs.contracts.head.Head as head;
+    ghost use Rattle.language.specs.Expression.{Expr as Expression};
+    ghost use Rattle.language.specs.ExpressionCode.{coded_expr};
+    ghost use Rattle.language.specs.contracts.head.Head as head;
     ghost use Rattle.stab_base.specs.contracts.fault.Fault as fault;
-    ghost use Rattle.plain_language.specs.Size.{size_of};
+    ghost use Rattle.language.specs.Size.{size_of};
 
     ghost Value = { Expression };
 

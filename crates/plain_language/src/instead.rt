@@ -1,12 +1,12 @@
 //! What comes in place of a redex.
 ghost use Rattle.std.specs.Prelude.{◌≡◌, Some, None, []};
-ghost use Rattle.plain_language.specs.Busy.{redex_with, waiting_parts};
-ghost use Rattle.plain_language.specs.Expression.{parts_of};
+ghost use Rattle.language.specs.Busy.{redex_with, waiting_parts};
+ghost use Rattle.language.specs.Expression.{parts_of};
 ghost use Rattle.plain_language.specs.Pures.{changed, left_of_block};
-ghost use Rattle.plain_language.specs.Redex.{first_counts_alone};
+ghost use Rattle.language.specs.Redex.{first_counts_alone};
 
 use crate::expr::Expr;
-use crate::head::Head;
+use language::Head;
 use stab_base::Fault;
 use stab_code::Slots;
 

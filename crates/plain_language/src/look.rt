@@ -1,21 +1,21 @@
 //! What is next for an expression, and its next pure step.
 ghost use Rattle.std.specs.Prelude.{◌≡◌, ℕ, None, nat_lt, IfOk, IfSome, IsSome, MatchOption, option_map};
-ghost use Rattle.plain_language.specs.declared.head.Head.TheVariants.{Section};
+ghost use Rattle.language.specs.declared.head.Head.TheVariants.{Section};
 ghost use Rattle.plain_language.specs.Acts.{HasValues, act_in, act_of};
-ghost use Rattle.plain_language.specs.Expression.{Expr as Expression, form, none, part};
-ghost use Rattle.plain_language.specs.Look.{answered, entered, language, look};
+ghost use Rattle.language.specs.Expression.{Expr as Expression, form, none, part};
+ghost use Rattle.language.specs.Look.{answered, entered, language, look};
 ghost use Rattle.plain_language.specs.Next.{IsNext, after_next};
 ghost use Rattle.plain_language.specs.Pures.{made_in, waiting_in};
-ghost use Rattle.plain_language.specs.Program.{body};
-ghost use Rattle.plain_language.specs.Redex.{cap, max_spine, redex, spine};
+ghost use Rattle.language.specs.Program.{body};
+ghost use Rattle.language.specs.Redex.{cap, max_spine, redex, spine};
 ghost use Rattle.plain_language.specs.Seen.{kind_of, seen};
-ghost use Rattle.plain_language.specs.Table.{pure_of, pure_steps};
+ghost use Rattle.language.specs.Table.{pure_of, pure_steps};
 
 use crate::act::{Act, act_at};
 use crate::expr::{Expr, Node};
-use crate::head::Head;
 use crate::instead::Instead;
 use crate::pure::{Next, Pure, next_at};
+use language::{Head, MAX_SPINE};
 use stab_base::{ChanId, Fault, NoMemory, RefId, Seq, Value};
 use stab_code::Program;
 use std::alloc::Global;
@@ -52,9 +52,6 @@ pub enum Look {
     /// An act, whose operands have the right kinds.
     Act(ActKind),
 }
-
-/// How many forms may be round a redex.
-pub const MAX_SPINE: usize = 1000;
 
 impl Act<'_> {
     /// The kind of the act.

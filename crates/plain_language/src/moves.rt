@@ -1,11 +1,11 @@
 //! Where a thread goes by a step that changes nothing else.
 ghost use Rattle.std.specs.Prelude.{◌≡◌, ℕ, IfOk, IsSome, option_map};
 ghost use Rattle.std.specs.Option.{option_copied};
-ghost use Rattle.plain_language.specs.Expression.{Expr as Expression};
-ghost use Rattle.plain_language.specs.Look.{answered, language, look};
-ghost use Rattle.plain_language.specs.Program.{body};
-ghost use Rattle.plain_language.specs.Redex.{redex};
-ghost use Rattle.plain_language.specs.Table.{attempt_by, cut_by, enter_by, get_by, local_by, pin_by, probe_by, refuse_by, to};
+ghost use Rattle.language.specs.Expression.{Expr as Expression};
+ghost use Rattle.language.specs.Look.{answered, language, look};
+ghost use Rattle.language.specs.Program.{body};
+ghost use Rattle.language.specs.Redex.{redex};
+ghost use Rattle.language.specs.Table.{attempt_by, cut_by, enter_by, get_by, local_by, pin_by, probe_by, refuse_by, to};
 
 use crate::act::Act;
 use crate::body::called;

@@ -4,9 +4,9 @@ ghost use Rattle.std.specs.Arc.{arc_value};
 ghost use Rattle.std.specs.Ordering.{nat_cmp};
 ghost use Rattle.std.specs.FinMap.{from_entries};
 ghost use Rattle.std.specs.FinSet as set;
-ghost use Rattle.plain_language.specs.Depth.{are_flat};
-ghost use Rattle.plain_language.specs.Held.{held};
-ghost use Rattle.plain_language.specs.Parts.{channels_of, references_of, state_of, threads_of};
+ghost use Rattle.language.specs.Depth.{are_flat};
+ghost use Rattle.language.specs.Held.{held};
+ghost use Rattle.language.specs.Parts.{channels_of, references_of, state_of, threads_of};
 
 use crate::expr::Expr;
 use crate::numbered::{add, put};

@@ -1,24 +1,23 @@
 //! What a redex that isn't an act makes.
 ghost use Rattle.std.specs.Prelude.{◌≡◌, ◌&&◌, nat_eq, length, option_and_then, false, true, None, IfOk, if◌then◌else◌};
-ghost use Rattle.plain_language.specs.Busy.{busy_at, counted, values_in, waiting_parts};
-ghost use Rattle.plain_language.specs.Expression.{value, parts_of, put_parts};
-ghost use Rattle.plain_language.specs.Operands.{one_of, outcome_of, truth_of};
-ghost use Rattle.plain_language.specs.Outcome.{outcome, after_item, block_of, branch_of, becomes, fails, pair_of, two_of, waiting_one, with_one, with_pair, with_truth, with_two};
+ghost use Rattle.language.specs.Busy.{busy_at, counted, values_in, waiting_parts};
+ghost use Rattle.language.specs.Expression.{value, parts_of, put_parts};
+ghost use Rattle.language.specs.Operands.{one_of, outcome_of, truth_of};
+ghost use Rattle.language.specs.Outcome.{outcome, after_item, block_of, branch_of, becomes, fails, pair_of, two_of, waiting_one, with_one, with_pair, with_truth, with_two};
 ghost use Rattle.plain_language.specs.Given.{given_to};
 ghost use Rattle.stab_base.specs.declared.fault.Fault.TheVariants.{WrongKind};
 ghost use Rattle.stab_code.specs.declared.head.Op.TheVariants.{Or, And};
-ghost use Rattle.plain_language.specs.Acts.{told};
-ghost use Rattle.plain_language.specs.Program.{body};
-ghost use Rattle.plain_language.specs.Redex.{first_counts_alone};
+ghost use Rattle.language.specs.Outcome.{told};
+ghost use Rattle.language.specs.Program.{body};
+ghost use Rattle.language.specs.Redex.{first_counts_alone};
 ghost use Rattle.plain_language.specs.Pures.{made_in, made_of};
 
 use crate::act::{one, two};
 use crate::body::called;
 use crate::expr::{Expr, put_copies};
 use crate::given::Given;
-use crate::head::Head;
 use crate::instead::left;
-use crate::operators::{as_truth, complement, negation, operator};
+use language::{Head, as_truth, complement, negation, operator};
 use stab_base::{Fault, NoMemory, PairFault, Value};
 use stab_code::{Op, Program, Slots};
 use std::alloc::Global;

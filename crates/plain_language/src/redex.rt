@@ -1,39 +1,16 @@
 //! Where the redex of an expression is.
 ghost use Rattle.std.specs.Prelude.{◌≡◌, ◌<◌, ℕ, Some, None, length, not, option_map, slice_index_or, IsSome, MatchOption};
 ghost use Rattle.std.specs.List.{position};
-ghost use Rattle.plain_language.specs.Busy.{is_value, busy_at, IsRedexOf, mark_or, passes};
-ghost use Rattle.plain_language.specs.Expression.{form, parts_of};
-ghost use Rattle.plain_language.specs.Redex.{first_counts_alone, rebuild, redex, section_or};
+ghost use Rattle.language.specs.Busy.{is_value, busy_at, IsRedexOf, mark_or, passes};
+ghost use Rattle.language.specs.Expression.{form, parts_of};
+ghost use Rattle.language.specs.Redex.{first_counts_alone, rebuild, redex};
 ghost use Rattle.plain_language.specs.Pures.{changed};
 
 use crate::expr::{Expr, Node};
-use crate::head::Head;
 use crate::instead::Instead;
+use language::Head;
 use stab_base::{Fault, Seq};
-use stab_code::Op;
 use std::mem;
-
-impl Head {
-    /// Whether the first part alone has to be a value before the form steps.
-    pub(crate) fn first_counts_alone(&self) -> bool
-        ensures { result ≡ first_counts_alone self.now }
-    {
-        matches!(
-            self,
-            Head::Block(_) | Head::If | Head::Two(Op::Or) | Head::Two(Op::And)
-        )
-    }
-
-    /// The number of the section that it is, and else of the one outside.
-    fn section_or(&self, outer: Option<Seq>) -> Option<Seq>
-        ensures { option_map (λ m. m.0) result ≡ section_or self.now (option_map (λ m. m.0) outer) }
-    {
-        match self {
-            Head::Section(m) => Some(*m),
-            _ => outer,
-        }
-    }
-}
 
 fn first_busy(parts: &[Expr]) -> Option<usize>
     ensures { result ≡ position (λ e. not (is_value e)) parts.now }

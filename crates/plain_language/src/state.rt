@@ -4,9 +4,9 @@ ghost use Rattle.std.specs.Arc.{arc_value};
 ghost use Rattle.std.specs.FinMap as map;
 ghost use Rattle.std.specs.FinSet as set;
 ghost use Rattle.std.specs.Option.{option_copied};
-ghost use Rattle.plain_language.specs.Above.{IsLeastAbove};
-ghost use Rattle.plain_language.specs.Held.{held};
-ghost use Rattle.plain_language.specs.Plain.{look_in, mark_in, standing, start};
+ghost use Rattle.language.specs.Above.{IsLeastAbove};
+ghost use Rattle.language.specs.Held.{held};
+ghost use Rattle.language.specs.Plain.{look_in, mark_in, standing, start};
 ghost use Rattle.plain_language.specs.Seen.{seen};
 
 use crate::body::called;
@@ -38,7 +38,7 @@ impl Model for PlainState {
     ghost use Rattle.std.specs.Arc.{arc_value};
     ghost use Rattle.std.specs.FinMap as map;
     ghost use Rattle.std.specs.FinSet as set;
-    ghost use Rattle.plain_language.specs.Held.{Held, held, coded_held};
+    ghost use Rattle.language.specs.Held.{Held, held, coded_held};
     ghost use Rattle.plain_language.specs.contracts.expr.Expr as expr;
     ghost use Rattle.stab_code.specs.contracts.program.Program as whole_program;
 

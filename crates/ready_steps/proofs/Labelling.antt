@@ -12,11 +12,11 @@ use Rattle.stab_journal.specs.declared.event.Label.TheVariants.{Spawn, NewChan, 
 use Rattle.stab_journal.specs.Label.{actors}
 use Rattle.stab_journal.specs.Names.{read}
 use Rattle.plain_language.specs.declared.look.Look as told
-use Rattle.plain_language.specs.Expression.{Expr}
-use Rattle.plain_language.specs.Plain.{PlainState, effect_of, language_of, look_in, plain_step, standing}
+use Rattle.language.specs.Expression.{Expr}
+use Rattle.language.specs.Plain.{PlainState, effect_of, language_of, look_in, plain_step, standing}
 use Rattle.plain_language.specs.Seen.{seen}
-use Rattle.plain_language.specs.Steps.{Effect, allows, effect_in, exprs_at, held_at}
-use Rattle.plain_language.specs.Table.{spawns, makes_chan, makes_ref, gets, sets, sends, receives, picks, enters, stabilizes, cuts, pins, prints, probes, attempts, Look, done, fault, act, pure, Language, to, spawn_by, chan_by, ref_by, get_by, set_by, enter_by, cut_by, pin_by, print_by, probe_by, attempt_by, effect}
+use Rattle.language.specs.Steps.{Effect, allows, effect_in, exprs_at, held_at}
+use Rattle.language.specs.Table.{spawns, makes_chan, makes_ref, gets, sets, sends, receives, picks, enters, stabilizes, cuts, pins, prints, probes, attempts, Look, done, fault, act, pure, Language, to, spawn_by, chan_by, ref_by, get_by, set_by, enter_by, cut_by, pin_by, print_by, probe_by, attempt_by, effect}
 use Rattle.journal_laws.specs.Known.{IsExprIn, IsLookIn, known_in}
 use Rattle.journal_laws.proofs.Occurring.{kept}
 use Rattle.journal_laws.proofs.Stepping.{plain_of}

@@ -7,11 +7,11 @@ use Rattle.std.proofs.lemmas.Bool.{false≢true, eqb-true}
 use Rattle.std.proofs.lemmas.Bool.Decides.{nat_tests}
 use Rattle.stab_code.specs.Program.{ProgramParts}
 use Rattle.plain_language.specs.declared.look.Look.{Look}
-use Rattle.plain_language.specs.Above.{IsLeastAbove}
-use Rattle.plain_language.specs.Expression.{Expr}
-use Rattle.plain_language.specs.Plain.{PlainState, language_of, look_in, standing}
-use Rattle.plain_language.specs.Quiet as rest
-use Rattle.plain_language.specs.Quiet.{IsQuiet}
+use Rattle.language.specs.Above.{IsLeastAbove}
+use Rattle.language.specs.Expression.{Expr}
+use Rattle.language.specs.Plain.{PlainState, language_of, look_in, standing}
+use Rattle.language.specs.Quiet as rest
+use Rattle.language.specs.Quiet.{IsQuiet}
 use Rattle.plain_language.specs.Seen.{seen}
 use Rattle.ready_steps.specs.Ready.{AllRest, NobodyMeets, look_of, receives_at, rests_at, sends_at}
 use Rattle.ready_steps.proofs.Telling.{same_receives, same_rest, same_sends}

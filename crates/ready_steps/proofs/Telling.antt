@@ -1,9 +1,9 @@
 -- The same tests on what is next for an expression and on what is told of it.
 use Rattle.std.proofs.Common.{◌≡◌, ℕ, refl}
-use Rattle.plain_language.specs.Expression.{Expr}
-use Rattle.plain_language.specs.Quiet as rest
+use Rattle.language.specs.Expression.{Expr}
+use Rattle.language.specs.Quiet as rest
 use Rattle.plain_language.specs.Seen.{seen}
-use Rattle.plain_language.specs.Table.{sends, receives, picks, Look, done, fault, act, pure}
+use Rattle.language.specs.Table.{sends, receives, picks, Look, done, fault, act, pure}
 use Rattle.ready_steps.specs.Resting.{is_resting, receives_on, sends_on}
 
 pub same_rest : (k : Look Expr) → rest.is_resting k ≡ is_resting (seen k)

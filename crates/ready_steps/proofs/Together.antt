@@ -9,12 +9,12 @@ use Rattle.stab_journal.specs.declared.event.Label.TheVariants.{Comm, Local, Ref
 use Rattle.plain_language.specs.declared.look.ActKind.TheVariants.{Stabilize}
 use Rattle.plain_language.specs.declared.look.Look as told
 use Rattle.plain_language.specs.declared.look.Look.TheVariants.{Act, Pure}
-use Rattle.plain_language.specs.Expression.{Expr}
-use Rattle.plain_language.specs.Plain.{PlainState, effect_of, language_of, look_in, plain_step, standing}
+use Rattle.language.specs.Expression.{Expr}
+use Rattle.language.specs.Plain.{PlainState, effect_of, language_of, look_in, plain_step, standing}
 use Rattle.plain_language.specs.Seen.{seen}
-use Rattle.plain_language.specs.Standing.{is_stabilize}
-use Rattle.plain_language.specs.Steps.{Effect, effect_in, exprs_at}
-use Rattle.plain_language.specs.Table.{sends, receives, picks, stabilizes, Look, done, fault, act, pure, Language, comm_by, effect, pure_of, pure_steps, received_by, refuse_by, sent_by, to}
+use Rattle.language.specs.Standing.{is_stabilize}
+use Rattle.language.specs.Steps.{Effect, effect_in, exprs_at}
+use Rattle.language.specs.Table.{sends, receives, picks, stabilizes, Look, done, fault, act, pure, Language, comm_by, effect, pure_of, pure_steps, received_by, refuse_by, sent_by, to}
 use Rattle.journal_laws.proofs.Stepping.{plain_of}
 use Rattle.ready_steps.specs.declared.ready.Meeting.{Meeting}
 use Rattle.ready_steps.specs.Resting.{receives_on, sends_on}

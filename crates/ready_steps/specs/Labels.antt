@@ -9,8 +9,8 @@ use Rattle.journal_laws.specs.Known.{IsExprIn, IsKnown}
 use Rattle.plain_language.specs.declared.look.ActKind.TheVariants.{Spawn, NewChan, NewRef, Get, Set, Enter, Cut, Pin, Print, Probe, Attempt}
 use Rattle.plain_language.specs.declared.look.Look.{Look}
 use Rattle.plain_language.specs.declared.look.Look.TheVariants.{Act}
-use Rattle.plain_language.specs.Numbers.{fits_word}
-use Rattle.plain_language.specs.Plain.{PlainState}
+use Rattle.language.specs.Numbers.{fits_word}
+use Rattle.language.specs.Plain.{PlainState}
 use Rattle.ready_steps.specs.declared.label.Given.{Given}
 
 -- the step of a thread that does this next, if it makes one by itself that isn't pure and isn't a `stabilize`

@@ -4,7 +4,7 @@ use Rattle.std.specs.Ordering.{nat_cmp}
 use Rattle.std.specs.BTreeMap.{BTreeMap, get}
 use Rattle.stab_code.specs.Program.{ProgramParts}
 use Rattle.plain_language.specs.declared.look.Look.{Look}
-use Rattle.plain_language.specs.Plain.{PlainState, look_in, standing}
+use Rattle.language.specs.Plain.{PlainState, look_in, standing}
 use Rattle.plain_language.specs.Seen.{seen}
 use Rattle.ready_steps.specs.declared.ready.Meeting.{Meeting}
 use Rattle.ready_steps.specs.declared.ready.Ready.{Ready}

@@ -1,6 +1,6 @@
 //! The step by which a thread does what it does next.
 ghost use Rattle.std.specs.Prelude.{◌≡◌, ℕ, ◌≤◌, ◌<◌, ◌^◌, true, false, IfSome, IsSome, Some};
-ghost use Rattle.plain_language.specs.Plain.{PlainState as State, plain_step};
+ghost use Rattle.language.specs.Plain.{PlainState as State, plain_step};
 ghost use Rattle.stab_code.specs.Program.{ProgramParts};
 ghost use Rattle.ready_steps.specs.Labels.{IsOpen, label_of};
 ghost use Rattle.ready_steps.specs.Ready.{look_of};

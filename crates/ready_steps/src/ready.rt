@@ -2,8 +2,8 @@
 ghost use Rattle.std.specs.Prelude.{◌≡◌, ℕ, true, false, None, Some, IfOk, ◌↔◌, IsTrue, MatchOption, OnOk, is_some};
 ghost use Rattle.std.specs.BTreeMap.{get};
 ghost use Rattle.std.specs.Ordering.{nat_cmp};
-ghost use Rattle.plain_language.specs.Plain.{language_of};
-ghost use Rattle.plain_language.specs.Quiet.{IsQuiet};
+ghost use Rattle.language.specs.Plain.{language_of};
+ghost use Rattle.language.specs.Quiet.{IsQuiet};
 ghost use Rattle.ready_steps.specs.Resting.{receives_on, sends_on};
 ghost use Rattle.ready_steps.specs.Ready.{AllRest, CanMeet, HasReceivers, IsReady, NobodyMeets, look_of, receives_at, rests_at};
 

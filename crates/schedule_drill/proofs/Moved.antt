@@ -11,9 +11,9 @@ use Rattle.rendezvous.specs.declared.offer.Offer.{Offer}
 use Rattle.rendezvous.specs.declared.offer.Offer.TheVariants as offer
 use Rattle.rendezvous.specs.Line.{Line, LineBacked, nobody, offered as passes}
 use Rattle.rendezvous.specs.Offer.{receives_on, sends_on}
-use Rattle.plain_language.specs.Expression.{Expr}
-use Rattle.plain_language.specs.Redex.{mark}
-use Rattle.plain_language.specs.Table.{Look, act, spawns, sends, receives, picks, stabilizes}
+use Rattle.language.specs.Expression.{Expr}
+use Rattle.language.specs.Redex.{mark}
+use Rattle.language.specs.Table.{Look, act, spawns, sends, receives, picks, stabilizes}
 use Rattle.journal_laws.proofs.Surviving.{some_none}
 use Rattle.commit_book.specs.Book.{BookView, IsShown}
 use Rattle.commit_book.specs.Offers.{sends_at, receives_at}

@@ -4,10 +4,10 @@ use Rattle.stab_journal.specs.declared.event.Numbered.{Numbered}
 use Rattle.stab_journal.specs.Journal.{survivors}
 use Rattle.stab_journal.specs.Reached.{reached}
 use Rattle.stab_journal.specs.Surviving.{run_of}
-use Rattle.plain_language.specs.Expression.{Expr}
-use Rattle.plain_language.specs.Plain.{look_in}
-use Rattle.plain_language.specs.Redex.{mark}
-use Rattle.plain_language.specs.Table.{Look, act, stabilizes}
+use Rattle.language.specs.Expression.{Expr}
+use Rattle.language.specs.Plain.{look_in}
+use Rattle.language.specs.Redex.{mark}
+use Rattle.language.specs.Table.{Look, act, stabilizes}
 use Rattle.journal_laws.proofs.Undone.{stands_run}
 use Rattle.step_eval.specs.ControlView.{expr_of}
 use Rattle.step_eval.specs.Progress.{ProgressView}

@@ -9,8 +9,8 @@ use Rattle.stab_journal.specs.declared.event.What.TheVariants as what
 use Rattle.stab_journal.specs.Due.{final_prints}
 use Rattle.stab_journal.specs.Surviving.{run_of}
 use Rattle.thread_slots.specs.declared.state.State.TheVariants.{Leased}
-use Rattle.plain_language.specs.Standing.{event}
-use Rattle.plain_language.proofs.Applying.{get_inserted}
+use Rattle.language.specs.Standing.{event}
+use Rattle.language.proofs.Applying.{get_inserted}
 use Rattle.journal_laws.proofs.Surviving.{some_is}
 use Rattle.step_eval.specs.ControlView.{ControlView, expr_of}
 use Rattle.commit_book.specs.declared.turn.Turn.{Turn}

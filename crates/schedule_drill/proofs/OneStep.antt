@@ -3,9 +3,9 @@ use Rattle.std.proofs.Common.{◌≡◌, ℕ, List, refl, sym, ap, subst, ◌∙
 use Rattle.std.specs.Prelude.{decimal}
 use Rattle.stab_code.specs.JobParts.{JobParts}
 use Rattle.stab_code.specs.Program.{ProgramParts}
-use Rattle.plain_language.specs.Expression.{Expr}
-use Rattle.plain_language.specs.Plain.{language_of}
-use Rattle.plain_language.specs.Table.{pure_steps}
+use Rattle.language.specs.Expression.{Expr}
+use Rattle.language.specs.Plain.{language_of}
+use Rattle.language.specs.Table.{pure_steps}
 use Rattle.step_eval.specs.ControlView.{ControlView, expr_of}
 use Rattle.step_eval.specs.Progress.{ProgressView}
 use Rattle.commit_book.specs.Book.{BookView}

@@ -14,7 +14,7 @@ use Rattle.thread_slots.specs.declared.state.State.TheVariants.{Ready, Leased, P
 use Rattle.thread_slots.specs.Ready.{IsQueueOf}
 use Rattle.thread_slots.specs.Slot.{Slot, changed, is_ready_at, same_state}
 use Rattle.thread_slots.proofs.Kept.{IsQueueOf-changed}
-use Rattle.plain_language.proofs.Applying.{get_inserted}
+use Rattle.language.proofs.Applying.{get_inserted}
 use Rattle.step_eval.specs.ControlView.{ControlView}
 use Rattle.commit_book.specs.declared.turn.Turn.TheVariants as turn
 use Rattle.commit_book.specs.Book.{BookView, IsAtStart, IsShown}

@@ -10,7 +10,7 @@ use Rattle.std.specs.BTreeMap.{is_at}
 use Rattle.std.specs.FinMap as map
 use Rattle.std.specs.FinMap.{put, remove, from_entries, same_map, nat_cmp-IsAntisymmetric, get-remove, entries-insert, len-empty, len-entries}
 use Rattle.std.specs.FinMap.Entries.{by_order}
-use Rattle.plain_language.proofs.Maps.{get_looked}
+use Rattle.language.proofs.Maps.{get_looked}
 use Rattle.schedule_drill.specs.declared.held.Held.{Held}
 use Rattle.schedule_drill.specs.Out.{Out}
 

@@ -12,7 +12,7 @@ use Rattle.stab_journal.specs.Names.{has}
 use Rattle.stab_journal.specs.Reached.{nothing_lost, reached, without_reached}
 use Rattle.stab_journal.specs.Surviving.{run_of}
 use Rattle.thread_slots.specs.Slot.{Slot}
-use Rattle.plain_language.specs.Plain.{IsRun, PlainState, end_of}
+use Rattle.language.specs.Plain.{IsRun, PlainState, end_of}
 use Rattle.journal_laws.specs.Lost.{is_hit}
 use Rattle.journal_laws.specs.Surviving.{Survives}
 use Rattle.journal_laws.proofs.Chains.{or_right, upward}

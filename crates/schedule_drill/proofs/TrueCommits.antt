@@ -10,7 +10,7 @@ use Rattle.stab_journal.specs.declared.event.Event.{Event}
 use Rattle.stab_journal.specs.Generation.{generation}
 use Rattle.thread_slots.specs.declared.state.State.TheVariants.{Ready, Parked}
 use Rattle.thread_slots.specs.Slot.{Slot, changed, same_state}
-use Rattle.plain_language.specs.Plain.{look_in}
+use Rattle.language.specs.Plain.{look_in}
 use Rattle.journal_laws.proofs.Surviving.{some_none}
 use Rattle.step_eval.specs.ControlView.{ControlView, expr_of}
 use Rattle.step_eval.specs.Progress.{ProgressView}

@@ -12,8 +12,8 @@ use Rattle.stab_journal.specs.declared.event.What.TheVariants as what
 use Rattle.stab_journal.specs.Generation.{generation}
 use Rattle.thread_slots.specs.declared.state.State.TheVariants.{Ready, Leased}
 use Rattle.thread_slots.specs.Slot.{Slot, same_state}
-use Rattle.plain_language.specs.Standing.{event}
-use Rattle.plain_language.proofs.Applying.{get_inserted}
+use Rattle.language.specs.Standing.{event}
+use Rattle.language.proofs.Applying.{get_inserted}
 use Rattle.journal_laws.proofs.Surviving.{some_is, some_none}
 use Rattle.step_eval.specs.ControlView.{ControlView}
 use Rattle.step_eval.specs.Progress.{Advances, ProgressView}

@@ -7,7 +7,7 @@ use Rattle.std.specs.FinMap as map
 use Rattle.std.specs.FinMap.{FinMap, same_map, nat_cmp-IsAntisymmetric, get-empty}
 use Rattle.stab_code.specs.Program.{ProgramParts}
 use Rattle.step_eval.specs.ControlView.{ControlView}
-use Rattle.plain_language.proofs.Applying.{get_inserted}
+use Rattle.language.proofs.Applying.{get_inserted}
 use Rattle.commit_book.specs.declared.turn.Turn.TheVariants.{Work}
 use Rattle.commit_book.specs.Book.{BookView}
 use Rattle.commit_book.specs.Leases.{LeaseView}

@@ -2,7 +2,7 @@
 use Rattle.std.specs.Prelude.{ℕ, List, ◌∷◌, ◌++◌, Option, Some, None, codes, decimal}
 use Rattle.stab_base.specs.declared.numbers.Generation.{Generation}
 use Rattle.stab_base.specs.declared.numbers.Seq.{Seq}
-use Rattle.plain_language.specs.Shown.{line}
+use Rattle.language.specs.Shown.{line}
 use Rattle.commit_book.specs.declared.done.Done.{Done}
 use Rattle.commit_book.specs.declared.done.Done.TheVariants.{Taken, Parked, Undone, Stale, Over}
 use Rattle.commit_book.specs.declared.turn.Turn.{Turn}

@@ -16,8 +16,8 @@ use Rattle.stab_base.specs.Datum.{Datum}
 use Rattle.stab_base.specs.declared.numbers.ChanId.{ChanId}
 use Rattle.stab_base.specs.declared.numbers.RefId.{RefId}
 use Rattle.stab_base.specs.declared.numbers.ThreadId.{ThreadId}
-use Rattle.plain_language.specs.Expression.{Expr}
-use Rattle.plain_language.specs.Plain.{PlainState}
+use Rattle.language.specs.Expression.{Expr}
+use Rattle.language.specs.Plain.{PlainState}
 use Rattle.image_laws.specs.Image.{Image, generation_at}
 use Rattle.image_text.specs.Rising.{those}
 use Rattle.image_lines.specs.declared.line.Line.{Line}

@@ -12,8 +12,8 @@ use Rattle.stab_journal.specs.declared.event.What.TheVariants.{Step}
 use Rattle.stab_journal.specs.Journal.{step_at}
 use Rattle.stab_journal.specs.Names.{has}
 use Rattle.stab_journal.specs.Reached.{reached}
-use Rattle.plain_language.specs.Plain.{PlainState, effect_of}
-use Rattle.plain_language.specs.Steps.{State, Table, after_steps, plain}
+use Rattle.language.specs.Plain.{PlainState, effect_of}
+use Rattle.language.specs.Steps.{State, Table, after_steps, plain}
 use Rattle.journal_laws.proofs.Runs.{steps_append}
 use Rattle.journal_laws.proofs.Stepping.{step_of}
 use Rattle.journal_laws.proofs.Surviving.{no_steps, some_is, some_none}

@@ -19,12 +19,12 @@ use Rattle.stab_journal.specs.Journal.{label_at}
 use Rattle.stab_journal.specs.Numbers.{chans_in, greatest, named_by, refs_in, threads_by}
 use Rattle.stab_journal.specs.Surviving.{after_event}
 use Rattle.stab_code.specs.Program.{ProgramParts}
-use Rattle.plain_language.specs.Expression.{Expr}
-use Rattle.plain_language.specs.Outcome.{called}
-use Rattle.plain_language.specs.Plain.{PlainState, start}
-use Rattle.plain_language.specs.Program.{body}
-use Rattle.plain_language.specs.Standing.{StandsFor}
-use Rattle.plain_language.proofs.Applying.{get_inserted}
+use Rattle.language.specs.Expression.{Expr}
+use Rattle.language.specs.Outcome.{called}
+use Rattle.language.specs.Plain.{PlainState, start}
+use Rattle.language.specs.Program.{body}
+use Rattle.language.specs.Standing.{StandsFor}
+use Rattle.language.proofs.Applying.{get_inserted}
 use Rattle.journal_laws.proofs.Undone.{stands_run}
 use Rattle.trace_verify.proofs.Judging.{steps_of}
 use Rattle.image_run.specs.declared.next.Next.{Next}

@@ -15,9 +15,9 @@ use Rattle.stab_journal.specs.Event.{AreEvents, IsLabel, IsWhat, label_of}
 use Rattle.stab_journal.specs.Journal.{event_at, label_at}
 use Rattle.stab_journal.specs.Script.{probed, probed_by}
 use Rattle.stab_code.specs.Program.{ProgramParts}
-use Rattle.plain_language.specs.Plain.{PlainState, effect_of, standing, start}
-use Rattle.plain_language.specs.Standing.{StandsFor}
-use Rattle.plain_language.proofs.Applying.{get_inserted}
+use Rattle.language.specs.Plain.{PlainState, effect_of, standing, start}
+use Rattle.language.specs.Standing.{StandsFor}
+use Rattle.language.proofs.Applying.{get_inserted}
 use Rattle.journal_laws.proofs.Undone.{stands_run}
 use Rattle.image_laws.proofs.Threads.{IsFresh, AreFresh, new_after}
 use Rattle.trace_verify.proofs.Judging.{one_more, steps_of}

@@ -6,10 +6,10 @@ use Rattle.std.proofs.lemmas.Bool.{and_from, eq-eqb}
 use Rattle.std.proofs.lemmas.Bool.Decides.{nat_tests}
 use Rattle.stab_base.specs.Datum.{Datum, unit, truth, int, text, chan, reference, pair}
 use Rattle.stab_code.specs.Program.{FunctionParts, ProgramParts, arity_of}
-use Rattle.plain_language.specs.declared.head.Head.{Head}
-use Rattle.plain_language.specs.declared.head.Head.TheVariants.{Block, Call, Spawn, Stable, Section}
-use Rattle.plain_language.specs.Expression.{Expr, value, variable, failed, form, Parts, none, part}
-use Rattle.plain_language.specs.Redex.{max_spine, spine}
+use Rattle.language.specs.declared.head.Head.{Head}
+use Rattle.language.specs.declared.head.Head.TheVariants.{Block, Call, Spawn, Stable, Section}
+use Rattle.language.specs.Expression.{Expr, value, variable, failed, form, Parts, none, part}
+use Rattle.language.specs.Redex.{max_spine, spine}
 use Rattle.journal_laws.specs.Known.{ArePartsIn, IsExprIn, IsHeadIn, IsIn, Known}
 use Rattle.expression_text.specs.Spelling.{count, item_word, items_of, opening, spell, spell_parts, spell_value, IsWell, AreWell, IsWithin}
 use Rattle.image_text.specs.Range.{AreInRange, IsCount, IsInRange, IsName}

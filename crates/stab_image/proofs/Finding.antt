@@ -7,10 +7,10 @@ use Rattle.std.specs.FinMap as map
 use Rattle.std.specs.FinMap.{FinMap, nat_cmp-IsAntisymmetric, from_entries_push, get-from_entries}
 use Rattle.std.proofs.lemmas.Bool.{false≢true, eqb-true, ne_eqb}
 use Rattle.std.proofs.lemmas.Bool.Decides.{nat_tests}
-use Rattle.plain_language.specs.Above.{IsLeastAbove}
-use Rattle.plain_language.specs.Expression.{Expr}
-use Rattle.plain_language.specs.Plain.{PlainState, standing}
-use Rattle.plain_language.proofs.Applying.{get_inserted}
+use Rattle.language.specs.Above.{IsLeastAbove}
+use Rattle.language.specs.Expression.{Expr}
+use Rattle.language.specs.Plain.{PlainState, standing}
+use Rattle.language.proofs.Applying.{get_inserted}
 
 -- the threads up to the last one that was found have their numbers, and no other number has one
 pub record SoFar (s : PlainState) (f : ℕ → ℕ) (m : FinMap nat_cmp ℕ) (last : ℕ) : Type 0 where

@@ -10,8 +10,8 @@ use Rattle.stab_journal.specs.declared.event.Event.{Event}
 use Rattle.stab_journal.specs.declared.event.Label.TheVariants.{Cut}
 use Rattle.stab_journal.specs.declared.event.What.TheVariants.{Step}
 use Rattle.stab_journal.specs.Journal.{event_at}
-use Rattle.plain_language.specs.Plain.{PlainState, standing}
-use Rattle.plain_language.specs.Standing.{StandsFor, event}
+use Rattle.language.specs.Plain.{PlainState, standing}
+use Rattle.language.specs.Standing.{StandsFor, event}
 use Rattle.journal_laws.specs.Known.{IsExprIn, IsKnown}
 use Rattle.journal_laws.proofs.Runs.{run_known}
 use Rattle.journal_laws.proofs.Undone.{stands_run}

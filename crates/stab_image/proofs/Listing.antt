@@ -4,7 +4,7 @@ use Rattle.std.specs.Prelude.{Some, None, IfSome, is_some}
 use Rattle.std.specs.Ordering.{nat_cmp}
 use Rattle.std.specs.FinMap as map
 use Rattle.std.specs.FinMap.{FinMap}
-use Rattle.plain_language.specs.Plain.{PlainState, standing}
+use Rattle.language.specs.Plain.{PlainState, standing}
 use Rattle.trace_verify.specs.declared.generations.Generations.{Generations}
 use Rattle.trace_verify.specs.Generations.{times}
 use Rattle.image_text.specs.Rising.{IsRising}

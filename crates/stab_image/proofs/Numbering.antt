@@ -19,10 +19,10 @@ use Rattle.stab_journal.specs.Label.{written}
 use Rattle.stab_journal.specs.Names.{is_at, made}
 use Rattle.stab_journal.specs.Numbers.{chans_in, greatest, named_by}
 use Rattle.stab_code.specs.Program.{ProgramParts}
-use Rattle.plain_language.specs.Plain.{PlainState, effect_of, start}
-use Rattle.plain_language.specs.Standing.{StandsFor}
-use Rattle.plain_language.specs.Steps.{State, Table, after_steps, plain}
-use Rattle.plain_language.proofs.Applying.{put_channel-is, put_value-apart}
+use Rattle.language.specs.Plain.{PlainState, effect_of, start}
+use Rattle.language.specs.Standing.{StandsFor}
+use Rattle.language.specs.Steps.{State, Table, after_steps, plain}
+use Rattle.language.proofs.Applying.{put_channel-is, put_value-apart}
 use Rattle.journal_laws.proofs.Stepping.{step_of}
 use Rattle.journal_laws.proofs.Surviving.{no_steps, some_is, some_none}
 use Rattle.journal_laws.proofs.Undone.{stands_run}

@@ -12,7 +12,7 @@ use Rattle.std.specs.FinSet as set
 use Rattle.std.specs.FinMap.{FinMap, entries, entries_sorted, find, get-entries, is_sorted}
 use Rattle.std.proofs.lemmas.Bool.{and_parts, eq-eqb, false≢true, ne_eqb}
 use Rattle.stab_base.specs.Datum.{Datum}
-use Rattle.plain_language.specs.Expression.{Expr}
+use Rattle.language.specs.Expression.{Expr}
 use Rattle.image_laws.specs.Image.{Image}
 use Rattle.image_text.specs.Rising.{IsRising, those}
 use Rattle.image_lines.specs.declared.line.Line.{Line}

@@ -18,11 +18,11 @@ use Rattle.stab_journal.specs.declared.event.Numbered.{Numbered}
 use Rattle.stab_journal.specs.Journal.{label_at}
 use Rattle.stab_code.specs.Program.{ProgramParts}
 use Rattle.stab_code.specs.Valid.{CountsAreWithin}
-use Rattle.plain_language.specs.declared.head.Head.{Head}
-use Rattle.plain_language.specs.declared.head.Head.TheVariants.{Section}
-use Rattle.plain_language.specs.Expression.{Expr, value, variable, failed, form, Parts, none, part}
-use Rattle.plain_language.specs.Plain.{IsRun, PlainState}
-use Rattle.plain_language.specs.Standing.{StandsFor}
+use Rattle.language.specs.declared.head.Head.{Head}
+use Rattle.language.specs.declared.head.Head.TheVariants.{Section}
+use Rattle.language.specs.Expression.{Expr, value, variable, failed, form, Parts, none, part}
+use Rattle.language.specs.Plain.{IsRun, PlainState}
+use Rattle.language.specs.Standing.{StandsFor}
 use Rattle.journal_laws.specs.Entered.{enters_by, is_entered_by}
 use Rattle.journal_laws.specs.Known.{ArePartsIn, IsExprIn, IsHeadIn, IsIn, IsKnown, IsMore, Known, known_in, sections_alone}
 use Rattle.journal_laws.proofs.Closed.{more_in}

@@ -3,7 +3,7 @@ use Rattle.std.specs.Prelude.{◌≡◌, ℕ, Some, None, IfSome}
 use Rattle.std.specs.Ordering.{nat_cmp}
 use Rattle.std.specs.FinMap as map
 use Rattle.std.specs.FinMap.{FinMap}
-use Rattle.plain_language.specs.Plain.{PlainState, standing}
+use Rattle.language.specs.Plain.{PlainState, standing}
 use Rattle.trace_verify.specs.declared.generations.Generations.{Generations}
 use Rattle.trace_verify.specs.Generations.{times}
 

@@ -5,9 +5,9 @@ use Rattle.std.specs.FinMap as map
 use Rattle.std.specs.FinMap.{FinMap}
 use Rattle.std.specs.Coded.{Coded, code_by, coded×, coded_ℕ, coded_ℤ, coded_list}
 use Rattle.stab_code.specs.Program.{ProgramParts}
-use Rattle.plain_language.specs.Expression.{Expr}
-use Rattle.plain_language.specs.Held.{coded_state}
-use Rattle.plain_language.specs.Plain.{PlainState}
+use Rattle.language.specs.Expression.{Expr}
+use Rattle.language.specs.Held.{coded_state}
+use Rattle.language.specs.Plain.{PlainState}
 use Rattle.image_laws.specs.Image.{Image}
 
 -- an image is stored as the tuple of its parts

@@ -2,7 +2,7 @@
 use Rattle.std.specs.Prelude.{◌≡◌, ◌≤◌, ◌<◌, ℕ, true, false}
 use Rattle.std.specs.FinMap as map
 use Rattle.std.specs.FinSet as set
-use Rattle.plain_language.specs.Steps.{State}
+use Rattle.language.specs.Steps.{State}
 
 -- each channel is from 1 on and below this number, and no reference is 0
 pub record AreBelow {E : Type 0} (next : ℕ) (s : State E) : Type 0 where

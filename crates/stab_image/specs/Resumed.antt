@@ -2,8 +2,8 @@
 use Rattle.std.specs.Prelude.{◌≡◌, ◌≤◌, ◌++◌, ℕ, true, false, List, None}
 use Rattle.stab_base.specs.Datum.{Datum}
 use Rattle.stab_journal.specs.Event.{weight_of}
-use Rattle.plain_language.specs.Plain.{language_of, standing}
-use Rattle.plain_language.specs.Quiet.{IsQuiet}
+use Rattle.language.specs.Plain.{language_of, standing}
+use Rattle.language.specs.Quiet.{IsQuiet}
 use Rattle.image_laws.specs.Image.{Image, IsContinuedBy}
 use Rattle.image_run.specs.declared.going.Resumed.{Resumed}
 

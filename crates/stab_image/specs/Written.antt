@@ -5,7 +5,7 @@ use Rattle.std.specs.FinMap as map
 use Rattle.std.specs.FinSet as set
 use Rattle.stab_base.specs.Datum.{Datum}
 use Rattle.stab_text.specs.Text.{IsTextOf}
-use Rattle.plain_language.specs.Expression.{Expr}
+use Rattle.language.specs.Expression.{Expr}
 use Rattle.image_laws.specs.Image.{Image, generation_at}
 use Rattle.image_text.specs.Rising.{those}
 use Rattle.image_lines.specs.declared.head.Next.{Next}

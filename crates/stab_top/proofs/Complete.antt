@@ -1,6 +1,6 @@
 -- By what the statuses say, a good program or trace is accepted, and a bad text is refused.
 use Rattle.std.proofs.Common.{arith, ◌≡◌, ◌⊎◌, inl, inr, ℕ, ℤ, ◌<◌, List, [], ◌∷◌, ◌++◌, length, Option, Some, None, Result, Ok, Err, IfSome, IsSomeAnd, refl, sym, subst, ◌∙◌}
-use Rattle.plain_language.specs.Plain.{PlainState}
+use Rattle.language.specs.Plain.{PlainState}
 use Rattle.commit_book.specs.Book.{BookView}
 use Rattle.drill_text.specs.declared.order.Order.{Order}
 use Rattle.drill_text.specs.declared.script.Line.{Line}

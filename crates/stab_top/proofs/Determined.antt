@@ -5,8 +5,8 @@ use Rattle.drill_text.specs.declared.script.Line.{Line}
 use Rattle.drill_text.specs.Script.{script_of}
 use Rattle.journal_laws.proofs.Undone.{stands_run}
 use Rattle.lone_worker.specs.Desk.{Desk}
-use Rattle.plain_language.specs.Plain.{end_of}
-use Rattle.plain_language.specs.Shown.{shown}
+use Rattle.language.specs.Plain.{end_of}
+use Rattle.language.specs.Shown.{shown}
 use Rattle.schedule_drill.specs.declared.fault.DrillFault.{DrillFault}
 use Rattle.schedule_drill.specs.declared.fault.DrillFault.TheVariants as faults
 use Rattle.schedule_drill.specs.Drilled as drills

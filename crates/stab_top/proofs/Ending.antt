@@ -11,8 +11,8 @@ use Rattle.stab_files.specs.Count.{Rose}
 use Rattle.stab_files.specs.Told.{Appends}
 use Rattle.stab_files.proofs.Puts.{appends_trans}
 use Rattle.stab_journal.specs.Due.{released}
-use Rattle.plain_language.specs.Plain.{PlainState}
-use Rattle.plain_language.specs.Shown.{line, shown, value_lines}
+use Rattle.language.specs.Plain.{PlainState}
+use Rattle.language.specs.Shown.{line, shown, value_lines}
 use Rattle.commit_book.specs.Book.{BookView, IsShown}
 use Rattle.book_text.specs.Written.{IsRestText, released_lines}
 use Rattle.trace_text.specs.Text.{trace}

@@ -13,7 +13,7 @@ use Rattle.stab_words.specs.declared.request.MillArgs.{MillArgs}
 use Rattle.stab_words.specs.declared.request.Request.{Request}
 use Rattle.stab_words.specs.declared.request.Request.TheVariants.{Run, Trace, Verify, Drill, Check, Mill, Types, Save, Resume, Watch}
 use Rattle.stab_words.specs.declared.request.RunArgs.{RunArgs}
-use Rattle.plain_language.specs.Plain.{IsRun, PlainState, end_of}
+use Rattle.language.specs.Plain.{IsRun, PlainState, end_of}
 use Rattle.stab_journal.specs.declared.event.Numbered.{Numbered}
 use Rattle.stab_journal.specs.Journal.{survivors}
 use Rattle.journal_laws.proofs.Undone.{stands_run}

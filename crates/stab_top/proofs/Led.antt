@@ -3,8 +3,8 @@ use Rattle.std.proofs.Common.{◌≡◌, List, Some, ap, ◌∙◌}
 use Rattle.stab_journal.specs.Journal.{Journal, survivors}
 use Rattle.stab_journal.specs.declared.event.Numbered.{Numbered}
 use Rattle.stab_code.specs.Program.{ProgramParts}
-use Rattle.plain_language.specs.Plain.{PlainState, end_of}
-use Rattle.plain_language.specs.Standing.{Shows}
+use Rattle.language.specs.Plain.{PlainState, end_of}
+use Rattle.language.specs.Standing.{Shows}
 use Rattle.journal_laws.proofs.Undone.{stands_run}
 
 pub leads : (p : ProgramParts) (journal : Journal) (run : List Numbered) (s : PlainState) → Shows p journal run s → end_of p (survivors journal) ≡ Some s

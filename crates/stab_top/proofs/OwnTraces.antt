@@ -8,8 +8,8 @@ use Rattle.stab_journal.specs.declared.event.Event.{Event}
 use Rattle.stab_journal.specs.declared.event.Numbered.{Numbered}
 use Rattle.stab_journal.specs.Journal.{IsValid, Journal, step_at, survivors, survivors_from}
 use Rattle.stab_journal.specs.Script.{FollowsScript}
-use Rattle.plain_language.specs.Plain.{PlainState}
-use Rattle.plain_language.specs.Standing.{Shows, StandsFor}
+use Rattle.language.specs.Plain.{PlainState}
+use Rattle.language.specs.Standing.{Shows, StandsFor}
 use Rattle.commit_book.specs.Book.{BookView}
 use Rattle.stab_code.specs.JobParts.{JobParts}
 use Rattle.stab_text.specs.Text.{IsTextOf}

@@ -11,8 +11,8 @@ use Rattle.stab_journal.specs.declared.event.Event.{Event}
 use Rattle.stab_journal.specs.declared.event.What.TheVariants.{Release}
 use Rattle.stab_journal.specs.Due.{released}
 use Rattle.stab_journal.specs.Script.{FollowsScript}
-use Rattle.plain_language.specs.Shown.{value_lines}
-use Rattle.plain_language.specs.Standing.{event}
+use Rattle.language.specs.Shown.{value_lines}
+use Rattle.language.specs.Standing.{event}
 use Rattle.thread_slots.specs.declared.state.State.TheVariants.{Parked}
 use Rattle.commit_book.specs.Book.{BookView, IsAtStart, IsShown}
 use Rattle.commit_book.specs.Counts.{faulted_in, in_state}

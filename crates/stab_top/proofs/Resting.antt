@@ -11,9 +11,9 @@ use Rattle.thread_slots.specs.Slot.{Slot, same_state, is_in}
 use Rattle.thread_slots.proofs.Counted.{numbers-some}
 use Rattle.stab_code.specs.Program.{ProgramParts}
 use Rattle.stab_code.specs.Valid.{IsValid}
-use Rattle.plain_language.specs.Expression.{Expr}
-use Rattle.plain_language.specs.Plain.{PlainState, look_in}
-use Rattle.plain_language.specs.Shown.{is_done}
+use Rattle.language.specs.Expression.{Expr}
+use Rattle.language.specs.Plain.{PlainState, look_in}
+use Rattle.language.specs.Shown.{is_done}
 use Rattle.step_eval.specs.ControlView.{ControlView, expr_of}
 use Rattle.commit_book.specs.Book.{BookView, IsShown, over, offered}
 use Rattle.commit_book.specs.Counts.{faulted_in, in_state, is_faulted_at}

@@ -16,8 +16,8 @@ use Rattle.stab_journal.specs.declared.event.What.TheVariants.{Release}
 use Rattle.stab_journal.specs.Due.{due, final_prints, released, released_by, released_from}
 use Rattle.stab_journal.specs.Event.{weigh, weight_of}
 use Rattle.stab_journal.specs.Surviving.{after_event, after_events, run_of}
-use Rattle.plain_language.specs.Shown.{line, value_lines}
-use Rattle.plain_language.specs.Standing.{StandsFor, event}
+use Rattle.language.specs.Shown.{line, value_lines}
+use Rattle.language.specs.Standing.{StandsFor, event}
 use Rattle.journal_laws.proofs.Undone.{stands_run}
 use Rattle.commit_book.specs.declared.done.Done.{Done}
 use Rattle.commit_book.specs.declared.done.Done.TheVariants.{Taken, Parked, Undone, Stale, Over}

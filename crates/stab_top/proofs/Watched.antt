@@ -6,7 +6,7 @@ use Rattle.stab_files.specs.Entry.{Entry}
 use Rattle.stab_journal.specs.declared.event.Event.{Event}
 use Rattle.stab_words.specs.Command.{most_workers}
 use Rattle.commit_book.specs.Book.{BookView}
-use Rattle.plain_language.specs.Shown.{line}
+use Rattle.language.specs.Shown.{line}
 use Rattle.turn_floor.specs.Served.{AreOf}
 use Rattle.sink_lines.specs.Device.{Device}
 use Rattle.worker_rounds.specs.declared.rounds.Stop.{Stop}

@@ -3,7 +3,7 @@ use Rattle.std.specs.Prelude.{◌≡◌, ℕ, ℤ, ◌≤◌, List, [], ◌++◌
 use Rattle.commit_book.specs.Book.{BookView}
 use Rattle.drill_text.specs.declared.script.Line.{Line}
 use Rattle.lone_worker.specs.Desk.{desk_of}
-use Rattle.plain_language.specs.Plain.{PlainState, end_of}
+use Rattle.language.specs.Plain.{PlainState, end_of}
 use Rattle.schedule_drill.specs.declared.fault.DrillFault.{DrillFault}
 use Rattle.stab_base.specs.declared.numbers.FnId.{FnId}
 use Rattle.stab_code.specs.JobParts.{JobParts}

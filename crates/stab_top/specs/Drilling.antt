@@ -3,7 +3,7 @@ use Rattle.std.specs.Prelude.{◌≡◌, ℕ, List, ◌++◌, Some}
 use Rattle.stab_code.specs.JobParts.{JobParts}
 use Rattle.stab_journal.specs.declared.event.Numbered.{Numbered}
 use Rattle.stab_journal.specs.Script.{FollowsScript}
-use Rattle.plain_language.specs.Plain.{PlainState}
+use Rattle.language.specs.Plain.{PlainState}
 use Rattle.commit_book.specs.Book.{BookView, ShowsRun}
 use Rattle.book_text.specs.Written.{IsShownText}
 use Rattle.drill_text.specs.Script.{script_of}

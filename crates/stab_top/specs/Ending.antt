@@ -11,9 +11,9 @@ use Rattle.stab_journal.specs.Event.{weight_of}
 use Rattle.stab_journal.specs.Journal.{Journal}
 use Rattle.stab_journal.specs.Script.{FollowsScript}
 use Rattle.thread_slots.specs.declared.state.State.TheVariants.{Ready, Leased}
-use Rattle.plain_language.specs.Plain.{PlainState, language_of}
-use Rattle.plain_language.specs.Quiet.{IsQuiet}
-use Rattle.plain_language.specs.Shown.{line, shown}
+use Rattle.language.specs.Plain.{PlainState, language_of}
+use Rattle.language.specs.Quiet.{IsQuiet}
+use Rattle.language.specs.Shown.{line, shown}
 use Rattle.commit_book.specs.Book.{BookView, ShowsRun}
 use Rattle.commit_book.specs.Counts.{in_state, is_undo}
 use Rattle.lone_worker.specs.declared.worker.RunEnd.{RunEnd}

@@ -14,8 +14,8 @@ use Rattle.stab_journal.specs.Surviving.{run_of}
 use Rattle.stab_words.specs.declared.request.Request.{Request}
 use Rattle.stab_words.specs.declared.request.Request.TheVariants.{Drill, Mill, Run, Trace, Watch}
 use Rattle.stab_words.specs.declared.request.RunArgs.{RunArgs}
-use Rattle.plain_language.specs.Plain.{PlainState}
-use Rattle.plain_language.specs.Standing.{event}
+use Rattle.language.specs.Plain.{PlainState}
+use Rattle.language.specs.Standing.{event}
 use Rattle.commit_book.specs.Book.{BookView}
 use Rattle.commit_book.specs.Headline.{HasRun, IsGranted, StandsIn}
 use Rattle.schedule_drill.specs.Solo.{IsDrilledByOne}

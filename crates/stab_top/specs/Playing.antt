@@ -1,7 +1,7 @@
 -- How far a run came if its lines are written as they are released.
 use Rattle.std.specs.Prelude.{◌≡◌, ◌⊎◌, ℕ, List, ◌++◌}
 use Rattle.stab_code.specs.JobParts.{JobParts}
-use Rattle.plain_language.specs.Plain.{PlainState}
+use Rattle.language.specs.Plain.{PlainState}
 use Rattle.commit_book.specs.Book.{BookView, IsShown}
 use Rattle.book_text.specs.Written.{IsRestText, released_lines}
 use Rattle.lone_worker.specs.declared.worker.RunEnd.{RunEnd}

@@ -2,7 +2,7 @@
 use Rattle.std.specs.Prelude.{◌≡◌, ◌++◌, ℕ, Bool, true, false, List, Err, ◌⊎◌}
 use Rattle.image_laws.specs.Image.{Image}
 use Rattle.image_run.specs.declared.going.Resumed.{Resumed}
-use Rattle.plain_language.specs.Shown.{shown, value_lines}
+use Rattle.language.specs.Shown.{shown, value_lines}
 use Rattle.state_text.specs.Ended.{AllDone, SomeHeld}
 use Rattle.stab_code.specs.Program.{ProgramParts}
 use Rattle.stab_image.specs.declared.fault.ImageFault.{ImageFault}

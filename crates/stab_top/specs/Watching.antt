@@ -2,8 +2,8 @@
 use Rattle.std.specs.Prelude.{ℕ, List, [], ◌++◌, codes, decimal}
 use Rattle.stab_journal.specs.declared.event.Event.{Event}
 use Rattle.stab_journal.specs.Event.{weight_of}
-use Rattle.plain_language.specs.Plain.{PlainState}
-use Rattle.plain_language.specs.Shown.{line}
+use Rattle.language.specs.Plain.{PlainState}
+use Rattle.language.specs.Shown.{line}
 use Rattle.commit_book.specs.Book.{BookView}
 use Rattle.stab_watch.specs.Counts.{cuts_in, undos_in}
 use Rattle.stab_words.specs.Command.{most_workers}

@@ -13,11 +13,11 @@ use Rattle.stab_code.specs.declared.head.Op.TheVariants.{Or, And, Lt, Le, Gt, Ge
 use Rattle.stab_code.specs.Heads.{slots_of, strict_parts}
 use Rattle.stab_code.specs.Program.{FunctionParts}
 use Rattle.stab_code.specs.Written.{Written, unit_type, bool_type, int_type, chan_type, ref_type, pair_type}
-use Rattle.plain_language.specs.Expression.{Expr, value, Parts, none, part, put_parts, only}
-use Rattle.plain_language.specs.Numbers.{fits_word}
-use Rattle.plain_language.specs.Redex.{after_values}
-use Rattle.plain_language.specs.Outcome.{Outcome, becomes, fails, acts, with_one, with_two, with_truth, with_number, with_chan, with_reference, with_pair, with_numbers, number, divided, by_operator, waiting_one, two_of, block_of, after_item, branch_of, pair_of, called, outcome}
-use Rattle.plain_language.specs.Table.{Act, spawns, makes_chan, makes_ref, gets, sets, sends, receives, picks, enters, stabilizes, cuts, pins, prints, probes, attempts}
+use Rattle.language.specs.Expression.{Expr, value, Parts, none, part, put_parts, only}
+use Rattle.language.specs.Numbers.{fits_word}
+use Rattle.language.specs.Redex.{after_values}
+use Rattle.language.specs.Outcome.{Outcome, becomes, fails, acts, with_one, with_two, with_truth, with_number, with_chan, with_reference, with_pair, with_numbers, number, divided, by_operator, waiting_one, two_of, block_of, after_item, branch_of, pair_of, called, outcome}
+use Rattle.language.specs.Table.{Act, spawns, makes_chan, makes_ref, gets, sets, sends, receives, picks, enters, stabilizes, cuts, pins, prints, probes, attempts}
 use Rattle.stab_types.specs.ExprType.{ExprType, of, never, has_never, all_of}
 use Rattle.stab_types.specs.Rule.{Rule, from_numbers, block_type, stops, unit_literal, truth_literal, int_literal, text_literal, variable as seen_variable, block, branches, else_branch, then_branch, and_value, and_never, or_value, or_never, numbers, equal, unequal, not, negative, pair as new_pair, first, second, call, stable, spawn, new_channel, new_reference, get, set, send, receive, pick, stabilize, cut, pin, print, probe, attempt}
 use Rattle.stab_types.specs.Typed.{Seen, behind}

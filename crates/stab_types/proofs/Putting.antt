@@ -4,7 +4,7 @@ use Rattle.std.proofs.lemmas.Bool.{eqb-true}
 use Rattle.std.proofs.lemmas.Bool.Decides.{nat_tests}
 use Rattle.stab_base.specs.Datum.{Datum}
 use Rattle.stab_code.specs.Program.{FunctionParts}
-use Rattle.plain_language.specs.Expression.{Expr, value, variable, failed, form, Parts, none, part, put_variable, put, put_parts, only}
+use Rattle.language.specs.Expression.{Expr, value, variable, failed, form, Parts, none, part, put_variable, put, put_parts, only}
 use Rattle.stab_types.specs.ExprType.{ExprType}
 use Rattle.stab_types.specs.Typed.{Seen, behind}
 use Rattle.stab_types.proofs.World.{World, FitsType, AllFit, IsUnder, under_refl}

@@ -9,13 +9,13 @@ use Rattle.stab_code.specs.declared.head.Head.TheVariants as code_head
 use Rattle.stab_code.specs.declared.head.Op.TheVariants.{Or, And}
 use Rattle.stab_code.specs.Heads.{slots_of}
 use Rattle.stab_code.specs.Program.{FunctionParts}
-use Rattle.plain_language.specs.declared.head.Head.{Head}
-use Rattle.plain_language.specs.declared.head.Head.TheVariants.{Block}
-use Rattle.plain_language.specs.Expression.{Expr, value, variable, failed, form, Parts, none, part}
-use Rattle.plain_language.specs.Redex.{first_counts_alone, Frame, after_values, within, Redex, redex_of, redex_in, redex, frames_of, frames, rebuild, spine, max_spine, cap}
-use Rattle.plain_language.specs.Outcome.{Outcome, becomes, fails, acts, called, outcome}
-use Rattle.plain_language.specs.Look.{look_by, look_at, look}
-use Rattle.plain_language.specs.Table.{Look, done, fault, act, pure}
+use Rattle.language.specs.declared.head.Head.{Head}
+use Rattle.language.specs.declared.head.Head.TheVariants.{Block}
+use Rattle.language.specs.Expression.{Expr, value, variable, failed, form, Parts, none, part}
+use Rattle.language.specs.Redex.{first_counts_alone, Frame, after_values, within, Redex, redex_of, redex_in, redex, frames_of, frames, rebuild, spine, max_spine, cap}
+use Rattle.language.specs.Outcome.{Outcome, becomes, fails, acts, called, outcome}
+use Rattle.language.specs.Look.{look_by, look_at, look}
+use Rattle.language.specs.Table.{Look, done, fault, act, pure}
 use Rattle.stab_types.specs.ExprType.{ExprType, of, all_of}
 use Rattle.stab_types.specs.Typed.{behind}
 use Rattle.stab_types.proofs.World.{World, IsMore, same_world, AllFit, IsUnder, under_refl, fits_type_more}

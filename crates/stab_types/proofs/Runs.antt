@@ -10,13 +10,13 @@ use Rattle.stab_code.specs.Program.{FunctionParts, ProgramParts}
 use Rattle.stab_code.specs.Valid.{IsValid}
 use Rattle.stab_journal.specs.declared.event.Label.{Label}
 use Rattle.stab_journal.specs.declared.event.Numbered.{Numbered}
-use Rattle.plain_language.specs.Expression.{Expr}
-use Rattle.plain_language.specs.Outcome.{called}
-use Rattle.plain_language.specs.Program.{body}
-use Rattle.plain_language.specs.Plain.{PlainState, effect_of, start, standing, look_in, IsRun}
-use Rattle.plain_language.specs.Steps.{State, Table, plain, after_steps}
-use Rattle.plain_language.specs.Table.{fault}
-use Rattle.plain_language.proofs.Applying.{get_inserted}
+use Rattle.language.specs.Expression.{Expr}
+use Rattle.language.specs.Outcome.{called}
+use Rattle.language.specs.Program.{body}
+use Rattle.language.specs.Plain.{PlainState, effect_of, start, standing, look_in, IsRun}
+use Rattle.language.specs.Steps.{State, Table, plain, after_steps}
+use Rattle.language.specs.Table.{fault}
+use Rattle.language.proofs.Applying.{get_inserted}
 use Rattle.stab_types.specs.ExprType.{of, all_of}
 use Rattle.stab_types.specs.Typed.{IsTyped}
 use Rattle.stab_types.proofs.World.{World, AllFit}

@@ -18,16 +18,16 @@ use Rattle.stab_journal.specs.declared.event.Label.{Label}
 use Rattle.stab_journal.specs.declared.event.Label.TheVariants.{Local, Spawn, NewChan, Comm, NewRef, Get, Set, Enter, Cut, Print, Probe, Refuse, Pin, Attempt}
 use Rattle.stab_journal.specs.Label.{actors, touched, written}
 use Rattle.stab_journal.specs.Names.{read, made}
-use Rattle.plain_language.specs.Numbers.{fits_word}
-use Rattle.plain_language.specs.Expression.{Expr, value, form, none, part}
-use Rattle.plain_language.specs.declared.head.Head.TheVariants.{Section}
-use Rattle.plain_language.specs.Redex.{cap, rebuild}
-use Rattle.plain_language.specs.Outcome.{called}
-use Rattle.plain_language.specs.Look.{look, language, answered}
-use Rattle.plain_language.specs.Steps.{State, Effect, allows, exprs_at, held_at, put_threads, put_value, put_channel, apply, plain}
-use Rattle.plain_language.specs.Table.{spawns, makes_chan, makes_ref, gets, sets, sends, receives, picks, enters, stabilizes, cuts, pins, prints, probes, attempts, Look, done, fault, act, pure, Language, pure_of, pure_steps, to, local_by, spawn_by, chan_by, ref_by, get_by, set_by, sent_by, picked, received_by, comm_by, enter_by, cut_by, pin_by, print_by, probe_by, refuse_by, attempt_by, effect}
-use Rattle.plain_language.proofs.Applying.{get_inserted, put_channel-is}
-use Rattle.plain_language.proofs.Touching.{step_of}
+use Rattle.language.specs.Numbers.{fits_word}
+use Rattle.language.specs.Expression.{Expr, value, form, none, part}
+use Rattle.language.specs.declared.head.Head.TheVariants.{Section}
+use Rattle.language.specs.Redex.{cap, rebuild}
+use Rattle.language.specs.Outcome.{called}
+use Rattle.language.specs.Look.{look, language, answered}
+use Rattle.language.specs.Steps.{State, Effect, allows, exprs_at, held_at, put_threads, put_value, put_channel, apply, plain}
+use Rattle.language.specs.Table.{spawns, makes_chan, makes_ref, gets, sets, sends, receives, picks, enters, stabilizes, cuts, pins, prints, probes, attempts, Look, done, fault, act, pure, Language, pure_of, pure_steps, to, local_by, spawn_by, chan_by, ref_by, get_by, set_by, sent_by, picked, received_by, comm_by, enter_by, cut_by, pin_by, print_by, probe_by, refuse_by, attempt_by, effect}
+use Rattle.language.proofs.Applying.{get_inserted, put_channel-is}
+use Rattle.language.proofs.Touching.{step_of}
 use Rattle.stab_types.specs.ExprType.{ExprType, of, all_of}
 use Rattle.stab_types.proofs.World.{World, IsMore, same_world, Fits, FitsType, AllFit, under_refl, fits_more}
 use Rattle.stab_types.proofs.Running.{Runs, section, nothing_seen}

@@ -15,8 +15,8 @@ use Rattle.stab_code.specs.Trees.{Tree, Trees, tree, none, more, fold_all}
 use Rattle.stab_code.specs.Valid.{IsValid, head_parts}
 use Rattle.stab_code.specs.Written.{Written, unit_type, bool_type, int_type, text_type}
 use Rattle.stab_code.proofs.Lists.{All-at}
-use Rattle.plain_language.specs.Outcome.{called}
-use Rattle.plain_language.specs.Program.{form_of, expr_of, exprs_of, body_by, body}
+use Rattle.language.specs.Outcome.{called}
+use Rattle.language.specs.Program.{form_of, expr_of, exprs_of, body_by, body}
 use Rattle.stab_types.specs.ExprType.{ExprType, of, never, has_never, all_of}
 use Rattle.stab_types.specs.Rule.{Rule, stops, unit_literal, truth_literal, int_literal, text_literal, variable as seen_variable}
 use Rattle.stab_types.specs.Typed.{Seen, behind, HasType, HaveTypes, parameters, IsBodyTyped, IsTyped}

@@ -4,8 +4,8 @@ ghost use Rattle.stab_base.specs.declared.fault.Fault.TheVariants.{WrongKind};
 ghost use Rattle.stab_code.specs.Program.{ProgramParts};
 ghost use Rattle.stab_code.specs.Valid.{IsValid};
 ghost use Rattle.stab_journal.specs.declared.event.Numbered.{Numbered};
-ghost use Rattle.plain_language.specs.Plain.{IsRun, PlainState, look_in, standing};
-ghost use Rattle.plain_language.specs.Table.{fault};
+ghost use Rattle.language.specs.Plain.{IsRun, PlainState, look_in, standing};
+ghost use Rattle.language.specs.Table.{fault};
 ghost use Rattle.stab_types.specs.Typed.{IsTyped};
 
 use stab_code::forms_fit;

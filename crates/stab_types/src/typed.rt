@@ -2,8 +2,8 @@
 ghost use Rattle.std.specs.Prelude.{◌≡◌, ℕ, IfSome};
 ghost use Rattle.std.specs.Arc.{arc_value};
 ghost use Rattle.stab_base.specs.declared.fault.Fault.TheVariants.{WrongKind};
-ghost use Rattle.plain_language.specs.Plain.{IsRun, PlainState, look_in, standing};
-ghost use Rattle.plain_language.specs.Table.{fault};
+ghost use Rattle.language.specs.Plain.{IsRun, PlainState, look_in, standing};
+ghost use Rattle.language.specs.Table.{fault};
 
 use stab_base::{FnId, NoMemory};
 use stab_code::{Program, forms_fit};

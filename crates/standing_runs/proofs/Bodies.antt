@@ -19,10 +19,10 @@ use Rattle.stab_code.specs.Valid.{HasItem, IsValid, head_parts}
 use Rattle.stab_code.proofs.AllForms.{HoldsOf, forms-bodies}
 use Rattle.stab_code.proofs.InOrder.{size_of_bodies}
 use Rattle.stab_code.proofs.Lists.{All-at}
-use Rattle.plain_language.specs.declared.head.Head.{Head}
-use Rattle.plain_language.specs.Expression.{Parts, put}
-use Rattle.plain_language.specs.Outcome.{called}
-use Rattle.plain_language.specs.Program.{body, body_by, expr_of, exprs_of, form_of}
+use Rattle.language.specs.declared.head.Head.{Head}
+use Rattle.language.specs.Expression.{Parts, put}
+use Rattle.language.specs.Outcome.{called}
+use Rattle.language.specs.Program.{body, body_by, expr_of, exprs_of, form_of}
 use Rattle.expression_text.specs.Spelling.{arity, count}
 use Rattle.standing_runs.specs.Numbers.{HasNumbers, NumbersFit}
 use Rattle.standing_runs.specs.Whole.{bound_by, is_bound, IsValue, IsHead, IsForm, IsWhole, AreWhole, Takes}

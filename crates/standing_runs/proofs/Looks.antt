@@ -8,14 +8,14 @@ use Rattle.stab_base.specs.Limits.{max_depth, max_leaves}
 use Rattle.stab_base.specs.declared.fault.Fault.TheVariants.{TooDeep}
 use Rattle.stab_code.specs.Program.{ProgramParts}
 use Rattle.stab_code.specs.Valid.{IsValid}
-use Rattle.plain_language.specs.declared.head.Head.TheVariants.{Section}
-use Rattle.plain_language.specs.Depth.{depth, depth_of_parts}
-use Rattle.plain_language.specs.Expression.{Expr, value, variable, failed, form, Parts, none, part}
-use Rattle.plain_language.specs.Look.{answered, entered, look, look_at, look_by}
-use Rattle.plain_language.specs.Outcome.{Outcome, becomes, fails, acts, outcome}
-use Rattle.plain_language.specs.Program.{body}
-use Rattle.plain_language.specs.Redex.{Frame, after_values, cap, frames, frames_of, max_spine, rebuild, redex, Redex, spine, within}
-use Rattle.plain_language.specs.Table.{Look, done, fault, act, pure}
+use Rattle.language.specs.declared.head.Head.TheVariants.{Section}
+use Rattle.language.specs.Depth.{depth, depth_of_parts}
+use Rattle.language.specs.Expression.{Expr, value, variable, failed, form, Parts, none, part}
+use Rattle.language.specs.Look.{answered, entered, look, look_at, look_by}
+use Rattle.language.specs.Outcome.{Outcome, becomes, fails, acts, outcome}
+use Rattle.language.specs.Program.{body}
+use Rattle.language.specs.Redex.{Frame, after_values, cap, frames, frames_of, max_spine, rebuild, redex, Redex, spine, within}
+use Rattle.language.specs.Table.{Look, done, fault, act, pure}
 use Rattle.standing_runs.specs.Numbers.{NumbersFit}
 use Rattle.standing_runs.specs.Standing.{IsBounded, IsThread}
 use Rattle.expression_text.specs.Spelling.{items_of}

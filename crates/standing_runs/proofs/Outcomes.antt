@@ -10,14 +10,14 @@ use Rattle.stab_base.specs.Limits.{is_within_limits}
 use Rattle.stab_code.specs.Program.{ProgramParts}
 use Rattle.stab_code.specs.declared.head.Op.{Op}
 use Rattle.stab_code.specs.declared.head.Op.TheVariants.{Or, And, Eq, Ne, Lt, Le, Gt, Ge, Add, Sub, Mul, Div, Rem}
-use Rattle.plain_language.specs.declared.head.Head.{Head}
-use Rattle.plain_language.specs.declared.head.Head.TheVariants.{Block, If, Two, Not, Neg, Pair, Fst, Snd, Call, Spawn, Stable, NewChan, NewRef, Get, Set, Send, Recv, Pick, Stabilize, Cut, Pin, Print, Probe, Attempt, Section}
-use Rattle.plain_language.specs.Expression.{Expr, value, Parts, none, part, put_parts, only}
-use Rattle.plain_language.specs.Numbers.{fits_word}
-use Rattle.plain_language.specs.Outcome.{Outcome, becomes, fails, acts, with_one, with_two, with_truth, with_number, with_chan, with_reference, with_pair, with_numbers, number, divided, by_operator, waiting_one, two_of, block_of, after_item, branch_of, pair_of, called, outcome}
-use Rattle.plain_language.specs.Program.{body}
-use Rattle.plain_language.specs.Redex.{first_counts_alone, after_values}
-use Rattle.plain_language.specs.Table.{Act, spawns, makes_ref, sets, sends, enters, prints}
+use Rattle.language.specs.declared.head.Head.{Head}
+use Rattle.language.specs.declared.head.Head.TheVariants.{Block, If, Two, Not, Neg, Pair, Fst, Snd, Call, Spawn, Stable, NewChan, NewRef, Get, Set, Send, Recv, Pick, Stabilize, Cut, Pin, Print, Probe, Attempt, Section}
+use Rattle.language.specs.Expression.{Expr, value, Parts, none, part, put_parts, only}
+use Rattle.language.specs.Numbers.{fits_word}
+use Rattle.language.specs.Outcome.{Outcome, becomes, fails, acts, with_one, with_two, with_truth, with_number, with_chan, with_reference, with_pair, with_numbers, number, divided, by_operator, waiting_one, two_of, block_of, after_item, branch_of, pair_of, called, outcome}
+use Rattle.language.specs.Program.{body}
+use Rattle.language.specs.Redex.{first_counts_alone, after_values}
+use Rattle.language.specs.Table.{Act, spawns, makes_ref, sets, sends, enters, prints}
 use Rattle.expression_text.specs.Spelling.{count, items_of}
 use Rattle.standing_runs.specs.Numbers.{IsSlot}
 use Rattle.standing_runs.specs.Whole.{bound_by, IsValue, IsForm, IsWhole, AreWhole, Takes}

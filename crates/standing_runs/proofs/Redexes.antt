@@ -4,11 +4,11 @@ use Rattle.std.specs.List.{AllByRecursion}
 use Rattle.std.proofs.lemmas.Bool.{false≢true}
 use Rattle.stab_base.specs.Datum.{Datum}
 use Rattle.stab_code.specs.Program.{ProgramParts}
-use Rattle.plain_language.specs.declared.head.Head.{Head}
-use Rattle.plain_language.specs.declared.head.Head.TheVariants.{Block}
-use Rattle.plain_language.specs.Expression.{Expr, value, variable, failed, form, Parts, none, part}
-use Rattle.plain_language.specs.Frames.{IsFrame, AreFrames}
-use Rattle.plain_language.specs.Redex.{first_counts_alone, Frame, after_values, within, Redex, redex_of, redex_in, redex, frames_of, frames}
+use Rattle.language.specs.declared.head.Head.{Head}
+use Rattle.language.specs.declared.head.Head.TheVariants.{Block}
+use Rattle.language.specs.Expression.{Expr, value, variable, failed, form, Parts, none, part}
+use Rattle.language.specs.Frames.{IsFrame, AreFrames}
+use Rattle.language.specs.Redex.{first_counts_alone, Frame, after_values, within, Redex, redex_of, redex_in, redex, frames_of, frames}
 use Rattle.expression_text.specs.Spelling.{count, items_of}
 use Rattle.standing_runs.specs.Whole.{IsValue, IsForm, IsWhole, AreWhole}
 

@@ -6,11 +6,11 @@ use Rattle.std.specs.Ordering.{nat_cmp}
 use Rattle.stab_code.specs.Program.{ProgramParts}
 use Rattle.stab_code.specs.Valid.{IsValid}
 use Rattle.stab_journal.specs.declared.event.Numbered.{Numbered}
-use Rattle.plain_language.specs.Expression.{Expr}
-use Rattle.plain_language.specs.Outcome.{called}
-use Rattle.plain_language.specs.Plain.{IsRun, PlainState, effect_of, start}
-use Rattle.plain_language.specs.Program.{body}
-use Rattle.plain_language.proofs.Applying.{get_inserted}
+use Rattle.language.specs.Expression.{Expr}
+use Rattle.language.specs.Outcome.{called}
+use Rattle.language.specs.Plain.{IsRun, PlainState, effect_of, start}
+use Rattle.language.specs.Program.{body}
+use Rattle.language.proofs.Applying.{get_inserted}
 use Rattle.journal_laws.proofs.Runs.{run_keeps}
 use Rattle.journal_laws.proofs.Surviving.{some_is, some_none}
 use Rattle.standing_runs.specs.Numbers.{NumbersFit}

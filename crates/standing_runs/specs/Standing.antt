@@ -4,10 +4,10 @@ use Rattle.std.specs.List.{AllByRecursion}
 use Rattle.std.specs.FinMap as map
 use Rattle.stab_base.specs.Datum.{Datum}
 use Rattle.stab_code.specs.Program.{ProgramParts}
-use Rattle.plain_language.specs.Depth.{depth, max_expr_depth}
-use Rattle.plain_language.specs.Expression.{Expr, failed}
-use Rattle.plain_language.specs.Plain.{PlainState}
-use Rattle.plain_language.specs.Redex.{max_spine, spine}
+use Rattle.language.specs.Depth.{depth, max_expr_depth}
+use Rattle.language.specs.Expression.{Expr, failed}
+use Rattle.language.specs.Plain.{PlainState}
+use Rattle.language.specs.Redex.{max_spine, spine}
 use Rattle.standing_runs.specs.Whole.{IsValue, IsWhole}
 
 -- no variable is open, at most 1,000 forms stand round the redex, and it is no deeper than 1,300

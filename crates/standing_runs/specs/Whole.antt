@@ -5,9 +5,9 @@ use Rattle.std.specs.List.{AllByRecursion, list_any}
 use Rattle.stab_base.specs.Datum.{Datum, int, text, pair}
 use Rattle.stab_base.specs.Limits.{is_within_limits}
 use Rattle.stab_code.specs.Program.{FunctionParts, ProgramParts, arity_of}
-use Rattle.plain_language.specs.declared.head.Head.{Head}
-use Rattle.plain_language.specs.declared.head.Head.TheVariants.{Block, Call, Spawn, Stable}
-use Rattle.plain_language.specs.Expression.{Expr, value, variable, failed, form, Parts, none, part}
+use Rattle.language.specs.declared.head.Head.{Head}
+use Rattle.language.specs.declared.head.Head.TheVariants.{Block, Call, Spawn, Stable}
+use Rattle.language.specs.Expression.{Expr, value, variable, failed, form, Parts, none, part}
 use Rattle.expression_text.specs.Spelling.{arity, count, items_of}
 use Rattle.standing_runs.specs.Numbers.{IsSlot}
 

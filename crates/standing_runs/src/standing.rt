@@ -2,7 +2,7 @@
 ghost use Rattle.std.specs.Prelude.{List};
 ghost use Rattle.stab_code.specs.Valid.{CountsAreWithin};
 ghost use Rattle.stab_journal.specs.declared.event.Numbered.{Numbered};
-ghost use Rattle.plain_language.specs.Plain.{IsRun, PlainState};
+ghost use Rattle.language.specs.Plain.{IsRun, PlainState};
 ghost use Rattle.standing_runs.specs.Standing.{IsStanding};
 
 use crate::numbers::numbers_fit;

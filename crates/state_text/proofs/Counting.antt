@@ -5,12 +5,12 @@ use Rattle.std.specs.FinMap as map
 use Rattle.std.specs.FinMap.{FinMap, entries}
 use Rattle.std.specs.Ordering.{nat_cmp}
 use Rattle.std.proofs.lemmas.List.Sums.{sum_by-cons}
-use Rattle.plain_language.specs.Above.{IsLeastAbove}
-use Rattle.plain_language.specs.Expression.{Expr}
-use Rattle.plain_language.specs.Plain.{look_in}
+use Rattle.language.specs.Above.{IsLeastAbove}
+use Rattle.language.specs.Expression.{Expr}
+use Rattle.language.specs.Plain.{look_in}
 use Rattle.plain_language.specs.Seen.{seen}
-use Rattle.plain_language.specs.Shown.{is_done, is_fault}
-use Rattle.plain_language.specs.Table.{Look, done, fault, act, pure}
+use Rattle.language.specs.Shown.{is_done, is_fault}
+use Rattle.language.specs.Table.{Look, done, fault, act, pure}
 use Rattle.stab_code.specs.Program.{ProgramParts}
 use Rattle.image_text.proofs.Left.{IsLeft, IsNextOf, all_left, next_left, none_left}
 use Rattle.state_text.specs.declared.counts.Counts.{Counts}

@@ -5,12 +5,12 @@ use Rattle.std.specs.FinMap as map
 use Rattle.std.proofs.lemmas.Bool.{false≢true, ltb-true, ltb-false}
 use Rattle.stab_base.specs.declared.fault.Fault.{Fault}
 use Rattle.plain_language.specs.declared.look.Look.TheVariants.{Done, Failed}
-use Rattle.plain_language.specs.Above.{IsLeastAbove}
-use Rattle.plain_language.specs.Expression.{Expr}
-use Rattle.plain_language.specs.Plain.{PlainState, look_in, standing}
+use Rattle.language.specs.Above.{IsLeastAbove}
+use Rattle.language.specs.Expression.{Expr}
+use Rattle.language.specs.Plain.{PlainState, look_in, standing}
 use Rattle.plain_language.specs.Seen.{seen}
-use Rattle.plain_language.specs.Shown.{fault_line, is_done}
-use Rattle.plain_language.specs.Table.{Look, done, fault, act, pure}
+use Rattle.language.specs.Shown.{fault_line, is_done}
+use Rattle.language.specs.Table.{Look, done, fault, act, pure}
 use Rattle.stab_code.specs.Program.{ProgramParts}
 
 pub done_is : (l : Look Expr) → Done ≡ seen l → is_done l ≡ true

@@ -2,9 +2,9 @@
 use Rattle.std.specs.Prelude.{◌≡◌, ◌+◌, not, ◌&&◌, List, count_by}
 use Rattle.plain_language.specs.declared.look.Look as told
 use Rattle.plain_language.specs.declared.look.Look.TheVariants.{Done, Failed, Pure, Act}
-use Rattle.plain_language.specs.Expression.{Expr}
-use Rattle.plain_language.specs.Shown.{is_done, is_fault}
-use Rattle.plain_language.specs.Table.{Look}
+use Rattle.language.specs.Expression.{Expr}
+use Rattle.language.specs.Shown.{is_done, is_fault}
+use Rattle.language.specs.Table.{Look}
 use Rattle.state_text.specs.declared.counts.Counts.{Counts}
 
 -- these threads are counted

@@ -1,7 +1,7 @@
 -- Whether the threads of a state ended.
 use Rattle.std.specs.Prelude.{◌≡◌, ℕ, true, false, IfSome, IsSomeAnd}
-use Rattle.plain_language.specs.Plain.{PlainState, look_in, standing}
-use Rattle.plain_language.specs.Shown.{is_done}
+use Rattle.language.specs.Plain.{PlainState, look_in, standing}
+use Rattle.language.specs.Shown.{is_done}
 use Rattle.stab_code.specs.Program.{ProgramParts}
 
 -- every thread of the state ended without a fault; and one failed or waits

@@ -2,9 +2,9 @@
 use Rattle.std.specs.Prelude.{ℕ, List}
 use Rattle.std.specs.List.{flat_map}
 use Rattle.std.specs.FinMap as map
-use Rattle.plain_language.specs.Expression.{Expr}
-use Rattle.plain_language.specs.Plain.{PlainState, look_in}
-use Rattle.plain_language.specs.Shown.{fault_line}
+use Rattle.language.specs.Expression.{Expr}
+use Rattle.language.specs.Plain.{PlainState, look_in}
+use Rattle.language.specs.Shown.{fault_line}
 use Rattle.stab_code.specs.Program.{ProgramParts}
 
 -- the line of a thread that failed, and none of another

@@ -1,7 +1,7 @@
 //! How many threads of a state ended, failed and wait.
 ghost use Rattle.std.specs.Prelude.{◌≡◌, ◌<◌, None, map as each};
 ghost use Rattle.std.specs.FinMap as map;
-ghost use Rattle.plain_language.specs.Plain.{look_in, standing};
+ghost use Rattle.language.specs.Plain.{look_in, standing};
 ghost use Rattle.state_text.specs.Counts.{AreCounts, counted};
 
 use plain_language::{Look, PlainState};

@@ -1,6 +1,6 @@
 //! Whether all threads of a state ended.
 ghost use Rattle.std.specs.Prelude.{◌≡◌, None, true, false};
-ghost use Rattle.plain_language.specs.Plain.{standing};
+ghost use Rattle.language.specs.Plain.{standing};
 ghost use Rattle.state_text.specs.Ended.{AllDone, SomeHeld};
 
 use plain_language::{Look, PlainState};

@@ -3,9 +3,9 @@ ghost use Rattle.std.specs.Prelude.{◌≡◌, ◌≤◌, ◌++◌, IfOk, None, 
 ghost use Rattle.std.specs.FinMap as map;
 ghost use Rattle.std.specs.List.{flat_map};
 ghost use Rattle.stab_base.specs.Printed.{printed};
-ghost use Rattle.plain_language.specs.Plain.{look_in, standing};
-ghost use Rattle.plain_language.specs.Shown.{count_line, fault_line, line, shown, value_lines};
-ghost use Rattle.plain_language.specs.Table.{fault as failed};
+ghost use Rattle.language.specs.Plain.{look_in, standing};
+ghost use Rattle.language.specs.Shown.{count_line, fault_line, line, shown, value_lines};
+ghost use Rattle.language.specs.Table.{fault as failed};
 ghost use Rattle.state_text.specs.Text.{fault_lines};
 
 use crate::counts::counts_of;

@@ -5,11 +5,11 @@ use Rattle.stab_base.specs.Datum.{Datum}
 use Rattle.stab_base.specs.declared.numbers.Seq.{Seq}
 use Rattle.stab_code.specs.declared.node_id.NodeId.{NodeId}
 use Rattle.stab_code.specs.Program.{ProgramParts, tree_at}
-use Rattle.plain_language.specs.Expression.{put}
-use Rattle.plain_language.specs.Expression as expr
-use Rattle.plain_language.specs.Outcome.{called}
-use Rattle.plain_language.specs.Program.{body, expr_of}
-use Rattle.plain_language.specs.Redex.{frames, frames_of}
+use Rattle.language.specs.Expression.{put}
+use Rattle.language.specs.Expression as expr
+use Rattle.language.specs.Outcome.{called}
+use Rattle.language.specs.Program.{body, expr_of}
+use Rattle.language.specs.Redex.{frames, frames_of}
 use Rattle.step_eval.specs.declared.machine.Focus.{Focus}
 use Rattle.step_eval.specs.declared.machine.Focus.TheVariants as focus
 use Rattle.step_eval.specs.declared.machine.Machine.{Machine}

@@ -4,12 +4,12 @@ use Rattle.stab_base.specs.Datum.{Datum}
 use Rattle.stab_base.specs.declared.numbers.Seq.{Seq}
 use Rattle.std.proofs.Common.{Option}
 use Rattle.stab_code.specs.Program.{ProgramParts}
-use Rattle.plain_language.specs.Acts.{told}
-use Rattle.plain_language.specs.Expression.{Expr, value, failed}
-use Rattle.plain_language.specs.Look.{look, look_by}
-use Rattle.plain_language.specs.Outcome.{Outcome, becomes, fails, acts}
-use Rattle.plain_language.specs.Program.{body}
-use Rattle.plain_language.specs.Table.{Look}
+use Rattle.language.specs.Outcome.{told}
+use Rattle.language.specs.Expression.{Expr, value, failed}
+use Rattle.language.specs.Look.{look, look_by}
+use Rattle.language.specs.Outcome.{Outcome, becomes, fails, acts}
+use Rattle.language.specs.Program.{body}
+use Rattle.language.specs.Table.{Look}
 use Rattle.step_eval.specs.declared.act.Act.{Act}
 use Rattle.step_eval.specs.declared.ask.Ask.{Ask}
 use Rattle.step_eval.specs.declared.ask.Ask.TheVariants as ask

@@ -9,10 +9,10 @@ use Rattle.stab_code.specs.Heads.{slots_of}
 use Rattle.stab_code.specs.Program.{ProgramParts, tree_at, trees_at}
 use Rattle.stab_code.specs.Trees.{Tree, Trees, tree, none, more}
 use Rattle.stab_code.specs.Valid.{IsValid, head_parts}
-use Rattle.plain_language.specs.declared.head.Head.TheVariants as head
-use Rattle.plain_language.specs.Expression.{Parts, form, put, put_parts}
-use Rattle.plain_language.specs.Outcome.{becomes, after_item, block_of, with_one}
-use Rattle.plain_language.specs.Program.{expr_of, exprs_of}
+use Rattle.language.specs.declared.head.Head.TheVariants as head
+use Rattle.language.specs.Expression.{Parts, form, put, put_parts}
+use Rattle.language.specs.Outcome.{becomes, after_item, block_of, with_one}
+use Rattle.language.specs.Program.{expr_of, exprs_of}
 use Rattle.step_eval.specs.declared.site.Site.TheVariants.{Form}
 use Rattle.step_eval.specs.FrameView.{FrameView}
 use Rattle.step_eval.specs.Fits.{FormFits, IsLeft}

@@ -9,9 +9,9 @@ use Rattle.stab_code.specs.Syntax.{lets_of, open_in}
 use Rattle.stab_code.specs.Valid.{IsValid}
 use Rattle.stab_code.proofs.InOrder.{body_there}
 use Rattle.stab_code.proofs.Lists.{All-at}
-use Rattle.plain_language.specs.Expression.{put}
-use Rattle.plain_language.specs.Outcome.{called}
-use Rattle.plain_language.specs.Program.{expr_of, body, body_by}
+use Rattle.language.specs.Expression.{put}
+use Rattle.language.specs.Outcome.{called}
+use Rattle.language.specs.Program.{expr_of, body, body_by}
 use Rattle.step_eval.specs.Scoped.{SlotsRise, IsScoped}
 use Rattle.step_eval.specs.Turns.{Takes}
 use Rattle.step_eval.specs.Entries.{IsBody, IsBodyEntry, entered}

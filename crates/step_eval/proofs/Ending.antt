@@ -6,9 +6,9 @@ use Rattle.stab_base.specs.declared.fault.Fault.{Fault}
 use Rattle.stab_code.specs.declared.node_id.NodeId.{NodeId}
 use Rattle.stab_code.specs.Program.{ProgramParts}
 use Rattle.stab_code.specs.Valid.{IsValid}
-use Rattle.plain_language.specs.declared.head.Head.{Head}
-use Rattle.plain_language.specs.Expression.{Expr, Parts, value, form}
-use Rattle.plain_language.specs.Redex.{Frame, within}
+use Rattle.language.specs.declared.head.Head.{Head}
+use Rattle.language.specs.Expression.{Expr, Parts, value, form}
+use Rattle.language.specs.Redex.{Frame, within}
 use Rattle.step_eval.specs.declared.act.Act.{Act}
 use Rattle.step_eval.specs.declared.machine.Focus.{Focus}
 use Rattle.step_eval.specs.declared.machine.Focus.TheVariants as focus

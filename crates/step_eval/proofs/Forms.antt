@@ -8,8 +8,8 @@ use Rattle.stab_code.specs.Nodes.{NodeParts}
 use Rattle.stab_code.specs.Program.{ProgramParts, tree_at, trees_at}
 use Rattle.stab_code.specs.Trees.{tree}
 use Rattle.stab_code.specs.Valid.{IsValid}
-use Rattle.plain_language.specs.Expression.{value, form, Parts, put, put_parts, put_variable}
-use Rattle.plain_language.specs.Program.{expr_of, exprs_of, form_of}
+use Rattle.language.specs.Expression.{value, form, Parts, put, put_parts, put_variable}
+use Rattle.language.specs.Program.{expr_of, exprs_of, form_of}
 use Rattle.step_eval.specs.Meaning.{node_at, head_of, form_at, at_start}
 use Rattle.step_eval.specs.Fits.{IsForm, IsLeft, FormFits}
 use Rattle.step_eval.specs.Scoped.{IsScoped}

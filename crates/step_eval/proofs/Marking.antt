@@ -5,8 +5,8 @@ use Rattle.stab_base.specs.declared.fault.Fault.{Fault}
 use Rattle.stab_base.specs.declared.numbers.Seq.{Seq}
 use Rattle.stab_code.specs.Program.{ProgramParts}
 use Rattle.stab_code.specs.Valid.{IsValid}
-use Rattle.plain_language.specs.Expression.{Expr, value}
-use Rattle.plain_language.specs.Redex.{mark}
+use Rattle.language.specs.Expression.{Expr, value}
+use Rattle.language.specs.Redex.{mark}
 use Rattle.step_eval.specs.declared.machine.Focus.{Focus}
 use Rattle.step_eval.specs.declared.machine.Focus.TheVariants as focus
 use Rattle.step_eval.specs.declared.machine.Machine.{Machine}

@@ -11,13 +11,13 @@ use Rattle.stab_code.specs.declared.head.Head.TheVariants.{Block, If, Two}
 use Rattle.stab_code.specs.declared.head.Op.TheVariants.{Or, And}
 use Rattle.stab_code.specs.Heads.{strict_parts}
 use Rattle.stab_code.specs.Program.{ProgramParts, trees_at}
-use Rattle.plain_language.specs.declared.head.Head.{Head}
-use Rattle.plain_language.specs.Expression.{Expr, Parts, failed, none, put_parts}
+use Rattle.language.specs.declared.head.Head.{Head}
+use Rattle.language.specs.Expression.{Expr, Parts, failed, none, put_parts}
 use Rattle.step_eval.specs.Arrival.{Arrives}
-use Rattle.plain_language.specs.Frames.{AreFrames}
-use Rattle.plain_language.specs.Program.{exprs_of}
-use Rattle.plain_language.specs.Redex.{Frame, Redex, after_values, cap, first_counts_alone, frames_of, innermost, mark, redex, redex_in, section_or, spine}
-use Rattle.plain_language.proofs.Unique.{redex-within}
+use Rattle.language.specs.Frames.{AreFrames}
+use Rattle.language.specs.Program.{exprs_of}
+use Rattle.language.specs.Redex.{Frame, Redex, after_values, cap, first_counts_alone, frames_of, innermost, mark, redex, redex_in, section_or, spine}
+use Rattle.language.proofs.Unique.{redex-within}
 use Rattle.step_eval.specs.declared.machine.Focus.{Focus}
 use Rattle.step_eval.specs.declared.machine.Focus.TheVariants as focus
 use Rattle.step_eval.specs.declared.machine.Running.{Running}

@@ -15,9 +15,9 @@ use Rattle.stab_code.specs.Program.{ProgramParts, tree_at, trees_at}
 use Rattle.stab_code.specs.Syntax.{left_open, lets_from, lets_of, one_or_none, open_from, open_in, with_own, without}
 use Rattle.stab_code.specs.Trees.{Tree, Trees, tree, none, more, fold_all}
 use Rattle.stab_code.proofs.Lists.{All-left, All-right, slice_get-left, slice_get-right}
-use Rattle.plain_language.specs.declared.head.Head.TheVariants as head
-use Rattle.plain_language.specs.Expression.{form, only, put, put_parts, put_variable, part}
-use Rattle.plain_language.specs.Program.{expr_of, exprs_of}
+use Rattle.language.specs.declared.head.Head.TheVariants as head
+use Rattle.language.specs.Expression.{form, only, put, put_parts, put_variable, part}
+use Rattle.language.specs.Program.{expr_of, exprs_of}
 use Rattle.step_eval.specs.Meaning.{head_of}
 use Rattle.step_eval.specs.Scoped.{bound, IsScoped, SlotsRise}
 

@@ -8,9 +8,9 @@ use Rattle.stab_code.specs.declared.head.Head.TheVariants.{Var}
 use Rattle.stab_code.specs.declared.node_id.NodeId.{NodeId}
 use Rattle.stab_code.specs.Program.{ProgramParts, tree_at}
 use Rattle.stab_code.specs.Valid.{IsValid}
-use Rattle.plain_language.specs.Expression.{Expr, Parts, value, put}
-use Rattle.plain_language.specs.Program.{expr_of, form_of}
-use Rattle.plain_language.specs.Redex.{spine}
+use Rattle.language.specs.Expression.{Expr, Parts, value, put}
+use Rattle.language.specs.Program.{expr_of, form_of}
+use Rattle.language.specs.Redex.{spine}
 use Rattle.step_eval.specs.declared.site.Site.{Site}
 use Rattle.step_eval.specs.declared.site.Site.TheVariants.{Form, Section}
 use Rattle.step_eval.specs.declared.machine.Focus.{Focus}

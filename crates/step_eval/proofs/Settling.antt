@@ -8,8 +8,8 @@ use Rattle.stab_code.specs.declared.head.Head.TheVariants.{Unit, Truth, Int, Tex
 use Rattle.stab_code.specs.declared.node_id.NodeId.{NodeId}
 use Rattle.stab_code.specs.Program.{ProgramParts, tree_at}
 use Rattle.stab_code.specs.Valid.{IsValid}
-use Rattle.plain_language.specs.Expression.{Expr, value, put}
-use Rattle.plain_language.specs.Program.{expr_of, form_of}
+use Rattle.language.specs.Expression.{Expr, value, put}
+use Rattle.language.specs.Program.{expr_of, form_of}
 use Rattle.step_eval.specs.declared.site.Site.{Site}
 use Rattle.step_eval.specs.declared.site.Site.TheVariants.{Form, Section}
 use Rattle.step_eval.specs.FrameView.{FrameView}

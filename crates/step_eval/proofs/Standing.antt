@@ -11,9 +11,9 @@ use Rattle.stab_code.specs.Nodes.{NodeParts}
 use Rattle.stab_code.specs.Program.{FunctionParts, ProgramParts, tree_at, trees_at}
 use Rattle.stab_code.specs.Valid.{IsValid, HasItem, head_parts}
 use Rattle.stab_code.proofs.Lists.{All-at}
-use Rattle.plain_language.specs.Expression.{value, Parts, part, put}
-use Rattle.plain_language.specs.Program.{expr_of}
-use Rattle.plain_language.specs.Redex.{after_values, within}
+use Rattle.language.specs.Expression.{value, Parts, part, put}
+use Rattle.language.specs.Program.{expr_of}
+use Rattle.language.specs.Redex.{after_values, within}
 use Rattle.step_eval.specs.declared.site.Site.{Site}
 use Rattle.step_eval.specs.declared.site.Site.TheVariants.{Form}
 use Rattle.step_eval.specs.FrameView.{FrameView}

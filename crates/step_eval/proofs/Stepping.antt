@@ -3,13 +3,13 @@ use Rattle.std.proofs.Common.{◌≡◌, ℕ, zero, suc, ◌+◌, List, map, Opt
 use Rattle.std.specs.Prelude.{option_and_then}
 use Rattle.stab_base.specs.declared.numbers.Seq.{Seq}
 use Rattle.stab_code.specs.Program.{ProgramParts}
-use Rattle.plain_language.specs.Acts.{told}
-use Rattle.plain_language.specs.Expression.{Expr, value, variable, failed, form}
-use Rattle.plain_language.specs.Look.{language, look, look_at, look_by}
-use Rattle.plain_language.specs.Outcome.{Outcome, becomes, fails, acts}
-use Rattle.plain_language.specs.Program.{body}
-use Rattle.plain_language.specs.Redex.{Redex, cap, redex}
-use Rattle.plain_language.specs.Table.{pure_of, pure_steps}
+use Rattle.language.specs.Outcome.{told}
+use Rattle.language.specs.Expression.{Expr, value, variable, failed, form}
+use Rattle.language.specs.Look.{language, look, look_at, look_by}
+use Rattle.language.specs.Outcome.{Outcome, becomes, fails, acts}
+use Rattle.language.specs.Program.{body}
+use Rattle.language.specs.Redex.{Redex, cap, redex}
+use Rattle.language.specs.Table.{pure_of, pure_steps}
 use Rattle.step_eval.specs.declared.machine.Focus.{Focus}
 use Rattle.step_eval.specs.declared.machine.Focus.TheVariants as focus
 use Rattle.step_eval.specs.declared.machine.Running.{Running}

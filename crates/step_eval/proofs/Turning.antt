@@ -10,11 +10,11 @@ use Rattle.stab_code.specs.declared.node_id.NodeId.{NodeId}
 use Rattle.stab_code.specs.Heads.{strict_parts}
 use Rattle.stab_code.specs.Program.{FunctionParts, ProgramParts, arity_of, tree_at, trees_at}
 use Rattle.stab_code.specs.Valid.{IsValid, head_parts}
-use Rattle.plain_language.specs.Expression.{part, none, put, put_parts}
-use Rattle.plain_language.specs.Operands.{one_of, truth_of}
-use Rattle.plain_language.specs.Outcome.{Outcome, becomes, branch_of, outcome, truth_value, waiting_one, with_one, with_truth}
-use Rattle.plain_language.specs.Program.{body, expr_of, exprs_of}
-use Rattle.plain_language.proofs.Operands.{with_truth-some}
+use Rattle.language.specs.Expression.{part, none, put, put_parts}
+use Rattle.language.specs.Operands.{one_of, truth_of}
+use Rattle.language.specs.Outcome.{Outcome, becomes, branch_of, outcome, truth_value, waiting_one, with_one, with_truth}
+use Rattle.language.specs.Program.{body, expr_of, exprs_of}
+use Rattle.language.proofs.Operands.{with_truth-some}
 use Rattle.step_eval.specs.declared.act.Act.{Act}
 use Rattle.step_eval.specs.declared.act.Act.TheVariants.{Spawn, Enter}
 use Rattle.step_eval.specs.declared.site.Site.{Site}

@@ -4,8 +4,8 @@ use Rattle.std.specs.Prelude.{IsSome}
 use Rattle.stab_base.specs.declared.numbers.Seq.{Seq}
 use Rattle.stab_code.specs.Program.{ProgramParts}
 use Rattle.stab_code.specs.Valid.{IsValid}
-use Rattle.plain_language.specs.Expression.{Expr}
-use Rattle.plain_language.specs.Redex.{redex}
+use Rattle.language.specs.Expression.{Expr}
+use Rattle.language.specs.Redex.{redex}
 use Rattle.step_eval.specs.declared.rest.Rest.TheVariants.{Going}
 use Rattle.step_eval.specs.ControlView.{ControlView, FocusView, FocusFits, Fits, begun, settled, acting, value, fault, focus_expr, expr_of}
 use Rattle.step_eval.specs.FrameView.{FrameView}

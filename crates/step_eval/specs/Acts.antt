@@ -3,10 +3,10 @@ use Rattle.std.specs.Prelude.{ℕ, List, [], ◌∷◌}
 use Rattle.stab_base.specs.Datum.{Datum, unit}
 use Rattle.step_eval.specs.declared.act.Act.{Act}
 use Rattle.step_eval.specs.declared.act.Act.TheVariants.{Spawn, NewChan, NewRef, Get, Set, Send, Recv, Pick, Enter, Stabilize, Cut, Pin, Print, Probe, Attempt}
-use Rattle.plain_language.specs.Expression.{Expr}
-use Rattle.plain_language.specs.Outcome.{called}
-use Rattle.plain_language.specs.Table as table
-use Rattle.plain_language.specs.Table.{spawns, makes_chan, makes_ref, gets, sets, sends, receives, picks, enters, stabilizes, cuts, pins, prints, probes, attempts}
+use Rattle.language.specs.Expression.{Expr}
+use Rattle.language.specs.Outcome.{called}
+use Rattle.language.specs.Table as table
+use Rattle.language.specs.Table.{spawns, makes_chan, makes_ref, gets, sets, sends, receives, picks, enters, stabilizes, cuts, pins, prints, probes, attempts}
 
 -- the first operand and the second
 abbrev pub first_of : List Datum → Datum

@@ -2,8 +2,8 @@
 use Rattle.std.specs.Prelude.{◌≡◌, List, Option, Some, None}
 use Rattle.stab_base.specs.declared.fault.Fault.TheVariants.{WrongKind}
 use Rattle.stab_code.specs.Program.{ProgramParts}
-use Rattle.plain_language.specs.Expression.{Expr, failed}
-use Rattle.plain_language.specs.Outcome.{Outcome, becomes, fails, acts}
+use Rattle.language.specs.Expression.{Expr, failed}
+use Rattle.language.specs.Outcome.{Outcome, becomes, fails, acts}
 use Rattle.step_eval.specs.declared.act.Act.{Act}
 use Rattle.step_eval.specs.declared.machine.Focus.{Focus}
 use Rattle.step_eval.specs.declared.machine.Focus.TheVariants as focus

@@ -2,9 +2,9 @@
 use Rattle.std.specs.Prelude.{◌≡◌, ⊤, ℕ, List, [], length, Option, Some, None}
 use Rattle.stab_base.specs.Datum.{Datum}
 use Rattle.stab_code.specs.Program.{ProgramParts}
-use Rattle.plain_language.specs.Expression.{Expr}
-use Rattle.plain_language.specs.Table as table
-use Rattle.plain_language.specs.Table.{Look, done, fault, act, pure}
+use Rattle.language.specs.Expression.{Expr}
+use Rattle.language.specs.Table as table
+use Rattle.language.specs.Table.{Look, done, fault, act, pure}
 use Rattle.step_eval.specs.declared.act.Act as own
 use Rattle.step_eval.specs.declared.act.Act.TheVariants.{Enter}
 use Rattle.step_eval.specs.declared.ask.Ask.{Ask}

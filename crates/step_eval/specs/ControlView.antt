@@ -5,11 +5,11 @@ use Rattle.stab_base.specs.declared.fault.Fault.{Fault}
 use Rattle.stab_base.specs.declared.numbers.Seq.{Seq}
 use Rattle.stab_code.specs.declared.node_id.NodeId.{NodeId}
 use Rattle.stab_code.specs.Program.{ProgramParts, tree_at}
-use Rattle.plain_language.specs.Acts.{told}
-use Rattle.plain_language.specs.Expression.{Expr, failed, put}
-use Rattle.plain_language.specs.Expression as expr
-use Rattle.plain_language.specs.Program.{body}
-use Rattle.plain_language.specs.Program as plain
+use Rattle.language.specs.Outcome.{told}
+use Rattle.language.specs.Expression.{Expr, failed, put}
+use Rattle.language.specs.Expression as expr
+use Rattle.language.specs.Program.{body}
+use Rattle.language.specs.Program as plain
 use Rattle.step_eval.specs.declared.act.Act.{Act}
 use Rattle.step_eval.specs.declared.machine.Focus.{Focus}
 use Rattle.step_eval.specs.declared.machine.Focus.TheVariants as focus

@@ -3,10 +3,10 @@ use Rattle.std.specs.Prelude.{◌≡◌, ℕ, ◌<◌, List, [], length, slice_g
 use Rattle.stab_base.specs.Datum.{Datum}
 use Rattle.stab_code.specs.declared.node_id.NodeId.{NodeId}
 use Rattle.stab_code.specs.Program.{ProgramParts, tree_at}
-use Rattle.plain_language.specs.Expression.{put}
-use Rattle.plain_language.specs.Expression as expr
-use Rattle.plain_language.specs.Outcome.{called}
-use Rattle.plain_language.specs.Program.{body, expr_of}
+use Rattle.language.specs.Expression.{put}
+use Rattle.language.specs.Expression as expr
+use Rattle.language.specs.Outcome.{called}
+use Rattle.language.specs.Program.{body, expr_of}
 use Rattle.step_eval.specs.ControlView.{ControlView, FocusView, begun, value}
 use Rattle.step_eval.specs.Fits.{IsForm}
 use Rattle.step_eval.specs.Meaning.{node_at}

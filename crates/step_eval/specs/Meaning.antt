@@ -7,11 +7,11 @@ use Rattle.stab_code.specs.declared.node_id.NodeId.{NodeId}
 use Rattle.stab_code.specs.Heads.{strict_parts}
 use Rattle.stab_code.specs.Nodes.{NodeParts, node_of}
 use Rattle.stab_code.specs.Program.{ProgramParts, trees_at}
-use Rattle.plain_language.specs.declared.head.Head.{Head}
-use Rattle.plain_language.specs.declared.head.Head.TheVariants as head
-use Rattle.plain_language.specs.Expression.{Expr, form, Parts, none, put_parts}
-use Rattle.plain_language.specs.Program.{form_of, exprs_of}
-use Rattle.plain_language.specs.Redex.{Frame, after_values, within}
+use Rattle.language.specs.declared.head.Head.{Head}
+use Rattle.language.specs.declared.head.Head.TheVariants as head
+use Rattle.language.specs.Expression.{Expr, form, Parts, none, put_parts}
+use Rattle.language.specs.Program.{form_of, exprs_of}
+use Rattle.language.specs.Redex.{Frame, after_values, within}
 use Rattle.step_eval.specs.declared.site.Site.{Site}
 use Rattle.step_eval.specs.declared.site.Site.TheVariants.{Form, Section}
 use Rattle.step_eval.specs.FrameView.{FrameView}

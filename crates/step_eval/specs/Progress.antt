@@ -1,9 +1,9 @@
 -- Pure steps of a control.
 use Rattle.std.specs.Prelude.{◌≡◌, ℕ, Some, None}
 use Rattle.stab_code.specs.Program.{ProgramParts}
-use Rattle.plain_language.specs.Look.{language, look}
-use Rattle.plain_language.specs.Program.{body}
-use Rattle.plain_language.specs.Table.{pure_of, pure_steps}
+use Rattle.language.specs.Look.{language, look}
+use Rattle.language.specs.Program.{body}
+use Rattle.language.specs.Table.{pure_of, pure_steps}
 use Rattle.step_eval.specs.ControlView.{ControlView, Fits, RedexIsFound, expr_of}
 
 -- so many pure steps of a control lead to one that fits the program, whose redex is found

@@ -4,8 +4,8 @@ use Rattle.stab_base.specs.Datum.{Datum}
 use Rattle.stab_base.specs.declared.numbers.Seq.{Seq}
 use Rattle.stab_code.specs.declared.node_id.NodeId.{NodeId}
 use Rattle.stab_code.specs.Program.{ProgramParts, tree_at}
-use Rattle.plain_language.specs.Expression.{value, put}
-use Rattle.plain_language.specs.Program.{expr_of}
+use Rattle.language.specs.Expression.{value, put}
+use Rattle.language.specs.Program.{expr_of}
 use Rattle.step_eval.specs.declared.site.Site.TheVariants.{Form}
 use Rattle.step_eval.specs.FrameView.{FrameView}
 use Rattle.step_eval.specs.Fits.{IsForm, FormFits, FramesFit, SiteFits}

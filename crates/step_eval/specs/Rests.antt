@@ -1,5 +1,5 @@
 -- Whether an expression has ended.
-use Rattle.plain_language.specs.Expression.{Expr, value, failed}
+use Rattle.language.specs.Expression.{Expr, value, failed}
 use Rattle.step_eval.specs.declared.rest.Rest.{Rest}
 use Rattle.step_eval.specs.declared.rest.Rest.TheVariants.{Going, Done, Failed}
 

@@ -3,8 +3,8 @@ use Rattle.std.specs.Prelude.{◌≡◌, ◌≤◌, ℕ, List, [], ◌∷◌, le
 use Rattle.stab_base.specs.Datum.{Datum}
 use Rattle.stab_base.specs.declared.numbers.FnId.{FnId}
 use Rattle.stab_code.specs.Program.{ProgramParts, arity_of}
-use Rattle.plain_language.specs.Outcome.{Outcome, outcome}
-use Rattle.plain_language.specs.Program.{body}
+use Rattle.language.specs.Outcome.{Outcome, outcome}
+use Rattle.language.specs.Program.{body}
 use Rattle.step_eval.specs.FrameView.{FrameView}
 use Rattle.step_eval.specs.Meaning.{head_at, behind_values}
 use Rattle.step_eval.specs.Scoped.{bound}

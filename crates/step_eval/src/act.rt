@@ -3,16 +3,16 @@ ghost use Rattle.std.specs.Prelude.{◌≡◌, ℕ, List, IfSome, option_map};
 ghost use Rattle.stab_code.specs.Heads.{strict_parts};
 ghost use Rattle.stab_code.specs.Program.{FunctionParts};
 ghost use Rattle.stab_code.specs.Valid.{head_parts};
-ghost use Rattle.plain_language.specs.Acts.{told};
-ghost use Rattle.plain_language.specs.Expression.{Expr, Parts};
-ghost use Rattle.plain_language.specs.Outcome.{outcome};
+ghost use Rattle.language.specs.Outcome.{told};
+ghost use Rattle.language.specs.Expression.{Expr, Parts};
+ghost use Rattle.language.specs.Outcome.{outcome};
 ghost use Rattle.step_eval.specs.Acts.{act_with};
 ghost use Rattle.step_eval.specs.Fits.{IsForm};
 ghost use Rattle.step_eval.specs.Meaning.{head_of, head_left};
 ghost use Rattle.step_eval.specs.Operands.{operand_count};
 
 use crate::values::{one, two};
-use plain_language::{as_chan, as_reference};
+use language::{as_chan, as_reference};
 use stab_base::{ChanId, FnId, RefId, Value};
 use stab_code::Head;
 

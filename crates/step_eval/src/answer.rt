@@ -1,9 +1,9 @@
 //! Acts that have their answers.
 ghost use Rattle.std.specs.Prelude.{◌≡◌, ◌<◌, ◌∷◌, None, Some, IfOk, OnErr, OnOk};
 ghost use Rattle.std.specs.Arc.{arc_value};
-ghost use Rattle.plain_language.specs.Look.{entered};
-ghost use Rattle.plain_language.specs.Outcome.{called};
-ghost use Rattle.plain_language.specs.Program.{body};
+ghost use Rattle.language.specs.Look.{entered};
+ghost use Rattle.language.specs.Outcome.{called};
+ghost use Rattle.language.specs.Program.{body};
 ghost use Rattle.step_eval.specs.Asked.{act_next};
 ghost use Rattle.step_eval.specs.ControlView.{Fits, expr_of, view_of};
 ghost use Rattle.step_eval.specs.Sections.{entry_of, section_frame};

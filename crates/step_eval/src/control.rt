@@ -2,11 +2,11 @@
 ghost use Rattle.std.specs.Prelude.{◌≡◌, ◌↔◌, ◌<◌, ◌≤◌, ◌+◌, Some, length, option_map, IfOk, IfErr, IsSome, IsTrue, OnErr, OnOk};
 ghost use Rattle.stab_code.specs.Program.{ProgramParts};
 ghost use Rattle.stab_code.specs.Valid.{IsValid};
-ghost use Rattle.plain_language.specs.Expression.{failed};
-ghost use Rattle.plain_language.specs.Look.{answered, entered as entered_at, look};
-ghost use Rattle.plain_language.specs.Outcome.{called};
-ghost use Rattle.plain_language.specs.Program.{body};
-ghost use Rattle.plain_language.specs.Redex.{mark};
+ghost use Rattle.language.specs.Expression.{failed};
+ghost use Rattle.language.specs.Look.{answered, entered as entered_at, look};
+ghost use Rattle.language.specs.Outcome.{called};
+ghost use Rattle.language.specs.Program.{body};
+ghost use Rattle.language.specs.Redex.{mark};
 ghost use Rattle.step_eval.specs.Asked.{AsksRightly, IsAsked, IsEnter, act_in, act_next, operands_of};
 ghost use Rattle.step_eval.specs.ControlView.{expr_of, Fits, RedexIsFound, view_of};
 ghost use Rattle.step_eval.specs.Entries.{entered};

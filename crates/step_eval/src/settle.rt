@@ -2,9 +2,9 @@
 ghost use Rattle.std.specs.Prelude.{◌≡◌, ◌<◌, ◌≤◌, ◌∷◌, ◌++◌, [], length, option_map, option_to_list, slice_get, IfNone, IfOk, IfSome, OnOk};
 ghost use Rattle.std.specs.Arc.{arc_value};
 ghost use Rattle.stab_code.specs.Program.{tree_at};
-ghost use Rattle.plain_language.specs.Acts.{told};
-ghost use Rattle.plain_language.specs.Expression.{put, value};
-ghost use Rattle.plain_language.specs.Program.{body, expr_of};
+ghost use Rattle.language.specs.Outcome.{told};
+ghost use Rattle.language.specs.Expression.{put, value};
+ghost use Rattle.language.specs.Program.{body, expr_of};
 ghost use Rattle.step_eval.specs.Acts.{act_with};
 ghost use Rattle.step_eval.specs.Arrival.{Arrives, form_focus};
 ghost use Rattle.step_eval.specs.ControlView.{view_of};

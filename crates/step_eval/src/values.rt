@@ -1,14 +1,14 @@
 //! What a form makes of the values of its parts.
 ghost use Rattle.std.specs.Prelude.{◌≡◌, ℕ, [], None, option_and_then, option_map, IfOk, IfSome, if◌then◌else◌};
 ghost use Rattle.std.specs.Option.{option_copied};
-ghost use Rattle.plain_language.specs.Acts.{told};
-ghost use Rattle.plain_language.specs.Expression.{Expr, Parts, value};
-ghost use Rattle.plain_language.specs.Operands.{one_of, outcome_of, truth_of, two_values_of};
-ghost use Rattle.plain_language.specs.Outcome.{becomes, outcome, pair_of, with_one, with_pair, with_two};
+ghost use Rattle.language.specs.Outcome.{told};
+ghost use Rattle.language.specs.Expression.{Expr, Parts, value};
+ghost use Rattle.language.specs.Operands.{one_of, outcome_of, truth_of, two_values_of};
+ghost use Rattle.language.specs.Outcome.{becomes, outcome, pair_of, with_one, with_pair, with_two};
 ghost use Rattle.step_eval.specs.Fits.{GivesValue};
 ghost use Rattle.step_eval.specs.Meaning.{head_of, head_left};
 
-use plain_language::{as_truth, complement, negation, operator};
+use language::{as_truth, complement, negation, operator};
 use stab_base::{Fault, NoMemory, PairFault, Value};
 use stab_code::Head;
 use std::alloc::Global;

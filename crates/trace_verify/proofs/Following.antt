@@ -19,9 +19,9 @@ use Rattle.stab_journal.specs.Reached.{reached, rest}
 use Rattle.stab_journal.specs.Script.{FollowsScript, probed, probed_by}
 use Rattle.stab_journal.specs.Since.{AreBelow, is_revocable_since}
 use Rattle.stab_journal.specs.Surviving.{run_of}
-use Rattle.plain_language.specs.Plain.{end_of, plain_step, start}
-use Rattle.plain_language.specs.Since.{MayUndoSince}
-use Rattle.plain_language.specs.Standing.{MayStep, MayUndo, StandsFor, event, step, undo, release}
+use Rattle.language.specs.Plain.{end_of, plain_step, start}
+use Rattle.language.specs.Since.{MayUndoSince}
+use Rattle.language.specs.Standing.{MayStep, MayUndo, StandsFor, event, step, undo, release}
 use Rattle.journal_laws.proofs.Undone.{stands_run}
 use Rattle.trace_verify.specs.declared.generations.Generations.{Generations}
 use Rattle.trace_verify.specs.declared.replay.Replay.{Replay}

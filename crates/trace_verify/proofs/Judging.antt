@@ -15,8 +15,8 @@ use Rattle.stab_journal.specs.Event.{label_of}
 use Rattle.stab_journal.specs.Journal.{Journal, label_at, survivors}
 use Rattle.stab_journal.specs.Names.{has}
 use Rattle.stab_journal.specs.Reached.{reached}
-use Rattle.plain_language.specs.Plain.{PlainState}
-use Rattle.plain_language.specs.Standing.{StandsFor, event, nothing, step, undo, release}
+use Rattle.language.specs.Plain.{PlainState}
+use Rattle.language.specs.Standing.{StandsFor, event, nothing, step, undo, release}
 use Rattle.journal_laws.proofs.Undone.{stands_run}
 use Rattle.trace_verify.specs.declared.replay.Replay.{Replay}
 use Rattle.trace_verify.specs.declared.verdict.Verdict.TheVariants.{Yes, No}

@@ -10,10 +10,10 @@ use Rattle.stab_journal.specs.Journal.{RiseFrom}
 use Rattle.stab_journal.specs.Names.{has}
 use Rattle.stab_journal.specs.Reached.{nothing_lost, reached, without_reached}
 use Rattle.stab_journal.specs.Dependence.{IsUpward}
-use Rattle.plain_language.specs.Held.{Held}
-use Rattle.plain_language.specs.Plain.{PlainState, effect_of, plain_step}
-use Rattle.plain_language.specs.Since.{end_from}
-use Rattle.plain_language.specs.Steps.{State, Table, after_steps}
+use Rattle.language.specs.Held.{Held}
+use Rattle.language.specs.Plain.{PlainState, effect_of, plain_step}
+use Rattle.language.specs.Since.{end_from}
+use Rattle.language.specs.Steps.{State, Table, after_steps}
 use Rattle.journal_laws.proofs.Chains.{upward}
 use Rattle.journal_laws.proofs.Reaching.{reached_by}
 use Rattle.journal_laws.proofs.Runs.{steps_append, survivor_from}

@@ -20,8 +20,8 @@ use Rattle.stab_journal.specs.declared.event.What.TheVariants.{Step, Undo, Relea
 use Rattle.stab_journal.specs.Journal.{IsLive, IsSurvivor, Journal, survivors}
 use Rattle.stab_journal.specs.Script.{FollowsScript, probed, probed_by, script_at}
 use Rattle.stab_journal.proofs.Surviving.{are_survivors}
-use Rattle.plain_language.specs.Plain.{PlainState, plain_step}
-use Rattle.plain_language.specs.Standing.{StandsFor, event}
+use Rattle.language.specs.Plain.{PlainState, plain_step}
+use Rattle.language.specs.Standing.{StandsFor, event}
 use Rattle.trace_verify.specs.declared.verdict.Verdict.{Verdict}
 use Rattle.trace_verify.specs.declared.verdict.Verdict.TheVariants.{Yes, No}
 use Rattle.trace_verify.specs.declared.verdict.Why.{Why}

@@ -14,8 +14,8 @@ use Rattle.stab_journal.specs.declared.event.What.{What}
 use Rattle.stab_journal.specs.declared.event.What.TheVariants.{Step, Undo, Release}
 use Rattle.stab_journal.specs.Due.{final_prints, released}
 use Rattle.stab_journal.specs.Script.{FollowsScript, probed, probed_by, script_at}
-use Rattle.plain_language.specs.Plain.{PlainState, end_of, plain_step}
-use Rattle.plain_language.specs.Standing.{MayStep, MayUndo, StandsFor, event, nothing, step, undo, release}
+use Rattle.language.specs.Plain.{PlainState, end_of, plain_step}
+use Rattle.language.specs.Standing.{MayStep, MayUndo, StandsFor, event, nothing, step, undo, release}
 use Rattle.journal_laws.proofs.Undone.{stands_run}
 
 some_is : {A : Type 0} {x y : A} → Some x ≡ Some y → x ≡ y

@@ -9,15 +9,15 @@ use Rattle.stab_journal.specs.declared.event.Label.TheVariants.{Local}
 use Rattle.stab_journal.specs.declared.event.What.TheVariants.{Step}
 use Rattle.stab_journal.specs.Journal.{step_at}
 use Rattle.stab_journal.specs.Since.{AreBelow}
-use Rattle.plain_language.specs.Changes.{with_thread}
-use Rattle.plain_language.specs.Expression.{Expr}
-use Rattle.plain_language.specs.Held.{Held}
-use Rattle.plain_language.specs.Plain.{PlainState, language_of, standing}
+use Rattle.language.specs.Changes.{with_thread}
+use Rattle.language.specs.Expression.{Expr}
+use Rattle.language.specs.Held.{Held}
+use Rattle.language.specs.Plain.{PlainState, language_of, standing}
 use Rattle.plain_language.specs.Plays.{step_in}
-use Rattle.plain_language.specs.Table.{Language, local_by, pure_of, pure_steps, to}
-use Rattle.plain_language.proofs.Applying.{get_inserted}
+use Rattle.language.specs.Table.{Language, local_by, pure_of, pure_steps, to}
+use Rattle.language.proofs.Applying.{get_inserted}
 use Rattle.plain_language.proofs.Locals.{no_steps, steps_made}
-use Rattle.plain_language.proofs.Staying.{inserted_twice}
+use Rattle.language.proofs.Staying.{inserted_twice}
 use Rattle.journal_laws.proofs.Stepping.{step_of}
 use Rattle.journal_laws.proofs.Surviving.{some_is, some_none}
 use Rattle.trace_verify.specs.declared.parts.Parts.{Parts}
@@ -69,8 +69,8 @@ module _ (q : ℕ) (t : ThreadId) (h : Held) where
     where
       nobody : step_in h q (Local t (suc n)) ≡ Some k.state → ⊥
       nobody is =
-          some_none (sym is ∙ ap (λ (x : Option Expr). option_map (Rattle.plain_language.specs.Steps.apply h.state (Local t (suc n)))
-          (option_and_then (λ es. Rattle.plain_language.specs.Table.effect (language_of h.program) q (Local t (suc n)) es None) (option_and_then (λ y. option_map (λ ys. y ∷ ys) (Some [])) x))) (sym none))
+          some_none (sym is ∙ ap (λ (x : Option Expr). option_map (Rattle.language.specs.Steps.apply h.state (Local t (suc n)))
+          (option_and_then (λ es. Rattle.language.specs.Table.effect (language_of h.program) q (Local t (suc n)) es None) (option_and_then (λ y. option_map (λ ys. y ∷ ys) (Some [])) x))) (sym none))
   by_thread n k s (Some e) there step same last = by_pure n k e s _ there refl step same last
 
 -- a pure step more

@@ -7,12 +7,12 @@ use Rattle.stab_code.specs.Program.{ProgramParts}
 use Rattle.stab_journal.specs.declared.event.Numbered.{Numbered}
 use Rattle.stab_journal.specs.Since.{is_revocable_since}
 use Rattle.stab_journal.specs.Names.{is_at}
-use Rattle.plain_language.specs.Expression.{Expr}
-use Rattle.plain_language.specs.Plain.{PlainState, look_in, mark_in, standing}
+use Rattle.language.specs.Expression.{Expr}
+use Rattle.language.specs.Plain.{PlainState, look_in, mark_in, standing}
 use Rattle.plain_language.specs.Seen.{seen}
-use Rattle.plain_language.specs.Since.{MayUndoSince}
-use Rattle.plain_language.specs.Standing.{is_stabilize}
-use Rattle.plain_language.specs.Table.{spawns, makes_chan, makes_ref, gets, sets, sends, receives, picks, enters, stabilizes, cuts, pins, prints, probes, attempts, Look, done, fault, act, pure}
+use Rattle.language.specs.Since.{MayUndoSince}
+use Rattle.language.specs.Standing.{is_stabilize}
+use Rattle.language.specs.Table.{spawns, makes_chan, makes_ref, gets, sets, sends, receives, picks, enters, stabilizes, cuts, pins, prints, probes, attempts, Look, done, fault, act, pure}
 use Rattle.trace_verify.specs.Surviving.{is_at_stabilize, may_undo_since}
 
 -- what is told of an expression tells whether it is at a stabilize

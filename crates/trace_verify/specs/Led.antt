@@ -5,7 +5,7 @@ use Rattle.stab_journal.specs.declared.event.Event.{Event}
 use Rattle.stab_journal.specs.declared.event.Numbered.{Numbered}
 use Rattle.stab_journal.specs.Generation.{generation}
 use Rattle.stab_journal.specs.Script.{FollowsScript, probed}
-use Rattle.plain_language.specs.Standing.{StandsFor}
+use Rattle.language.specs.Standing.{StandsFor}
 use Rattle.trace_verify.specs.declared.led.LedTo.{LedTo}
 use Rattle.trace_verify.specs.Generations.{times}
 

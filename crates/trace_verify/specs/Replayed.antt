@@ -9,8 +9,8 @@ use Rattle.stab_journal.specs.declared.event.What.TheVariants.{Step}
 use Rattle.stab_journal.specs.Due.{released}
 use Rattle.stab_journal.specs.Generation.{generation}
 use Rattle.stab_journal.specs.Script.{FollowsScript, probed, script_at}
-use Rattle.plain_language.specs.Plain.{plain_step}
-use Rattle.plain_language.specs.Standing.{MayStep, StandsFor, event}
+use Rattle.language.specs.Plain.{plain_step}
+use Rattle.language.specs.Standing.{MayStep, StandsFor, event}
 use Rattle.trace_verify.specs.declared.replay.Replay.{Replay}
 use Rattle.trace_verify.specs.declared.verdict.Why.{Why}
 use Rattle.trace_verify.specs.Generations.{AreBefore, times}

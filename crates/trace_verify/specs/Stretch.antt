@@ -2,8 +2,8 @@
 use Rattle.std.specs.Prelude.{◌≡◌, ℕ, zero, suc, Some, None, Ok}
 use Rattle.stab_base.specs.declared.numbers.ThreadId.{ThreadId}
 use Rattle.stab_journal.specs.declared.event.Label.TheVariants.{Local}
-use Rattle.plain_language.specs.Held.{Held}
-use Rattle.plain_language.specs.Plain.{PlainState}
+use Rattle.language.specs.Held.{Held}
+use Rattle.language.specs.Plain.{PlainState}
 use Rattle.plain_language.specs.Plays.{step_in}
 use Rattle.trace_verify.specs.declared.surviving.Surviving.{Surviving}
 use Rattle.trace_verify.specs.Surviving.{IsKept, PlaysOn}

@@ -16,10 +16,10 @@ use Rattle.plain_language.specs.declared.play.PlayFault.TheVariants.{NoStep, NoM
 use Rattle.plain_language.specs.declared.look.ActKind.TheVariants.{Stabilize}
 use Rattle.plain_language.specs.declared.look.Look as told
 use Rattle.plain_language.specs.declared.look.Look.TheVariants.{Act}
-use Rattle.plain_language.specs.Held.{Held}
-use Rattle.plain_language.specs.Plain.{PlainState, look_in, mark_in, plain_step, standing, start}
+use Rattle.language.specs.Held.{Held}
+use Rattle.language.specs.Plain.{PlainState, look_in, mark_in, plain_step, standing, start}
 use Rattle.plain_language.specs.Seen.{seen}
-use Rattle.plain_language.specs.Since.{MayUndoSince, end_from}
+use Rattle.language.specs.Since.{MayUndoSince, end_from}
 use Rattle.journal_laws.specs.Known.{IsExprIn, IsKnown}
 use Rattle.trace_verify.specs.declared.surviving.Surviving.{Surviving}
 use Rattle.trace_verify.specs.Parts.{IsParted, run_in}

@@ -15,8 +15,8 @@ use Rattle.stab_journal.specs.Floor.{is_mark_revocable}
 use Rattle.stab_journal.specs.Generation.{generation}
 use Rattle.stab_journal.specs.Journal.{Journal, IsLive}
 use Rattle.stab_journal.specs.Script.{FollowsScript, probed, script_at}
-use Rattle.plain_language.specs.Plain.{PlainState, plain_step, mark_in}
-use Rattle.plain_language.specs.Standing.{MayUndo, Shows, StandsFor}
+use Rattle.language.specs.Plain.{PlainState, plain_step, mark_in}
+use Rattle.language.specs.Standing.{MayUndo, Shows, StandsFor}
 use Rattle.trace_verify.specs.declared.verdict.Verdict.{Verdict}
 use Rattle.trace_verify.specs.declared.verdict.Verdict.TheVariants.{Yes, No}
 use Rattle.trace_verify.specs.declared.verdict.Why.{Why}

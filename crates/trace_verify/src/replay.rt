@@ -6,7 +6,7 @@ ghost use Rattle.stab_journal.specs.declared.event.Event.{Event as Events};
 ghost use Rattle.stab_journal.specs.declared.event.What.TheVariants.{Release, Step, Undo};
 ghost use Rattle.stab_journal.specs.Floor.{is_mark_revocable};
 ghost use Rattle.stab_journal.specs.Script.{script_at};
-ghost use Rattle.plain_language.specs.Plain.{mark_in};
+ghost use Rattle.language.specs.Plain.{mark_in};
 ghost use Rattle.trace_verify.specs.Led.{IsLedTo};
 ghost use Rattle.trace_verify.specs.Parts.{run_in};
 ghost use Rattle.trace_verify.specs.Replayed.{Follows, IsReady, IsReplayed, Refuses};

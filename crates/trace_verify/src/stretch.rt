@@ -2,7 +2,7 @@
 ghost use Rattle.std.specs.Prelude.{◌≡◌, ◌≤◌, ◌<◌, None, IfOk};
 ghost use Rattle.stab_journal.specs.declared.event.Label.TheVariants as Label;
 ghost use Rattle.stab_journal.specs.Since.{AreBelow};
-ghost use Rattle.plain_language.specs.Plain.{PlainState as State};
+ghost use Rattle.language.specs.Plain.{PlainState as State};
 ghost use Rattle.plain_language.specs.Plays.{step_in};
 ghost use Rattle.trace_verify.specs.Parts.{run_in};
 ghost use Rattle.trace_verify.specs.Stretch.{AreMade, IsStretched};

@@ -2,8 +2,8 @@
 ghost use Rattle.std.specs.Prelude.{◌≡◌, ◌<◌, [], Some, IfOk, IsSome, OnOk, option_map};
 ghost use Rattle.stab_journal.specs.Names.{is_at};
 ghost use Rattle.stab_journal.specs.Since.{AreBelow, is_revocable_since};
-ghost use Rattle.plain_language.specs.Plain.{PlainState as State};
-ghost use Rattle.plain_language.specs.Since.{end_from};
+ghost use Rattle.language.specs.Plain.{PlainState as State};
+ghost use Rattle.language.specs.Since.{end_from};
 ghost use Rattle.journal_laws.specs.Known.{IsExprIn, IsKnown};
 ghost use Rattle.trace_verify.specs.Parts.{run_in};
 ghost use Rattle.trace_verify.specs.Surviving.{IsBased, IsKept, PlaysOn, TakesBack, is_at_stabilize, may_undo_since};

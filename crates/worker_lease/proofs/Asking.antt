@@ -17,7 +17,7 @@ use Rattle.stab_journal.specs.Due.{final_prints}
 use Rattle.stab_journal.specs.Own.{own_at}
 use Rattle.stab_journal.specs.Surviving.{run_of}
 use Rattle.stab_journal.proofs.Reading.{own-push}
-use Rattle.plain_language.specs.Standing.{event}
+use Rattle.language.specs.Standing.{event}
 use Rattle.worker_lease.specs.declared.ask.DeskAsk.{DeskAsk}
 use Rattle.worker_lease.specs.declared.ask.DeskAsk.TheVariants as ask
 use Rattle.worker_lease.specs.declared.ask.DeskAnswer.{DeskAnswer}

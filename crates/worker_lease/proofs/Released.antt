@@ -17,9 +17,9 @@ use Rattle.stab_journal.specs.declared.event.What.TheVariants.{Step, Undo, Relea
 use Rattle.stab_journal.specs.Due.{final_prints, released, released_by, released_from}
 use Rattle.stab_journal.specs.Own.{own, own_from}
 use Rattle.stab_journal.specs.Surviving.{after_event, after_events, run_of}
-use Rattle.plain_language.specs.Plain.{effect_of, start}
-use Rattle.plain_language.specs.Shown.{line, value_lines}
-use Rattle.plain_language.specs.Standing.{StandsFor, event}
+use Rattle.language.specs.Plain.{effect_of, start}
+use Rattle.language.specs.Shown.{line, value_lines}
+use Rattle.language.specs.Standing.{StandsFor, event}
 use Rattle.journal_laws.specs.Surviving.{prints}
 use Rattle.commit_book.proofs.Keeping.EventSteps.{released_snoc}
 use Rattle.commit_book.proofs.Lawful.Firm.{firm, released_final}

@@ -8,9 +8,9 @@ use Rattle.stab_code.specs.JobParts.{JobParts}
 use Rattle.stab_journal.specs.declared.event.Event.{Event}
 use Rattle.stab_journal.specs.declared.event.What.TheVariants.{Release}
 use Rattle.stab_journal.specs.Due.{due, released}
-use Rattle.plain_language.specs.Plain.{effect_of, start}
-use Rattle.plain_language.specs.Shown.{value_lines}
-use Rattle.plain_language.specs.Standing.{event}
+use Rattle.language.specs.Plain.{effect_of, start}
+use Rattle.language.specs.Shown.{value_lines}
+use Rattle.language.specs.Standing.{event}
 use Rattle.journal_laws.specs.Surviving.{prints}
 use Rattle.journal_laws.proofs.Undone.{stands_run}
 use Rattle.commit_book.specs.Book.{BookView, IsShown}

@@ -5,9 +5,9 @@ use Rattle.stab_journal.specs.declared.event.Event.{Event}
 use Rattle.stab_journal.specs.Due.{due}
 use Rattle.stab_journal.specs.Event.{weight_of}
 use Rattle.stab_journal.specs.Surviving.{run_of}
-use Rattle.plain_language.specs.Plain.{PlainState, language_of}
-use Rattle.plain_language.specs.Quiet.{IsQuiet}
-use Rattle.plain_language.specs.Standing.{StandsFor}
+use Rattle.language.specs.Plain.{PlainState, language_of}
+use Rattle.language.specs.Quiet.{IsQuiet}
+use Rattle.language.specs.Standing.{StandsFor}
 use Rattle.step_eval.specs.ControlView.{Fits}
 use Rattle.commit_book.specs.declared.turn.Turn.{Turn}
 use Rattle.commit_book.specs.declared.turn.Turn.TheVariants.{Work, Idle, Quiet, Spent, Release}

@@ -13,8 +13,8 @@ use Rattle.stab_journal.specs.Due.{released}
 use Rattle.stab_journal.specs.Own.{own, own_at, own_from}
 use Rattle.stab_journal.proofs.Reading.{own-push, own_from-append}
 use Rattle.stab_base.specs.Printed.{printed}
-use Rattle.plain_language.specs.Shown.{line, value_lines}
-use Rattle.plain_language.specs.Standing.{event}
+use Rattle.language.specs.Shown.{line, value_lines}
+use Rattle.language.specs.Standing.{event}
 use Rattle.commit_book.specs.Book.{BookView, IsShown}
 use Rattle.book_text.specs.Written.{released_lines}
 use Rattle.commit_book.proofs.Lawful.Firm.{released_more}

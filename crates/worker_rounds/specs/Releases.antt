@@ -7,8 +7,8 @@ use Rattle.stab_files.specs.Count.{Rose}
 use Rattle.stab_files.specs.Told.{Appends}
 use Rattle.stab_journal.specs.declared.event.Event.{Event}
 use Rattle.stab_journal.specs.Due.{released}
-use Rattle.plain_language.specs.Plain.{PlainState}
-use Rattle.plain_language.specs.Shown.{value_lines}
+use Rattle.language.specs.Plain.{PlainState}
+use Rattle.language.specs.Shown.{value_lines}
 use Rattle.commit_book.specs.Book.{BookView}
 use Rattle.book_text.specs.Written.{released_lines}
 use Rattle.sink_lines.specs.Device.{Device, Gains}

@@ -13,11 +13,11 @@ use Rattle.stab_journal.specs.Event.{IsName}
 use Rattle.stab_journal.specs.Generation.{generation}
 use Rattle.stab_journal.specs.Journal.{Journal}
 use Rattle.thread_slots.specs.Slot.{Slot}
-use Rattle.plain_language.specs.Expression.{Expr}
-use Rattle.plain_language.specs.Look.{answered}
-use Rattle.plain_language.specs.Program.{body}
-use Rattle.plain_language.specs.Steps.{Effect}
-use Rattle.plain_language.specs.Table.{act}
+use Rattle.language.specs.Expression.{Expr}
+use Rattle.language.specs.Look.{answered}
+use Rattle.language.specs.Program.{body}
+use Rattle.language.specs.Steps.{Effect}
+use Rattle.language.specs.Table.{act}
 use Rattle.step_eval.specs.declared.act.Act.{Act}
 use Rattle.step_eval.specs.Acts.{act_with}
 use Rattle.step_eval.specs.Asked.{act_next, operands_of}

@@ -13,7 +13,7 @@ use Rattle.stab_journal.specs.declared.event.Label.TheVariants.{Local}
 use Rattle.stab_journal.specs.declared.event.What.TheVariants.{Step}
 use Rattle.stab_journal.specs.Event.{weight_of}
 use Rattle.stab_journal.specs.Journal.{IsValid, Journal}
-use Rattle.plain_language.specs.Standing.{event}
+use Rattle.language.specs.Standing.{event}
 use Rattle.step_eval.specs.ControlView.{ControlView}
 use Rattle.step_eval.specs.Progress.{Advances, ProgressView}
 use Rattle.thread_slots.specs.Slot.{Slot}

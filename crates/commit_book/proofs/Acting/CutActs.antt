@@ -25,11 +25,11 @@ use Rattle.ref_log.specs.Calls.{IsAfter, cut}
 use Rattle.ref_log.specs.Log.{Log, kept, writes_of}
 use Rattle.comm_graph.specs.Edge.{NodeList}
 use Rattle.comm_graph.specs.Node.{Node}
-use Rattle.plain_language.specs.Expression.{Expr}
-use Rattle.plain_language.specs.Look.{answered}
-use Rattle.plain_language.specs.Plain.{language_of, start}
-use Rattle.plain_language.specs.Steps.{Effect, apply}
-use Rattle.plain_language.specs.Table.{to}
+use Rattle.language.specs.Expression.{Expr}
+use Rattle.language.specs.Look.{answered}
+use Rattle.language.specs.Plain.{language_of, start}
+use Rattle.language.specs.Steps.{Effect, apply}
+use Rattle.language.specs.Table.{to}
 use Rattle.step_eval.specs.declared.act.Act.TheVariants as own
 use Rattle.step_eval.specs.ControlView.{ControlView, expr_of}
 use Rattle.step_eval.specs.Progress.{ProgressView}

@@ -12,12 +12,12 @@ use Rattle.stab_journal.specs.declared.event.Label.{Label}
 use Rattle.stab_journal.specs.declared.event.Label.TheVariants.{Spawn, NewChan, NewRef, Enter, Cut, Print, Probe, Refuse, Pin, Attempt}
 use Rattle.stab_journal.specs.Label.{actors}
 use Rattle.stab_journal.specs.Names.{read}
-use Rattle.plain_language.specs.Expression.{Expr, failed}
-use Rattle.plain_language.specs.Look.{answered, entered}
-use Rattle.plain_language.specs.Numbers.{fits_word}
-use Rattle.plain_language.specs.Plain.{PlainState, effect_of, language_of, look_in, standing}
-use Rattle.plain_language.specs.Steps.{effect_in, exprs_at, held_at}
-use Rattle.plain_language.specs.Table.{spawns, makes_chan, makes_ref, enters, stabilizes, cuts, pins, prints, probes, attempts, act, to, spawn_by, chan_by, ref_by, enter_by, cut_by, pin_by, print_by, probe_by, refuse_by, attempt_by}
+use Rattle.language.specs.Expression.{Expr, failed}
+use Rattle.language.specs.Look.{answered, entered}
+use Rattle.language.specs.Numbers.{fits_word}
+use Rattle.language.specs.Plain.{PlainState, effect_of, language_of, look_in, standing}
+use Rattle.language.specs.Steps.{effect_in, exprs_at, held_at}
+use Rattle.language.specs.Table.{spawns, makes_chan, makes_ref, enters, stabilizes, cuts, pins, prints, probes, attempts, act, to, spawn_by, chan_by, ref_by, enter_by, cut_by, pin_by, print_by, probe_by, refuse_by, attempt_by}
 
 module _ (p : ProgramParts) (s : PlainState) (q : ℕ) (t : ThreadId) (e : Expr) (stands : standing s t.0 ≡ Some e) where
   only_actor : exprs_at s.threads (t.0 ∷ []) ≡ Some (e ∷ [])

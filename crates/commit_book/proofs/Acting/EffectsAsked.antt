@@ -3,10 +3,10 @@ use Rattle.std.proofs.Common.{◌≡◌, ℕ, false, List, refl, sym, ap}
 use Rattle.std.proofs.lemmas.Bool.{false≢true}
 use Rattle.stab_base.specs.Datum.{Datum}
 use Rattle.stab_code.specs.Program.{ProgramParts}
-use Rattle.plain_language.specs.Expression.{Expr, value, failed}
-use Rattle.plain_language.specs.Plain.{look_in}
-use Rattle.plain_language.specs.Table as table
-use Rattle.plain_language.specs.Table.{Look, done, fault, act, pure}
+use Rattle.language.specs.Expression.{Expr, value, failed}
+use Rattle.language.specs.Plain.{look_in}
+use Rattle.language.specs.Table as table
+use Rattle.language.specs.Table.{Look, done, fault, act, pure}
 use Rattle.step_eval.specs.declared.act.Act.{Act}
 use Rattle.step_eval.specs.declared.ask.Ask.TheVariants as ask
 use Rattle.step_eval.specs.Acts.{act_with}

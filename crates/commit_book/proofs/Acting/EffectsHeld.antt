@@ -11,12 +11,12 @@ use Rattle.stab_code.specs.Program.{ProgramParts}
 use Rattle.stab_journal.specs.declared.event.Event.{Event}
 use Rattle.stab_journal.specs.declared.event.Label.TheVariants.{Get, Set}
 use Rattle.stab_journal.specs.declared.event.Numbered.{Numbered}
-use Rattle.plain_language.specs.Expression.{Expr}
-use Rattle.plain_language.specs.Look.{answered}
-use Rattle.plain_language.specs.Plain.{PlainState, effect_of, language_of, look_in, standing}
-use Rattle.plain_language.specs.Standing.{StandsFor}
-use Rattle.plain_language.specs.Steps.{effect_in}
-use Rattle.plain_language.specs.Table.{gets, sets, Act, act, to, get_by, set_by}
+use Rattle.language.specs.Expression.{Expr}
+use Rattle.language.specs.Look.{answered}
+use Rattle.language.specs.Plain.{PlainState, effect_of, language_of, look_in, standing}
+use Rattle.language.specs.Standing.{StandsFor}
+use Rattle.language.specs.Steps.{effect_in}
+use Rattle.language.specs.Table.{gets, sets, Act, act, to, get_by, set_by}
 use Rattle.journal_laws.specs.Known.{known_in, IsActIn, IsExprIn, IsKnown, IsLookIn}
 use Rattle.journal_laws.proofs.Occurring.{kept}
 use Rattle.journal_laws.proofs.Runs.{run_known}

@@ -6,12 +6,12 @@ use Rattle.std.specs.FinMap as map
 use Rattle.stab_base.specs.declared.numbers.ThreadId.{ThreadId}
 use Rattle.stab_code.specs.Program.{ProgramParts}
 use Rattle.stab_journal.specs.declared.event.Label.TheVariants.{Local}
-use Rattle.plain_language.specs.Expression.{Expr}
-use Rattle.plain_language.specs.Plain.{PlainState, effect_of, language_of, standing}
-use Rattle.plain_language.specs.Steps.{apply, effect_in}
-use Rattle.plain_language.specs.Table.{Act, act, local_by, pure_steps, to}
-use Rattle.plain_language.specs.Plain.{look_in}
-use Rattle.plain_language.proofs.Applying.{get_inserted}
+use Rattle.language.specs.Expression.{Expr}
+use Rattle.language.specs.Plain.{PlainState, effect_of, language_of, standing}
+use Rattle.language.specs.Steps.{apply, effect_in}
+use Rattle.language.specs.Table.{Act, act, local_by, pure_steps, to}
+use Rattle.language.specs.Plain.{look_in}
+use Rattle.language.proofs.Applying.{get_inserted}
 use Rattle.step_eval.specs.ControlView.{ControlView, expr_of}
 use Rattle.step_eval.specs.Progress.{Advances}
 use Rattle.journal_laws.specs.Known.{known_in, IsActIn, IsExprIn, IsKnown}

@@ -7,12 +7,12 @@ use Rattle.stab_base.specs.declared.numbers.ChanId.{ChanId}
 use Rattle.stab_base.specs.declared.numbers.ThreadId.{ThreadId}
 use Rattle.stab_code.specs.Program.{ProgramParts}
 use Rattle.stab_journal.specs.declared.event.Label.TheVariants.{Comm}
-use Rattle.plain_language.specs.Effects.{picked_at}
-use Rattle.plain_language.specs.Expression.{Expr}
-use Rattle.plain_language.specs.Look.{answered}
-use Rattle.plain_language.specs.Plain.{PlainState, effect_of, language_of, look_in, standing}
-use Rattle.plain_language.specs.Steps.{Effect, effect_in, exprs_at}
-use Rattle.plain_language.specs.Table.{sends, picks, act, received_by, sent_by}
+use Rattle.language.specs.Effects.{picked_at}
+use Rattle.language.specs.Expression.{Expr}
+use Rattle.language.specs.Look.{answered}
+use Rattle.language.specs.Plain.{PlainState, effect_of, language_of, look_in, standing}
+use Rattle.language.specs.Steps.{Effect, effect_in, exprs_at}
+use Rattle.language.specs.Table.{sends, picks, act, received_by, sent_by}
 
 module _ (p : ProgramParts) where
   pub picked_first : (c a b : ℕ) (e : Expr) (v : Datum) → look_in p e ≡ act (picks a b) → nat_eq a c ≡ true → received_by (language_of p) c e v (look_in p e) ≡ Some (picked_at e (pos 0) v)

@@ -7,12 +7,12 @@ use Rattle.stab_base.specs.declared.numbers.ChanId.{ChanId}
 use Rattle.stab_code.specs.Program.{ProgramParts}
 use Rattle.rendezvous.specs.declared.offer.Offer.{Offer}
 use Rattle.rendezvous.specs.Offer.{sends_on, receives_on}
-use Rattle.plain_language.specs.Effects.{picked_at}
-use Rattle.plain_language.specs.Expression.{Expr}
-use Rattle.plain_language.specs.Look.{answered}
-use Rattle.plain_language.specs.Plain.{language_of, look_in}
-use Rattle.plain_language.specs.Table.{Look, act, sends, receives, picks, received_by}
-use Rattle.plain_language.specs.Table as table
+use Rattle.language.specs.Effects.{picked_at}
+use Rattle.language.specs.Expression.{Expr}
+use Rattle.language.specs.Look.{answered}
+use Rattle.language.specs.Plain.{language_of, look_in}
+use Rattle.language.specs.Table.{Look, act, sends, receives, picks, received_by}
+use Rattle.language.specs.Table as table
 use Rattle.step_eval.specs.declared.act.Act.{Act}
 use Rattle.step_eval.specs.declared.act.Act.TheVariants.{Send, Recv, Pick}
 use Rattle.step_eval.specs.declared.ask.Ask.{Ask}

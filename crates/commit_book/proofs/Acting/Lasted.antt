@@ -23,13 +23,13 @@ use Rattle.comm_graph.specs.Node.{Node}
 use Rattle.comm_graph.specs.declared.node.NodeFor.{NodeFor}
 use Rattle.comm_graph.specs.declared.node.NodeFor.TheVariants as node
 use Rattle.ref_log.specs.Log.{Write}
-use Rattle.plain_language.specs.Expression.{Expr, failed}
-use Rattle.plain_language.specs.Look.{answered, entered}
-use Rattle.plain_language.specs.Outcome.{called}
-use Rattle.plain_language.specs.Plain.{language_of}
-use Rattle.plain_language.specs.Program.{body}
-use Rattle.plain_language.specs.Redex.{mark}
-use Rattle.plain_language.specs.Table.{to}
+use Rattle.language.specs.Expression.{Expr, failed}
+use Rattle.language.specs.Look.{answered, entered}
+use Rattle.language.specs.Outcome.{called}
+use Rattle.language.specs.Plain.{language_of}
+use Rattle.language.specs.Program.{body}
+use Rattle.language.specs.Redex.{mark}
+use Rattle.language.specs.Table.{to}
 use Rattle.step_eval.specs.declared.act.Act.TheVariants as own
 use Rattle.step_eval.specs.Asked.{operands_of}
 use Rattle.step_eval.specs.ControlView.{ControlView, Fits, expr_of}

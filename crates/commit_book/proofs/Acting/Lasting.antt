@@ -19,10 +19,10 @@ use Rattle.comm_graph.specs.declared.node.NodeFor.{NodeFor}
 use Rattle.comm_graph.specs.declared.node.NodeFor.TheVariants as node
 use Rattle.ref_log.specs.Calls.{IsAfter, made, wrote}
 use Rattle.ref_log.specs.Log.{Log}
-use Rattle.plain_language.specs.Look.{answered}
-use Rattle.plain_language.specs.Numbers.{fits_word}
-use Rattle.plain_language.specs.Plain.{language_of}
-use Rattle.plain_language.specs.Table.{to}
+use Rattle.language.specs.Look.{answered}
+use Rattle.language.specs.Numbers.{fits_word}
+use Rattle.language.specs.Plain.{language_of}
+use Rattle.language.specs.Table.{to}
 use Rattle.step_eval.specs.declared.act.Act.TheVariants as own
 use Rattle.step_eval.specs.Acts.{first_of, second_of}
 use Rattle.step_eval.specs.Asked.{operands_of}

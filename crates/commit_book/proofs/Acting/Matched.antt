@@ -13,9 +13,9 @@ use Rattle.rendezvous.specs.declared.offer.Offer.{Offer}
 use Rattle.rendezvous.specs.declared.offer.Offer.TheVariants as offers
 use Rattle.rendezvous.specs.Line.{AreThere, Line, Lines, Seen, nobody}
 use Rattle.rendezvous.specs.Offer.{receives_on, sends_on}
-use Rattle.plain_language.specs.Expression.{Expr}
-use Rattle.plain_language.specs.Plain.{look_in}
-use Rattle.plain_language.specs.Table.{Look, act, sends, receives, picks}
+use Rattle.language.specs.Expression.{Expr}
+use Rattle.language.specs.Plain.{look_in}
+use Rattle.language.specs.Table.{Look, act, sends, receives, picks}
 use Rattle.journal_laws.proofs.Surviving.{some_is, some_none}
 use Rattle.step_eval.specs.ControlView.{expr_of}
 use Rattle.step_eval.specs.Progress.{ProgressView}

@@ -12,8 +12,8 @@ use Rattle.thread_slots.specs.declared.state.State.TheVariants.{Parked}
 use Rattle.thread_slots.specs.Ready.{IsQueueOf}
 use Rattle.thread_slots.specs.Slot.{Seen, Slot, changed, is_ready_at, same_state}
 use Rattle.rendezvous.specs.Line.{Line, left}
-use Rattle.plain_language.specs.Expression.{Expr}
-use Rattle.plain_language.specs.Steps.{Effect, apply}
+use Rattle.language.specs.Expression.{Expr}
+use Rattle.language.specs.Steps.{Effect, apply}
 use Rattle.step_eval.specs.ControlView.{ControlView, Fits, expr_of}
 use Rattle.step_eval.specs.Progress.{ProgressView}
 use Rattle.commit_book.specs.declared.counts.Tallies.{Tallies}

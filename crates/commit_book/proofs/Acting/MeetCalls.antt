@@ -12,10 +12,10 @@ use Rattle.stab_journal.specs.Names.{has}
 use Rattle.comm_graph.specs.declared.node.NodeFor.TheVariants as node
 use Rattle.thread_slots.specs.Slot.{Slot}
 use Rattle.rendezvous.specs.declared.offer.Offer.{Offer}
-use Rattle.plain_language.specs.Expression.{Expr}
-use Rattle.plain_language.specs.Look.{answered}
-use Rattle.plain_language.specs.Plain.{standing}
-use Rattle.plain_language.specs.Steps.{Effect, apply}
+use Rattle.language.specs.Expression.{Expr}
+use Rattle.language.specs.Look.{answered}
+use Rattle.language.specs.Plain.{standing}
+use Rattle.language.specs.Steps.{Effect, apply}
 use Rattle.step_eval.specs.Acts.{second_of}
 use Rattle.step_eval.specs.Asked.{operands_of}
 use Rattle.step_eval.specs.ControlView.{ControlView, Fits, expr_of}

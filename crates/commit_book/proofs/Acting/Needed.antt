@@ -15,8 +15,8 @@ use Rattle.checkpoint_store.specs.Saved.{Saved, IsBelow, saved_at}
 use Rattle.comm_graph.specs.Node.{Node}
 use Rattle.ref_log.specs.Calls.{IsAllowed, cut, made, wrote}
 use Rattle.ref_log.specs.Log.{Log, Write, last_of, writes_of}
-use Rattle.plain_language.specs.Expression.{Expr}
-use Rattle.plain_language.specs.Table.{gets, sets}
+use Rattle.language.specs.Expression.{Expr}
+use Rattle.language.specs.Table.{gets, sets}
 use Rattle.step_eval.specs.declared.act.Act.TheVariants as own
 use Rattle.step_eval.specs.Acts.{second_of}
 use Rattle.step_eval.specs.Asked.{operands_of}

@@ -12,11 +12,11 @@ use Rattle.stab_code.specs.Program.{ProgramParts}
 use Rattle.stab_journal.specs.declared.event.Label.TheVariants.{NewChan}
 use Rattle.stab_journal.specs.Generation.{generation}
 use Rattle.rendezvous.specs.Line.{Line, Lines, Seen, nobody}
-use Rattle.plain_language.specs.Expression.{Expr}
-use Rattle.plain_language.specs.Look.{answered}
-use Rattle.plain_language.specs.Plain.{language_of}
-use Rattle.plain_language.specs.Table.{to}
-use Rattle.plain_language.proofs.Applying.{get_inserted}
+use Rattle.language.specs.Expression.{Expr}
+use Rattle.language.specs.Look.{answered}
+use Rattle.language.specs.Plain.{language_of}
+use Rattle.language.specs.Table.{to}
+use Rattle.language.proofs.Applying.{get_inserted}
 use Rattle.step_eval.specs.declared.act.Act.TheVariants as own
 use Rattle.step_eval.specs.ControlView.{ControlView, expr_of}
 use Rattle.step_eval.specs.Progress.{ProgressView}

@@ -23,14 +23,14 @@ use Rattle.stab_journal.specs.Script.{probed, probed_by}
 use Rattle.comm_graph.specs.declared.node.NodeFor.TheVariants as node
 use Rattle.thread_slots.specs.Slot.{Slot, changed, started}
 use Rattle.rendezvous.specs.Line.{Line, Lines}
-use Rattle.plain_language.specs.Expression.{Expr}
-use Rattle.plain_language.specs.Look.{answered}
-use Rattle.plain_language.specs.Outcome.{called}
-use Rattle.plain_language.specs.Plain.{effect_of, look_in}
-use Rattle.plain_language.specs.Program.{body}
-use Rattle.plain_language.specs.Standing.{MayStep}
-use Rattle.plain_language.specs.Steps.{Effect, allows, apply, effect_in}
-use Rattle.plain_language.specs.Table.{act, spawns}
+use Rattle.language.specs.Expression.{Expr}
+use Rattle.language.specs.Look.{answered}
+use Rattle.language.specs.Outcome.{called}
+use Rattle.language.specs.Plain.{effect_of, look_in}
+use Rattle.language.specs.Program.{body}
+use Rattle.language.specs.Standing.{MayStep}
+use Rattle.language.specs.Steps.{Effect, allows, apply, effect_in}
+use Rattle.language.specs.Table.{act, spawns}
 use Rattle.step_eval.specs.Asked.{operands_of}
 use Rattle.step_eval.specs.ControlView.{ControlView, Fits, expr_of}
 use Rattle.step_eval.specs.Progress.{ProgressView}

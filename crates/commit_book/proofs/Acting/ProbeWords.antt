@@ -1,7 +1,7 @@
 -- Each number of 64 bits may be what a probe gets.
 use Rattle.std.proofs.Common.{◌≡◌, ℕ, ◌<◌, ◌^◌, true, nat_lt, pos, negsuc, ℤ, arith, SFits, w64}
 use Rattle.std.proofs.lemmas.Bool.Decides.{nat_tests}
-use Rattle.plain_language.specs.Numbers.{fits_word}
+use Rattle.language.specs.Numbers.{fits_word}
 
 below : (n : ℕ) → n < 2 ^ 63 → nat_lt n (2 ^ 63) ≡ true
 below n h = grind (arith, nat_tests)

@@ -15,8 +15,8 @@ use Rattle.stab_journal.specs.Generation.{generation}
 use Rattle.stab_journal.specs.Journal.{step_at, survivors, survivors_from}
 use Rattle.stab_journal.specs.Script.{FollowsScript, probed}
 use Rattle.thread_slots.specs.Slot.{Slot}
-use Rattle.plain_language.specs.Plain.{PlainState}
-use Rattle.plain_language.specs.Standing.{StandsFor, event, release}
+use Rattle.language.specs.Plain.{PlainState}
+use Rattle.language.specs.Standing.{StandsFor, event, release}
 use Rattle.step_eval.specs.ControlView.{ControlView}
 use Rattle.commit_book.specs.declared.counts.Tallies.{Tallies}
 use Rattle.commit_book.specs.declared.parts.Parts.{Parts}

@@ -18,8 +18,8 @@ use Rattle.stab_journal.specs.Floor.{floor}
 use Rattle.stab_journal.specs.Journal.{IsValid, Journal, RiseFrom, survivors}
 use Rattle.stab_journal.specs.Surviving.{run_of}
 use Rattle.stab_journal.proofs.Surviving.{are_survivors}
-use Rattle.plain_language.specs.Shown.{line}
-use Rattle.plain_language.specs.Standing.{event}
+use Rattle.language.specs.Shown.{line}
+use Rattle.language.specs.Standing.{event}
 use Rattle.journal_laws.proofs.Undone.{stands_run}
 use Rattle.print_log.specs.Log.{Print, values}
 use Rattle.commit_book.specs.declared.counts.Tallies.{Tallies}

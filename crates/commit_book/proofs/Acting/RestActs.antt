@@ -14,9 +14,9 @@ use Rattle.stab_journal.specs.Journal.{survivors}
 use Rattle.stab_journal.specs.Script.{probed}
 use Rattle.thread_slots.specs.Slot.{Slot, changed}
 use Rattle.rendezvous.specs.Line.{Line, Seen}
-use Rattle.plain_language.specs.Expression.{Expr}
-use Rattle.plain_language.specs.Plain.{look_in}
-use Rattle.plain_language.specs.Table.{Look, act, done, fault, pure}
+use Rattle.language.specs.Expression.{Expr}
+use Rattle.language.specs.Plain.{look_in}
+use Rattle.language.specs.Table.{Look, act, done, fault, pure}
 use Rattle.step_eval.specs.ControlView.{ControlView, Fits, expr_of}
 use Rattle.step_eval.specs.Progress.{ProgressView}
 use Rattle.commit_book.specs.declared.counts.Tallies.{Tallies}

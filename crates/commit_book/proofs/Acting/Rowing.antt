@@ -4,11 +4,11 @@ use Rattle.std.proofs.lemmas.Bool.{false≢true}
 use Rattle.stab_base.specs.Datum.{Datum}
 use Rattle.stab_code.specs.Program.{ProgramParts}
 use Rattle.stab_journal.specs.Journal.{survivors}
-use Rattle.plain_language.specs.Expression.{Expr}
-use Rattle.plain_language.specs.Plain.{look_in}
-use Rattle.plain_language.specs.Program.{body}
-use Rattle.plain_language.specs.Redex.{mark}
-use Rattle.plain_language.specs.Table.{Look, act}
+use Rattle.language.specs.Expression.{Expr}
+use Rattle.language.specs.Plain.{look_in}
+use Rattle.language.specs.Program.{body}
+use Rattle.language.specs.Redex.{mark}
+use Rattle.language.specs.Table.{Look, act}
 use Rattle.step_eval.specs.declared.act.Act.{Act}
 use Rattle.step_eval.specs.declared.act.Act.TheVariants as own
 use Rattle.step_eval.specs.Acts.{act_with}

@@ -5,9 +5,9 @@ use Rattle.std.specs.Cmp.{nat_eq_equiv}
 use Rattle.std.proofs.lemmas.Bool.{eqb-true}
 use Rattle.rendezvous.specs.declared.offer.Offer.{Offer}
 use Rattle.rendezvous.specs.declared.offer.Offer.TheVariants as offer
-use Rattle.plain_language.specs.Expression.{Expr}
-use Rattle.plain_language.specs.Plain.{look_in}
-use Rattle.plain_language.specs.Table.{Look, act, sends, receives, picks}
+use Rattle.language.specs.Expression.{Expr}
+use Rattle.language.specs.Plain.{look_in}
+use Rattle.language.specs.Table.{Look, act, sends, receives, picks}
 use Rattle.stab_journal.specs.declared.event.Label.TheVariants.{Comm}
 use Rattle.journal_laws.proofs.Surviving.{some_is, some_none}
 use Rattle.step_eval.specs.ControlView.{expr_of}

@@ -18,9 +18,9 @@ use Rattle.stab_journal.specs.Label.{touched}
 use Rattle.stab_journal.specs.Script.{probed, probed_by}
 use Rattle.thread_slots.specs.Slot.{Slot, changed}
 use Rattle.rendezvous.specs.Line.{Line}
-use Rattle.plain_language.specs.Expression.{Expr}
-use Rattle.plain_language.specs.Plain.{PlainState, standing}
-use Rattle.plain_language.specs.Steps.{Effect, apply}
+use Rattle.language.specs.Expression.{Expr}
+use Rattle.language.specs.Plain.{PlainState, standing}
+use Rattle.language.specs.Steps.{Effect, apply}
 use Rattle.step_eval.specs.ControlView.{ControlView, Fits, expr_of}
 use Rattle.step_eval.specs.Progress.{ProgressView}
 use Rattle.print_log.specs.Log.{Prints}

@@ -9,10 +9,10 @@ use Rattle.stab_journal.specs.declared.event.Label.{Label}
 use Rattle.stab_journal.specs.Generation.{generation}
 use Rattle.thread_slots.specs.Slot.{Slot}
 use Rattle.rendezvous.specs.Line.{Line, Lines, Seen}
-use Rattle.plain_language.specs.Expression.{Expr}
-use Rattle.plain_language.specs.Program.{body}
-use Rattle.plain_language.specs.Steps.{Effect}
-use Rattle.plain_language.specs.Table.{act}
+use Rattle.language.specs.Expression.{Expr}
+use Rattle.language.specs.Program.{body}
+use Rattle.language.specs.Steps.{Effect}
+use Rattle.language.specs.Table.{act}
 use Rattle.step_eval.specs.declared.act.Act.{Act}
 use Rattle.step_eval.specs.Acts.{act_with}
 use Rattle.step_eval.specs.Asked.{operands_of}

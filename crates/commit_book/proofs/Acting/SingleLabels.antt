@@ -18,14 +18,14 @@ use Rattle.stab_journal.specs.Script.{FollowsScript, probed, script_at}
 use Rattle.checkpoint_store.specs.Saved.{is_place}
 use Rattle.comm_graph.specs.declared.node.NodeFor.TheVariants as node
 use Rattle.ref_log.specs.Calls.{IsAfter, made, wrote}
-use Rattle.plain_language.specs.Expression.{Expr, failed}
-use Rattle.plain_language.specs.Look.{answered, entered}
-use Rattle.plain_language.specs.Numbers.{fits_word}
-use Rattle.plain_language.specs.Plain.{language_of}
-use Rattle.plain_language.specs.Program.{body}
-use Rattle.plain_language.specs.Redex.{mark}
-use Rattle.plain_language.specs.Standing.{event}
-use Rattle.plain_language.specs.Table.{act, enters, to}
+use Rattle.language.specs.Expression.{Expr, failed}
+use Rattle.language.specs.Look.{answered, entered}
+use Rattle.language.specs.Numbers.{fits_word}
+use Rattle.language.specs.Plain.{language_of}
+use Rattle.language.specs.Program.{body}
+use Rattle.language.specs.Redex.{mark}
+use Rattle.language.specs.Standing.{event}
+use Rattle.language.specs.Table.{act, enters, to}
 use Rattle.step_eval.specs.declared.act.Act.TheVariants as own
 use Rattle.step_eval.specs.Acts.{act_with, first_of, second_of}
 use Rattle.step_eval.specs.Asked.{operands_of}

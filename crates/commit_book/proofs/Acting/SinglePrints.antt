@@ -3,7 +3,7 @@ use Rattle.std.proofs.Common.{◌≡◌, ℕ, ◌+◌, ◌≤◌, [], ◌∷◌,
 use Rattle.stab_base.specs.Datum.{unit}
 use Rattle.stab_code.specs.JobParts.{JobParts}
 use Rattle.stab_journal.specs.declared.event.Label.TheVariants.{Print}
-use Rattle.plain_language.specs.Look.{answered}
+use Rattle.language.specs.Look.{answered}
 use Rattle.step_eval.specs.declared.act.Act.TheVariants as own
 use Rattle.step_eval.specs.Acts.{first_of}
 use Rattle.step_eval.specs.Asked.{operands_of}

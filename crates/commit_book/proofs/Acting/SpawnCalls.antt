@@ -13,10 +13,10 @@ use Rattle.stab_code.specs.Program.{ProgramParts}
 use Rattle.stab_journal.specs.declared.event.Label.TheVariants.{Spawn}
 use Rattle.comm_graph.specs.declared.node.NodeFor.TheVariants as node
 use Rattle.thread_slots.specs.Slot.{Slot, started}
-use Rattle.plain_language.specs.Look.{answered}
-use Rattle.plain_language.specs.Outcome.{called}
-use Rattle.plain_language.specs.Program.{body}
-use Rattle.plain_language.proofs.Applying.{get_inserted}
+use Rattle.language.specs.Look.{answered}
+use Rattle.language.specs.Outcome.{called}
+use Rattle.language.specs.Program.{body}
+use Rattle.language.proofs.Applying.{get_inserted}
 use Rattle.step_eval.specs.declared.act.Act.TheVariants as own
 use Rattle.step_eval.specs.Asked.{operands_of}
 use Rattle.step_eval.specs.ControlView.{ControlView, Fits, expr_of}

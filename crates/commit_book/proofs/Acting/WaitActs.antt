@@ -15,7 +15,7 @@ use Rattle.thread_slots.specs.declared.state.State.TheVariants.{Parked}
 use Rattle.thread_slots.specs.Slot.{IsSound, changed, same_state}
 use Rattle.rendezvous.specs.declared.offer.Offer.{Offer}
 use Rattle.rendezvous.specs.Line.{AreThere, Line, joined}
-use Rattle.plain_language.specs.Plain.{PlainState}
+use Rattle.language.specs.Plain.{PlainState}
 use Rattle.step_eval.specs.ControlView.{expr_of}
 use Rattle.step_eval.specs.Progress.{ProgressView}
 use Rattle.commit_book.specs.declared.parts.Parts.{Parts}

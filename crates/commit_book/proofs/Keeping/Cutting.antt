@@ -16,7 +16,7 @@ use Rattle.stab_journal.specs.Names.{has}
 use Rattle.ref_log.specs.Log.{Write, has_below, kept}
 use Rattle.checkpoint_store.specs.Saved.{place_cmp}
 use Rattle.comm_graph.specs.Node.{Node}
-use Rattle.plain_language.specs.Steps.{State, Table, next}
+use Rattle.language.specs.Steps.{State, Table, next}
 use Rattle.journal_laws.specs.Surviving.{thread_of}
 use Rattle.journal_laws.proofs.Numbers.{rise_front}
 use Rattle.commit_book.specs.Graph.{nodes_from, nodes_above, AreNodesOf}

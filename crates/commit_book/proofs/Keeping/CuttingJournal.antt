@@ -15,10 +15,10 @@ use Rattle.stab_journal.specs.Journal.{step_at, survivors}
 use Rattle.stab_journal.specs.Script.{FollowsScript}
 use Rattle.ref_log.specs.Log.{kept}
 use Rattle.comm_graph.specs.Node.{Node}
-use Rattle.plain_language.specs.Expression.{Expr}
-use Rattle.plain_language.specs.Plain.{PlainState, effect_of, start}
-use Rattle.plain_language.specs.Standing.{StandsFor, event, step}
-use Rattle.plain_language.specs.Steps.{Effect, allows, apply, effect_in, plain}
+use Rattle.language.specs.Expression.{Expr}
+use Rattle.language.specs.Plain.{PlainState, effect_of, start}
+use Rattle.language.specs.Standing.{StandsFor, event, step}
+use Rattle.language.specs.Steps.{Effect, allows, apply, effect_in, plain}
 use Rattle.step_eval.specs.ControlView.{Fits, expr_of}
 use Rattle.journal_laws.proofs.Stepping.{plain_of}
 use Rattle.journal_laws.proofs.Undone.{stands_run}

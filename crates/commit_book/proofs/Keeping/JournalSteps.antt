@@ -8,10 +8,10 @@ use Rattle.stab_journal.specs.declared.event.Numbered.{Numbered}
 use Rattle.stab_journal.specs.declared.event.What.TheVariants.{Step}
 use Rattle.stab_journal.specs.declared.event.Event.{Event}
 use Rattle.stab_journal.specs.Floor.{is_cut, floor}
-use Rattle.plain_language.specs.Expression.{Expr}
-use Rattle.plain_language.specs.Plain.{PlainState, effect_of, start}
-use Rattle.plain_language.specs.Standing.{StandsFor, MayStep, event, step}
-use Rattle.plain_language.specs.Steps.{Effect, allows, apply, effect_in, plain}
+use Rattle.language.specs.Expression.{Expr}
+use Rattle.language.specs.Plain.{PlainState, effect_of, start}
+use Rattle.language.specs.Standing.{StandsFor, MayStep, event, step}
+use Rattle.language.specs.Steps.{Effect, allows, apply, effect_in, plain}
 use Rattle.step_eval.specs.ControlView.{expr_of}
 use Rattle.journal_laws.proofs.Stepping.{plain_of}
 use Rattle.journal_laws.proofs.Undone.{stands_run}

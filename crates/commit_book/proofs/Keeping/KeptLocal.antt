@@ -10,11 +10,11 @@ use Rattle.stab_journal.specs.Event.{IsLabel}
 use Rattle.stab_journal.specs.Journal.{survivors}
 use Rattle.stab_journal.specs.Generation.{generation}
 use Rattle.stab_journal.specs.Script.{probed}
-use Rattle.plain_language.specs.Expression.{Expr}
-use Rattle.plain_language.specs.Plain.{PlainState, language_of, standing}
-use Rattle.plain_language.specs.Standing.{event}
-use Rattle.plain_language.specs.Steps.{apply}
-use Rattle.plain_language.specs.Table.{to}
+use Rattle.language.specs.Expression.{Expr}
+use Rattle.language.specs.Plain.{PlainState, language_of, standing}
+use Rattle.language.specs.Standing.{event}
+use Rattle.language.specs.Steps.{apply}
+use Rattle.language.specs.Table.{to}
 use Rattle.step_eval.specs.ControlView.{ControlView, expr_of}
 use Rattle.step_eval.specs.Progress.{Advances}
 use Rattle.commit_book.specs.Book.{BookView, ShowsJournal}

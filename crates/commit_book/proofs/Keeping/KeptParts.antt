@@ -13,7 +13,7 @@ use Rattle.checkpoint_store.specs.Saved.{is_place, place_cmp}
 use Rattle.ref_log.specs.Calls.{IsAfter, made, wrote}
 use Rattle.ref_log.specs.Log.{Log, Write, writes_of}
 use Rattle.rendezvous.specs.Line.{Lines, left, nobody}
-use Rattle.plain_language.proofs.Applying.{get_inserted}
+use Rattle.language.proofs.Applying.{get_inserted}
 use Rattle.commit_book.specs.Saved.{saved_of, AllSaved}
 
 -- ---- channels

@@ -19,10 +19,10 @@ use Rattle.stab_journal.specs.Script.{FollowsScript, probed_by}
 use Rattle.checkpoint_store.specs.Saved.{is_place, place_cmp}
 use Rattle.comm_graph.specs.declared.node.NodeFor.TheVariants as node
 use Rattle.rendezvous.specs.Line.{nobody}
-use Rattle.plain_language.specs.Expression.{Expr}
-use Rattle.plain_language.specs.Plain.{PlainState}
-use Rattle.plain_language.specs.Standing.{event}
-use Rattle.plain_language.specs.Steps.{Effect}
+use Rattle.language.specs.Expression.{Expr}
+use Rattle.language.specs.Plain.{PlainState}
+use Rattle.language.specs.Standing.{event}
+use Rattle.language.specs.Steps.{Effect}
 use Rattle.step_eval.specs.ControlView.{ControlView, Fits, expr_of}
 use Rattle.commit_book.specs.Book.{BookView, Next, ShowsJournal}
 use Rattle.commit_book.specs.Graph.{node_of, one_node}

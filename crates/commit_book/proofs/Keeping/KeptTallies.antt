@@ -11,8 +11,8 @@ use Rattle.stab_journal.specs.Due.{final_prints, released}
 use Rattle.stab_journal.specs.Floor.{is_cut, floor}
 use Rattle.stab_journal.specs.Journal.{Journal, step_at, survivors}
 use Rattle.stab_journal.specs.Script.{probed_by, probed}
-use Rattle.plain_language.specs.Plain.{PlainState}
-use Rattle.plain_language.specs.Standing.{Shows, event}
+use Rattle.language.specs.Plain.{PlainState}
+use Rattle.language.specs.Standing.{Shows, event}
 use Rattle.commit_book.specs.Counts.{is_undo}
 use Rattle.commit_book.proofs.Keeping.EventSteps.{finals_step, probed_snoc, released_snoc}
 use Rattle.commit_book.proofs.Keeping.Floors.{floor_below}

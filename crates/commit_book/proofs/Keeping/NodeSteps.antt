@@ -17,7 +17,7 @@ use Rattle.stab_journal.specs.Label.{written}
 use Rattle.stab_journal.specs.Names.{is_at}
 use Rattle.ref_log.specs.Log.{Write, last_of}
 use Rattle.comm_graph.specs.Node.{Node}
-use Rattle.plain_language.specs.Steps.{State, Table, plain, after_steps, put_value}
+use Rattle.language.specs.Steps.{State, Table, plain, after_steps, put_value}
 use Rattle.journal_laws.specs.Surviving.{value_of}
 use Rattle.journal_laws.proofs.Applying.{put_value-here}
 use Rattle.journal_laws.proofs.Numbers.{rise_front}

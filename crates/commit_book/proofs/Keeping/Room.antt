@@ -9,7 +9,7 @@ use Rattle.stab_journal.specs.declared.event.What.TheVariants.{Step}
 use Rattle.stab_journal.specs.Event.{IsGeneration, IsLabel, IsName, weigh, weight_of}
 use Rattle.stab_journal.specs.Generation.{generation}
 use Rattle.stab_journal.specs.Script.{probed_by, probed}
-use Rattle.plain_language.specs.Standing.{event}
+use Rattle.language.specs.Standing.{event}
 use Rattle.stab_journal.specs.Numbers.{AreNext, AreFew}
 use Rattle.commit_book.proofs.Keeping.EventSteps.{generation_few}
 

@@ -8,7 +8,7 @@ use Rattle.stab_base.specs.declared.numbers.ChanId.{ChanId}
 use Rattle.stab_journal.specs.declared.event.Numbered.{Numbered}
 use Rattle.rendezvous.specs.declared.offer.Offer.TheVariants as offers
 use Rattle.rendezvous.specs.Line.{AreThere}
-use Rattle.plain_language.specs.Plain.{PlainState}
+use Rattle.language.specs.Plain.{PlainState}
 use Rattle.commit_book.specs.Book.{BookView, ShowsJournal}
 use Rattle.commit_book.proofs.Keeping.Named.{new_thread, new_channel, new_reference, old_thread, old_channel, old_reference}
 

@@ -20,7 +20,7 @@ use Rattle.checkpoint_store.specs.Saved.{Saved, IsBelow, is_place, place_cmp, sa
 use Rattle.comm_graph.specs.Node.{Node}
 use Rattle.ref_log.specs.Calls.{IsAllowed, cut, made, wrote}
 use Rattle.ref_log.specs.Log.{Log, Write, has_write, last_of, writes_of}
-use Rattle.plain_language.specs.Plain.{PlainState, effect_of, start}
+use Rattle.language.specs.Plain.{PlainState, effect_of, start}
 use Rattle.step_eval.specs.ControlView.{ControlView, expr_of}
 use Rattle.journal_laws.proofs.Surviving.{some_none}
 use Rattle.journal_laws.proofs.Undone.{stands_run}

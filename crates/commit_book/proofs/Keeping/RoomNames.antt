@@ -18,11 +18,11 @@ use Rattle.stab_journal.specs.Event.{IsLabel, IsWhat, AreEvents}
 use Rattle.stab_journal.specs.Label.{touched}
 use Rattle.stab_journal.specs.Names.{has}
 use Rattle.stab_journal.specs.Surviving.{run_of}
-use Rattle.plain_language.specs.Outcome.{called}
-use Rattle.plain_language.specs.Plain.{PlainState, effect_of, start}
-use Rattle.plain_language.specs.Program.{body}
-use Rattle.plain_language.specs.Standing.{StandsFor}
-use Rattle.plain_language.proofs.Applying.{get_inserted}
+use Rattle.language.specs.Outcome.{called}
+use Rattle.language.specs.Plain.{PlainState, effect_of, start}
+use Rattle.language.specs.Program.{body}
+use Rattle.language.specs.Standing.{StandsFor}
+use Rattle.language.proofs.Applying.{get_inserted}
 use Rattle.journal_laws.proofs.Undone.{stands_run}
 use Rattle.stab_journal.specs.Numbers.{chans_in, refs_in, named_by, threads_by}
 use Rattle.commit_book.proofs.Keeping.Floors.{differs_too}

@@ -15,9 +15,9 @@ use Rattle.stab_journal.specs.declared.event.What.TheVariants.{Step, Undo, Relea
 use Rattle.stab_journal.specs.Journal.{Journal, RiseFrom, step_at, survivors_from}
 use Rattle.stab_journal.specs.Label.{actors, written}
 use Rattle.stab_journal.specs.Names.{has, is_at}
-use Rattle.plain_language.specs.Plain.{PlainState}
-use Rattle.plain_language.specs.Standing.{Shows}
-use Rattle.plain_language.specs.Steps.{State, Table, next}
+use Rattle.language.specs.Plain.{PlainState}
+use Rattle.language.specs.Standing.{Shows}
+use Rattle.language.specs.Steps.{State, Table, next}
 use Rattle.journal_laws.specs.Surviving.{thread_of, value_of}
 use Rattle.journal_laws.proofs.Numbers.{rise_front}
 use Rattle.ref_log.specs.Log.{Write, kept}

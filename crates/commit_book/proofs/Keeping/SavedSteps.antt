@@ -10,7 +10,7 @@ use Rattle.stab_journal.specs.Journal.{RiseFrom}
 use Rattle.stab_journal.specs.Label.{actors}
 use Rattle.stab_journal.specs.Names.{has}
 use Rattle.checkpoint_store.specs.Saved.{place_cmp}
-use Rattle.plain_language.specs.Steps.{State, Table, after_steps, next}
+use Rattle.language.specs.Steps.{State, Table, after_steps, next}
 use Rattle.journal_laws.specs.Surviving.{thread_of}
 use Rattle.journal_laws.proofs.Numbers.{rise_front}
 use Rattle.commit_book.specs.Run.{saves, stood_at}

@@ -17,7 +17,7 @@ use Rattle.comm_graph.specs.Node.{Node}
 use Rattle.ref_log.specs.Log.{Write}
 use Rattle.rendezvous.specs.Line.{Seen}
 use Rattle.thread_slots.specs.Slot.{Slot}
-use Rattle.plain_language.specs.Standing.{event}
+use Rattle.language.specs.Standing.{event}
 use Rattle.step_eval.specs.ControlView.{ControlView}
 use Rattle.print_log.specs.Log.{Print, values}
 use Rattle.commit_book.specs.declared.counts.Tallies.{Tallies}

@@ -14,8 +14,8 @@ use Rattle.stab_journal.specs.Label.{touched, written}
 use Rattle.stab_journal.specs.Names.{has, is_at, made}
 use Rattle.stab_journal.specs.Reached.{reached, rest}
 use Rattle.stab_journal.specs.Surviving.{after_event, after_events}
-use Rattle.plain_language.specs.Steps.{State, Effect, Table, plain, apply, after_steps}
-use Rattle.plain_language.proofs.Applying.{put_threads-apart, put_value-apart, put_channel-is}
+use Rattle.language.specs.Steps.{State, Effect, Table, plain, apply, after_steps}
+use Rattle.language.proofs.Applying.{put_threads-apart, put_value-apart, put_channel-is}
 use Rattle.journal_laws.proofs.Stepping.{step_of}
 use Rattle.journal_laws.proofs.Surviving.{some_is, some_none, no_steps}
 use Rattle.stab_journal.specs.Numbers.{chans_in, refs_in}

@@ -13,8 +13,8 @@ use Rattle.stab_journal.specs.Floor.{is_cut, floor}
 use Rattle.stab_journal.specs.Label.{written}
 use Rattle.stab_journal.specs.Names.{is_at}
 use Rattle.ref_log.specs.Log.{Write, kept, has_below, last_of}
-use Rattle.plain_language.specs.Steps.{State, Effect, Table, plain, apply, after_steps, next, put_value}
-use Rattle.plain_language.proofs.Applying.{put_value-apart}
+use Rattle.language.specs.Steps.{State, Effect, Table, plain, apply, after_steps, next, put_value}
+use Rattle.language.proofs.Applying.{put_value-apart}
 use Rattle.journal_laws.specs.Surviving.{value_of}
 use Rattle.journal_laws.proofs.Applying.{put_value-here}
 use Rattle.journal_laws.proofs.Stepping.{step_of}

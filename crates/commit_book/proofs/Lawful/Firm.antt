@@ -16,9 +16,9 @@ use Rattle.stab_journal.specs.Journal.{RiseFrom, step_at}
 use Rattle.stab_journal.specs.Names.{has}
 use Rattle.stab_journal.specs.Reached.{reached, rest, without_reached}
 use Rattle.stab_journal.specs.Surviving.{run_of}
-use Rattle.plain_language.specs.Plain.{PlainState, effect_of, end_of, plain_step, start}
-use Rattle.plain_language.specs.Standing.{StandsFor, nothing, step, undo, release, event}
-use Rattle.plain_language.specs.Steps.{after_steps, plain}
+use Rattle.language.specs.Plain.{PlainState, effect_of, end_of, plain_step, start}
+use Rattle.language.specs.Standing.{StandsFor, nothing, step, undo, release, event}
+use Rattle.language.specs.Steps.{after_steps, plain}
 use Rattle.journal_laws.proofs.Held.{cuts_hold}
 use Rattle.journal_laws.proofs.Stepping.{step_of}
 use Rattle.journal_laws.proofs.Surviving.{some_is, some_none, no_steps}

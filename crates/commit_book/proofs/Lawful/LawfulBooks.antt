@@ -19,11 +19,11 @@ use Rattle.stab_journal.specs.Journal.{RiseFrom, survivors}
 use Rattle.stab_journal.specs.Names.{has, is_at, read}
 use Rattle.stab_journal.specs.Reached.{reached, rest, without_reached}
 use Rattle.stab_journal.specs.Surviving.{after_event, after_events, run_of}
-use Rattle.plain_language.specs.Expression.{Expr}
-use Rattle.plain_language.specs.Plain.{IsRun, PlainState, effect_of, language_of, look_in, plain_step, standing}
-use Rattle.plain_language.specs.Steps.{Effect, effect_in}
-use Rattle.plain_language.specs.Table.{Look, act, stabilizes, refuse_by}
-use Rattle.plain_language.specs.Standing.{StandsFor, MayStep, MayUndo, is_stabilize, nothing, step, undo, release, event}
+use Rattle.language.specs.Expression.{Expr}
+use Rattle.language.specs.Plain.{IsRun, PlainState, effect_of, language_of, look_in, plain_step, standing}
+use Rattle.language.specs.Steps.{Effect, effect_in}
+use Rattle.language.specs.Table.{Look, act, stabilizes, refuse_by}
+use Rattle.language.specs.Standing.{StandsFor, MayStep, MayUndo, is_stabilize, nothing, step, undo, release, event}
 use Rattle.journal_laws.proofs.Applying.{or_false}
 use Rattle.journal_laws.proofs.Chains.{or_cases, or_right, chain_reached, reached_chain}
 use Rattle.journal_laws.proofs.Held.{cuts_hold, pins_hold, entry_of, parts_of}

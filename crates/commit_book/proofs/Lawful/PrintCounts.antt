@@ -13,10 +13,10 @@ use Rattle.stab_journal.specs.declared.event.Label.TheVariants.{Local, Spawn, Ne
 use Rattle.stab_journal.specs.declared.event.Numbered.{Numbered}
 use Rattle.stab_journal.specs.Due.{is_print, final_prints}
 use Rattle.stab_journal.specs.Journal.{RiseFrom}
-use Rattle.plain_language.specs.Expression.{Expr}
-use Rattle.plain_language.specs.Plain.{PlainState, effect_of, language_of, look_in}
-use Rattle.plain_language.specs.Steps.{Effect, plain, after_steps, effect_in, exprs_at}
-use Rattle.plain_language.specs.Table.{Look, act, spawns, makes_chan, makes_ref, gets, sets, enters, stabilizes, cuts, pins, prints, probes, attempts, to, local_by, spawn_by, chan_by, ref_by, get_by, set_by, comm_by, received_by, sent_by, enter_by, cut_by, pin_by, print_by, probe_by, refuse_by, attempt_by, pure_steps}
+use Rattle.language.specs.Expression.{Expr}
+use Rattle.language.specs.Plain.{PlainState, effect_of, language_of, look_in}
+use Rattle.language.specs.Steps.{Effect, plain, after_steps, effect_in, exprs_at}
+use Rattle.language.specs.Table.{Look, act, spawns, makes_chan, makes_ref, gets, sets, enters, stabilizes, cuts, pins, prints, probes, attempts, to, local_by, spawn_by, chan_by, ref_by, get_by, set_by, comm_by, received_by, sent_by, enter_by, cut_by, pin_by, print_by, probe_by, refuse_by, attempt_by, pure_steps}
 use Rattle.journal_laws.proofs.Numbers.{rise_front}
 use Rattle.journal_laws.proofs.Stepping.{step_of}
 use Rattle.journal_laws.proofs.Surviving.{some_is, some_none, no_steps}

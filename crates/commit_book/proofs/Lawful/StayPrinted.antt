@@ -8,8 +8,8 @@ use Rattle.stab_code.specs.Program.{ProgramParts}
 use Rattle.stab_journal.specs.declared.event.Numbered.{Numbered}
 use Rattle.stab_journal.specs.Due.{is_print}
 use Rattle.stab_journal.specs.Journal.{RiseFrom}
-use Rattle.plain_language.specs.Plain.{PlainState, effect_of}
-use Rattle.plain_language.specs.Steps.{after_steps, effect_in, plain}
+use Rattle.language.specs.Plain.{PlainState, effect_of}
+use Rattle.language.specs.Steps.{after_steps, effect_in, plain}
 use Rattle.journal_laws.specs.Surviving.{printed_of, prints}
 use Rattle.journal_laws.proofs.Stepping.{step_of}
 use Rattle.journal_laws.proofs.Surviving.{some_is, some_none, no_steps}

@@ -10,8 +10,8 @@ use Rattle.thread_slots.specs.declared.state.State.{State}
 use Rattle.thread_slots.specs.declared.state.State.TheVariants.{Ready, Parked, Ended}
 use Rattle.thread_slots.specs.Slot.{Slot, started, same_state}
 use Rattle.rendezvous.specs.Line.{Seen, nobody}
-use Rattle.plain_language.specs.Expression.{Expr}
-use Rattle.plain_language.proofs.Applying.{get_inserted}
+use Rattle.language.specs.Expression.{Expr}
+use Rattle.language.proofs.Applying.{get_inserted}
 use Rattle.step_eval.specs.ControlView.{ControlView, Fits, RedexIsFound, expr_of}
 use Rattle.commit_book.specs.Book.{over, offered}
 use Rattle.commit_book.specs.Doing.{IsDoing, waits_with}

@@ -6,7 +6,7 @@ use Rattle.std.specs.FinMap as map
 use Rattle.std.specs.FinMap.{FinMap}
 use Rattle.std.proofs.lemmas.Bool.{eqb-true}
 use Rattle.thread_slots.specs.Slot.{Slot, changed}
-use Rattle.plain_language.proofs.Applying.{get_inserted}
+use Rattle.language.proofs.Applying.{get_inserted}
 use Rattle.commit_book.proofs.Threads.Lending.{get-changed}
 
 module _ {C : Type 0} (P : ℕ → Slot C → Type 0) where

@@ -14,14 +14,14 @@ use Rattle.stab_journal.specs.Event.{weight_of}
 use Rattle.stab_journal.specs.Journal.{survivors}
 use Rattle.stab_journal.specs.Surviving.{run_of}
 use Rattle.linked_lists.specs.Lists.{is_listed}
-use Rattle.plain_language.specs.Expression.{Expr, failed}
+use Rattle.language.specs.Expression.{Expr, failed}
 use Rattle.thread_slots.specs.declared.state.State.{State}
 use Rattle.thread_slots.specs.declared.state.State.TheVariants.{Ready, Leased, Ended}
 use Rattle.thread_slots.specs.Ready.{numbers}
 use Rattle.thread_slots.specs.Slot.{Slot, same_state, is_in}
 use Rattle.thread_slots.proofs.Counted.{numbers-some}
-use Rattle.plain_language.specs.Plain.{PlainState, end_of, language_of}
-use Rattle.plain_language.specs.Quiet.{IsQuiet}
+use Rattle.language.specs.Plain.{PlainState, end_of, language_of}
+use Rattle.language.specs.Quiet.{IsQuiet}
 use Rattle.journal_laws.proofs.Surviving.{some_is}
 use Rattle.journal_laws.proofs.Undone.{stands_run}
 use Rattle.step_eval.specs.ControlView.{ControlView, expr_of}

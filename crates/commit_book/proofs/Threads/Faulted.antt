@@ -11,7 +11,7 @@ use Rattle.stab_code.specs.Program.{ProgramParts}
 use Rattle.thread_slots.specs.Ready.{numbers}
 use Rattle.thread_slots.specs.Slot.{Slot, changed}
 use Rattle.thread_slots.proofs.Counted.{numbers-same, numbers-few}
-use Rattle.plain_language.proofs.Applying.{get_inserted}
+use Rattle.language.proofs.Applying.{get_inserted}
 use Rattle.step_eval.specs.ControlView.{ControlView, expr_of}
 use Rattle.commit_book.specs.Counts.{is_faulted_at, faulted_in}
 use Rattle.commit_book.specs.Doing.{is_failed}

@@ -19,11 +19,11 @@ use Rattle.thread_slots.specs.Ready.{IsQueueOf}
 use Rattle.thread_slots.specs.Slot.{Slot, changed, started, is_ready_at}
 use Rattle.rendezvous.specs.declared.offer.Offer.{Offer}
 use Rattle.rendezvous.specs.Line.{Seen, joined, left}
-use Rattle.plain_language.specs.Expression.{Expr}
-use Rattle.plain_language.specs.Plain.{PlainState}
-use Rattle.plain_language.specs.Standing.{event}
-use Rattle.plain_language.specs.Steps.{Effect, apply}
-use Rattle.plain_language.proofs.Applying.{get_inserted}
+use Rattle.language.specs.Expression.{Expr}
+use Rattle.language.specs.Plain.{PlainState}
+use Rattle.language.specs.Standing.{event}
+use Rattle.language.specs.Steps.{Effect, apply}
+use Rattle.language.proofs.Applying.{get_inserted}
 use Rattle.step_eval.specs.ControlView.{ControlView, expr_of}
 use Rattle.commit_book.specs.Book.{BookView, ShowsThreads}
 use Rattle.commit_book.proofs.Keeping.EventSteps.{generation_step}

@@ -15,8 +15,8 @@ use Rattle.thread_slots.specs.declared.state.State.TheVariants.{Ready, Leased, P
 use Rattle.thread_slots.specs.Ready.{IsQueueOf, numbers}
 use Rattle.thread_slots.specs.Slot.{Slot, Seen, IsSound, same_state, is_in, is_ready_at, changed, put_changed, recalled}
 use Rattle.thread_slots.proofs.Counted.{numbers-same}
-use Rattle.plain_language.specs.Plain.{PlainState}
-use Rattle.plain_language.proofs.Applying.{get_inserted}
+use Rattle.language.specs.Plain.{PlainState}
+use Rattle.language.proofs.Applying.{get_inserted}
 use Rattle.step_eval.specs.ControlView.{ControlView, Fits, RedexIsFound, expr_of}
 use Rattle.commit_book.specs.declared.parts.Parts.{Parts}
 use Rattle.commit_book.specs.Book.{BookView, ShowsRun, over, offered}

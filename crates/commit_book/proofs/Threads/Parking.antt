@@ -14,7 +14,7 @@ use Rattle.rendezvous.specs.declared.offer.Offer.{Offer}
 use Rattle.rendezvous.specs.Line.{Seen, joined, left}
 use Rattle.rendezvous.specs.Line as line
 use Rattle.rendezvous.specs.Offer.{sends_on, receives_on}
-use Rattle.plain_language.specs.Expression.{Expr}
+use Rattle.language.specs.Expression.{Expr}
 use Rattle.step_eval.specs.ControlView.{ControlView, Fits, RedexIsFound, expr_of}
 use Rattle.commit_book.specs.Book.{over, offered}
 use Rattle.commit_book.specs.Doing.{IsDoing, waits_with}

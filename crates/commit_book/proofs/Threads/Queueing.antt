@@ -9,7 +9,7 @@ use Rattle.std.specs.FinMap.{FinMap}
 use Rattle.std.proofs.lemmas.List.Elements.{filter-append}
 use Rattle.linked_lists.specs.Lists.{is_listed, without}
 use Rattle.linked_lists.proofs.Leaving.{without-absent}
-use Rattle.plain_language.proofs.Applying.{get_inserted}
+use Rattle.language.proofs.Applying.{get_inserted}
 use Rattle.step_eval.specs.ControlView.{ControlView}
 use Rattle.thread_slots.specs.declared.state.State.{State}
 use Rattle.thread_slots.specs.declared.state.State.TheVariants.{Ended}

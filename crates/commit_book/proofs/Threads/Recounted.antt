@@ -2,7 +2,7 @@
 use Rattle.std.proofs.Common.{ℕ, List}
 use Rattle.stab_code.specs.JobParts.{JobParts}
 use Rattle.stab_journal.specs.declared.event.Numbered.{Numbered}
-use Rattle.plain_language.specs.Plain.{PlainState}
+use Rattle.language.specs.Plain.{PlainState}
 use Rattle.commit_book.specs.declared.parts.Parts.{Parts}
 use Rattle.commit_book.specs.Book.{Answered, BookView, IsShown, ShowsJournal, ShowsThreads}
 use Rattle.commit_book.specs.Layout.{IsKept, view_of}

@@ -8,7 +8,7 @@ use Rattle.stab_journal.specs.declared.event.Event.{Event}
 use Rattle.thread_slots.specs.declared.state.State.TheVariants.{Parked, Ended}
 use Rattle.thread_slots.specs.Slot.{Slot, same_state}
 use Rattle.rendezvous.specs.Line.{Seen}
-use Rattle.plain_language.specs.Steps.{State}
+use Rattle.language.specs.Steps.{State}
 use Rattle.rendezvous.specs.declared.offer.Offer.{Offer}
 use Rattle.commit_book.specs.Threads.{AreThreads, AllControls}
 use Rattle.commit_book.specs.Generations.{AreGenerations}

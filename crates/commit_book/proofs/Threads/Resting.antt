@@ -11,10 +11,10 @@ use Rattle.thread_slots.specs.Slot.{Slot, same_state}
 use Rattle.rendezvous.specs.declared.offer.Offer.{Offer}
 use Rattle.rendezvous.specs.Line.{Line, Seen, offered, nobody, LineBacked}
 use Rattle.rendezvous.specs.Offer as offer
-use Rattle.plain_language.specs.Expression.{Expr, value, failed}
-use Rattle.plain_language.specs.Plain.{PlainState, language_of, look_in}
-use Rattle.plain_language.specs.Quiet.{is_resting, sends_on, receives_on, IsQuiet}
-use Rattle.plain_language.specs.Table.{Look, done, fault, act, sends, receives, picks}
+use Rattle.language.specs.Expression.{Expr, value, failed}
+use Rattle.language.specs.Plain.{PlainState, language_of, look_in}
+use Rattle.language.specs.Quiet.{is_resting, sends_on, receives_on, IsQuiet}
+use Rattle.language.specs.Table.{Look, done, fault, act, sends, receives, picks}
 use Rattle.journal_laws.proofs.Stepping.{both}
 use Rattle.journal_laws.proofs.Surviving.{some_is, some_none}
 use Rattle.step_eval.specs.ControlView.{ControlView, expr_of}

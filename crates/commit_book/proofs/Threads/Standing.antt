@@ -11,8 +11,8 @@ use Rattle.thread_slots.specs.declared.state.State.TheVariants.{Parked, Ended}
 use Rattle.thread_slots.specs.Ready.{IsQueueOf}
 use Rattle.thread_slots.specs.Slot.{Slot, changed, is_ready_at, same_state}
 use Rattle.rendezvous.specs.Line.{Seen}
-use Rattle.plain_language.specs.Expression.{Expr}
-use Rattle.plain_language.specs.Plain.{PlainState}
+use Rattle.language.specs.Expression.{Expr}
+use Rattle.language.specs.Plain.{PlainState}
 use Rattle.stab_journal.specs.Generation.{generation}
 use Rattle.step_eval.specs.ControlView.{ControlView, Fits, RedexIsFound, expr_of}
 use Rattle.commit_book.specs.Book.{BookView, ShowsThreads, over, offered}

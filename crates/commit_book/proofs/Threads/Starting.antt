@@ -24,9 +24,9 @@ use Rattle.rendezvous.specs.Line.{nobody, LineBacked}
 use Rattle.rendezvous.specs.Line as line
 use Rattle.ref_log.specs.Log.{last_of}
 use Rattle.checkpoint_store.specs.Saved.{place_cmp}
-use Rattle.plain_language.specs.Plain.{start}
-use Rattle.plain_language.specs.Standing.{StandsFor, nothing}
-use Rattle.plain_language.proofs.Applying.{get_inserted}
+use Rattle.language.specs.Plain.{start}
+use Rattle.language.specs.Standing.{StandsFor, nothing}
+use Rattle.language.proofs.Applying.{get_inserted}
 use Rattle.step_eval.specs.ControlView.{ControlView, Fits, RedexIsFound, expr_of}
 use Rattle.print_log.specs.Log.{Print}
 use Rattle.commit_book.specs.declared.parts.Parts.{Parts}

@@ -6,11 +6,11 @@ use Rattle.stab_code.specs.Program.{ProgramParts}
 use Rattle.thread_slots.specs.declared.state.State.TheVariants.{Parked}
 use Rattle.thread_slots.specs.Slot.{Slot, same_state}
 use Rattle.rendezvous.specs.declared.offer.Offer.{Offer}
-use Rattle.plain_language.specs.Expression.{Expr, value, failed}
-use Rattle.plain_language.specs.Look.{language}
-use Rattle.plain_language.specs.Plain.{look_in}
-use Rattle.plain_language.specs.Program.{body}
-use Rattle.plain_language.specs.Table.{Look, Language, pure, pure_of, pure_steps}
+use Rattle.language.specs.Expression.{Expr, value, failed}
+use Rattle.language.specs.Look.{language}
+use Rattle.language.specs.Plain.{look_in}
+use Rattle.language.specs.Program.{body}
+use Rattle.language.specs.Table.{Look, Language, pure, pure_of, pure_steps}
 use Rattle.step_eval.specs.ControlView.{ControlView, expr_of}
 use Rattle.step_eval.specs.Progress.{Advances}
 use Rattle.journal_laws.proofs.Surviving.{some_is, some_none}

@@ -4,7 +4,7 @@ use Rattle.std.specs.Prelude.{IfSome, option_and_then, option_map}
 use Rattle.stab_base.specs.declared.fault.Fault.{Fault}
 use Rattle.stab_code.specs.Program.{ProgramParts}
 use Rattle.thread_slots.specs.Slot.{Slot}
-use Rattle.plain_language.specs.Expression.{Expr, value, failed}
+use Rattle.language.specs.Expression.{Expr, value, failed}
 use Rattle.step_eval.specs.declared.rest.Rest.{Rest}
 use Rattle.step_eval.specs.declared.rest.Rest.TheVariants.{Failed}
 use Rattle.step_eval.specs.ControlView.{ControlView, Fits, expr_of}

@@ -6,8 +6,8 @@ use Rattle.std.specs.FinMap.{FinMap}
 use Rattle.stab_journal.specs.declared.event.Label.{Label}
 use Rattle.stab_journal.specs.Names.{is_at, made}
 use Rattle.rendezvous.specs.Line.{Lines}
-use Rattle.plain_language.specs.Steps.{State, Effect, apply, put_threads}
-use Rattle.plain_language.proofs.Applying.{get_inserted, put_channel-is}
+use Rattle.language.specs.Steps.{State, Effect, apply, put_threads}
+use Rattle.language.proofs.Applying.{get_inserted, put_channel-is}
 use Rattle.commit_book.specs.Channels.{AreChannels}
 
 -- where threads stand, once the first of these stands at a and the others at b

@@ -16,7 +16,7 @@ use Rattle.rendezvous.specs.declared.offer.Offer.{Offer}
 use Rattle.rendezvous.specs.declared.offer.Offer.TheVariants as offers
 use Rattle.rendezvous.specs.Line.{Line, Lines, Seen, nobody, joined, left, offered, LineBacked, IsSound}
 use Rattle.rendezvous.specs.Offer.{sends_on, receives_on}
-use Rattle.plain_language.proofs.Applying.{get_inserted}
+use Rattle.language.proofs.Applying.{get_inserted}
 use Rattle.commit_book.specs.Doing.{waits_with}
 use Rattle.commit_book.specs.Offers.{sends_at, receives_at, AreOffers}
 

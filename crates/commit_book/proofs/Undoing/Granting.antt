@@ -16,10 +16,10 @@ use Rattle.comm_graph.specs.Edge.{kind_of}
 use Rattle.comm_graph.specs.Node.{Node}
 use Rattle.reach_line.specs.Reached as marks
 use Rattle.restore.specs.Line.{AreThere, IsMarkedAs}
-use Rattle.plain_language.specs.Plain.{IsRun, PlainState, effect_of, language_of, mark_in, start}
-use Rattle.plain_language.specs.Redex.{mark}
-use Rattle.plain_language.specs.Steps.{after_steps, apply}
-use Rattle.plain_language.specs.Table.{to}
+use Rattle.language.specs.Plain.{IsRun, PlainState, effect_of, language_of, mark_in, start}
+use Rattle.language.specs.Redex.{mark}
+use Rattle.language.specs.Steps.{after_steps, apply}
+use Rattle.language.specs.Table.{to}
 use Rattle.step_eval.specs.ControlView.{expr_of}
 use Rattle.step_eval.specs.Progress.{ProgressView}
 use Rattle.journal_laws.proofs.Held.{entry_of}

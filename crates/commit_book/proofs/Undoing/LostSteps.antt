@@ -20,7 +20,7 @@ use Rattle.stab_journal.proofs.Surviving.{are_survivors}
 use Rattle.stab_journal.specs.Label.{actors}
 use Rattle.stab_journal.specs.Names.{has}
 use Rattle.stab_journal.specs.Reached.{Lost, keep, lose, is_reached, nothing_lost, reached, reached_from, rest}
-use Rattle.plain_language.specs.Plain.{PlainState, IsRun}
+use Rattle.language.specs.Plain.{PlainState, IsRun}
 use Rattle.reach_line.specs.Reached as marks
 use Rattle.restore.specs.declared.line.Line.{Line}
 use Rattle.restore.specs.declared.line.Line.TheVariants.{From, Gone}

@@ -12,11 +12,11 @@ use Rattle.stab_journal.specs.declared.event.Numbered.{Numbered}
 use Rattle.stab_journal.specs.Floor.{is_enter, is_entered}
 use Rattle.stab_journal.specs.Label.{touched}
 use Rattle.stab_journal.specs.Names.{has}
-use Rattle.plain_language.specs.declared.head.Head.{Head}
-use Rattle.plain_language.specs.declared.head.Head.TheVariants.{Section}
-use Rattle.plain_language.specs.Expression.{Expr, Parts, value, variable, failed, form, none, part}
-use Rattle.plain_language.specs.Plain.{IsRun, PlainState, mark_in}
-use Rattle.plain_language.specs.Redex.{Frame, first_counts_alone, frames, frames_of, innermost, mark, redex_in, redex_of, section_or}
+use Rattle.language.specs.declared.head.Head.{Head}
+use Rattle.language.specs.declared.head.Head.TheVariants.{Section}
+use Rattle.language.specs.Expression.{Expr, Parts, value, variable, failed, form, none, part}
+use Rattle.language.specs.Plain.{IsRun, PlainState, mark_in}
+use Rattle.language.specs.Redex.{Frame, first_counts_alone, frames, frames_of, innermost, mark, redex_in, redex_of, section_or}
 use Rattle.journal_laws.specs.Entered.{enters_by, is_entered_by}
 use Rattle.journal_laws.specs.Known.{ArePartsIn, IsExprIn, IsHeadIn, Known, sections_alone}
 use Rattle.journal_laws.proofs.Runs.{run_entered}

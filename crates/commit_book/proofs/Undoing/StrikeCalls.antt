@@ -22,7 +22,7 @@ use Rattle.stab_journal.specs.Names.{has, is_at, made}
 use Rattle.reach_line.specs.MarkList.{numbers}
 use Rattle.ref_log.specs.Log.{Write, has_write, without, writes_of}
 use Rattle.print_log.specs.Log.{Print, has_print, without as without_print}
-use Rattle.plain_language.proofs.Applying.{contains_inserted}
+use Rattle.language.proofs.Applying.{contains_inserted}
 use Rattle.journal_laws.proofs.Applying.{or_false}
 use Rattle.commit_book.specs.declared.parts.Parts.{Parts}
 use Rattle.commit_book.specs.declared.rollback.Rollback.{Rollback}

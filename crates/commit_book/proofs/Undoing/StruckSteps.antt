@@ -18,8 +18,8 @@ use Rattle.stab_journal.specs.Names.{has, is_at, made}
 use Rattle.stab_journal.specs.Reached.{Lost, keep, lose, is_reached, reached_from}
 use Rattle.stab_journal.proofs.Surviving.{are_survivors}
 use Rattle.ref_log.specs.Log.{Write, has_below, has_write, kept}
-use Rattle.plain_language.specs.Steps.{State, Table, after_steps, allows, next, plain}
-use Rattle.plain_language.proofs.Applying.{put_channel-is}
+use Rattle.language.specs.Steps.{State, Table, after_steps, allows, next, plain}
+use Rattle.language.proofs.Applying.{put_channel-is}
 use Rattle.journal_laws.specs.Surviving.{value_of}
 use Rattle.journal_laws.proofs.Applying.{put_value-here}
 use Rattle.journal_laws.proofs.Chains.{or_right}

@@ -22,8 +22,8 @@ use Rattle.comm_graph.specs.Node.{Node}
 use Rattle.reach_line.specs.MarkList.{numbers}
 use Rattle.reach_line.specs.Reached as marks
 use Rattle.restore.specs.Line.{IsMarkedAs}
-use Rattle.plain_language.specs.Plain.{IsRun, look_in}
-use Rattle.plain_language.specs.Redex.{mark}
+use Rattle.language.specs.Plain.{IsRun, look_in}
+use Rattle.language.specs.Redex.{mark}
 use Rattle.step_eval.specs.declared.act.Act.TheVariants as own
 use Rattle.step_eval.specs.ControlView.{ControlView, Fits, expr_of}
 use Rattle.step_eval.specs.Progress.{ProgressView}

@@ -19,7 +19,7 @@ use Rattle.reach_line.specs.MarkList.{numbers}
 use Rattle.reach_line.specs.Reached as marks
 use Rattle.restore.specs.Line.{IsLineOf}
 use Rattle.restore.specs.Left.{is_from, is_touched, put_back, requeued, unmarked, without_all}
-use Rattle.plain_language.specs.Plain.{IsRun}
+use Rattle.language.specs.Plain.{IsRun}
 use Rattle.step_eval.specs.ControlView.{Fits}
 use Rattle.journal_laws.proofs.Gone.{survivors-rest}
 use Rattle.own_steps.specs.Own.{steps_of}

@@ -21,10 +21,10 @@ use Rattle.reach_line.specs.Reached as marks
 use Rattle.restore.specs.declared.line.Line as plan
 use Rattle.restore.specs.declared.line.Line.TheVariants.{From, Gone}
 use Rattle.restore.specs.Left.{goes_back, is_back, is_touched, others, put_back, without_all}
-use Rattle.plain_language.specs.Plain.{IsRun, look_in, mark_in, standing}
-use Rattle.plain_language.specs.Expression.{Expr}
-use Rattle.plain_language.specs.Redex.{mark}
-use Rattle.plain_language.specs.Standing.{MayUndo, is_stabilize}
+use Rattle.language.specs.Plain.{IsRun, look_in, mark_in, standing}
+use Rattle.language.specs.Expression.{Expr}
+use Rattle.language.specs.Redex.{mark}
+use Rattle.language.specs.Standing.{MayUndo, is_stabilize}
 use Rattle.step_eval.specs.declared.act.Act.TheVariants as own
 use Rattle.step_eval.specs.ControlView.{ControlView, expr_of}
 use Rattle.step_eval.specs.Progress.{ProgressView}

@@ -17,7 +17,7 @@ use Rattle.stab_journal.specs.Reached.{nothing_lost, rest}
 use Rattle.thread_slots.specs.Slot.{Slot}
 use Rattle.ref_log.specs.Log.{Write, kept}
 use Rattle.checkpoint_store.specs.Saved.{place_cmp}
-use Rattle.plain_language.specs.Steps.{State, Table, after_steps, next}
+use Rattle.language.specs.Steps.{State, Table, after_steps, next}
 use Rattle.journal_laws.specs.Lost.{is_hit}
 use Rattle.journal_laws.specs.Surviving.{thread_of, IsLawful}
 use Rattle.journal_laws.proofs.Beside.{Beside}

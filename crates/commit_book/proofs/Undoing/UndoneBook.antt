@@ -16,8 +16,8 @@ use Rattle.stab_journal.specs.Reached.{reached, without_reached}
 use Rattle.thread_slots.specs.Slot.{Slot, restored}
 use Rattle.rendezvous.specs.declared.offer.Offer.{Offer}
 use Rattle.rendezvous.specs.Line.{Line, Seen, nobody, LineBacked}
-use Rattle.plain_language.specs.Plain.{PlainState, effect_of, start}
-use Rattle.plain_language.specs.Standing.{MayUndo}
+use Rattle.language.specs.Plain.{PlainState, effect_of, start}
+use Rattle.language.specs.Standing.{MayUndo}
 use Rattle.reach_line.specs.Reached as marks
 use Rattle.restore.specs.declared.line.Line as plan
 use Rattle.restore.specs.declared.line.Line.TheVariants.{From, Gone}

@@ -29,9 +29,9 @@ use Rattle.reach_line.specs.Reached as marks
 use Rattle.restore.specs.declared.line.Line as plan
 use Rattle.restore.specs.declared.line.Line.TheVariants.{From, Gone}
 use Rattle.restore.specs.Left.{is_touched, put_back, without_all}
-use Rattle.plain_language.specs.Expression.{Expr, failed}
-use Rattle.plain_language.specs.Plain.{IsRun, PlainState, effect_of, start}
-use Rattle.plain_language.specs.Standing.{MayUndo}
+use Rattle.language.specs.Expression.{Expr, failed}
+use Rattle.language.specs.Plain.{IsRun, PlainState, effect_of, start}
+use Rattle.language.specs.Standing.{MayUndo}
 use Rattle.step_eval.specs.ControlView.{ControlView, expr_of}
 use Rattle.journal_laws.specs.Lines.{is_node}
 use Rattle.journal_laws.specs.Lost.{is_unmade}

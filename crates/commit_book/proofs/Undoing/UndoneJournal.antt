@@ -15,8 +15,8 @@ use Rattle.stab_journal.specs.Label.{spawned}
 use Rattle.stab_journal.specs.Names.{has, is_at}
 use Rattle.stab_journal.specs.Script.{FollowsScript}
 use Rattle.stab_journal.specs.Reached.{nothing_lost, reached, rest, without_reached}
-use Rattle.plain_language.specs.Plain.{PlainState, effect_of, start}
-use Rattle.plain_language.specs.Standing.{StandsFor, MayUndo, event, undo}
+use Rattle.language.specs.Plain.{PlainState, effect_of, start}
+use Rattle.language.specs.Standing.{StandsFor, MayUndo, event, undo}
 use Rattle.journal_laws.specs.Lost.{is_unmade}
 use Rattle.journal_laws.specs.Surviving.{prints, IsLawful}
 use Rattle.journal_laws.proofs.Chains.{upward}

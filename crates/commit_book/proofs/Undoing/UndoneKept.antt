@@ -13,8 +13,8 @@ use Rattle.stab_journal.specs.Names.{has}
 use Rattle.stab_journal.specs.Reached.{reached}
 use Rattle.comm_graph.specs.Node as graph
 use Rattle.comm_graph.specs.Node.{Node}
-use Rattle.plain_language.specs.Plain.{PlainState, IsRun, effect_of, start}
-use Rattle.plain_language.specs.Steps.{State, Table, next}
+use Rattle.language.specs.Plain.{PlainState, IsRun, effect_of, start}
+use Rattle.language.specs.Steps.{State, Table, next}
 use Rattle.reach_line.specs.Reached as marks
 use Rattle.restore.specs.declared.line.Line.{Line}
 use Rattle.restore.specs.declared.line.Line.TheVariants.{From, Gone}

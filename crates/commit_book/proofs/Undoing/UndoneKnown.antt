@@ -16,8 +16,8 @@ use Rattle.stab_journal.specs.Label.{actors, spawned, touched}
 use Rattle.stab_journal.specs.Names.{has, is_at}
 use Rattle.stab_journal.specs.Reached.{reached}
 use Rattle.thread_slots.specs.Slot.{Slot}
-use Rattle.plain_language.specs.Plain.{PlainState, IsRun, effect_of, start}
-use Rattle.plain_language.specs.Steps.{after_steps}
+use Rattle.language.specs.Plain.{PlainState, IsRun, effect_of, start}
+use Rattle.language.specs.Steps.{after_steps}
 use Rattle.reach_line.specs.Reached as marks
 use Rattle.restore.specs.declared.line.Line.{Line}
 use Rattle.restore.specs.declared.line.Line.TheVariants.{From, Gone}

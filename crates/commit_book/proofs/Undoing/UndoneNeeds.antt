@@ -25,8 +25,8 @@ use Rattle.comm_graph.specs.Node as graph
 use Rattle.restore.specs.Line.{AreThere, HasSpare, IsLineOf}
 use Rattle.restore.specs.declared.line.Line.TheVariants.{From}
 use Rattle.restore.specs.Left.{LineMap, is_touched, put_back, without_all}
-use Rattle.plain_language.specs.Plain.{IsRun, effect_of, start}
-use Rattle.plain_language.specs.Steps.{after_steps}
+use Rattle.language.specs.Plain.{IsRun, effect_of, start}
+use Rattle.language.specs.Steps.{after_steps}
 use Rattle.step_eval.specs.ControlView.{ControlView, Fits, expr_of}
 use Rattle.journal_laws.specs.Lost.{is_unmade}
 use Rattle.journal_laws.proofs.Undone.{stands_run}

@@ -18,9 +18,9 @@ use Rattle.rendezvous.specs.Line.{Line, Seen, nobody, offered, LineBacked}
 use Rattle.rendezvous.specs.Offer.{sends_on, receives_on}
 use Rattle.restore.specs.Left.{others, without_all}
 use Rattle.stab_code.specs.Program.{ProgramParts}
-use Rattle.plain_language.specs.Expression.{Expr}
-use Rattle.plain_language.specs.Plain.{PlainState, look_in}
-use Rattle.plain_language.specs.Table.{Look, act, sends, receives, picks}
+use Rattle.language.specs.Expression.{Expr}
+use Rattle.language.specs.Plain.{PlainState, look_in}
+use Rattle.language.specs.Table.{Look, act, sends, receives, picks}
 use Rattle.journal_laws.specs.Known.{Known, known_in, IsExprIn, IsLookIn, IsKnown}
 use Rattle.journal_laws.proofs.Occurring.{kept}
 use Rattle.journal_laws.proofs.Stepping.{both}

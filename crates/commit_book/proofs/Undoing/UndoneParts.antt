@@ -15,7 +15,7 @@ use Rattle.stab_journal.specs.Label.{actors, written}
 use Rattle.stab_journal.specs.Names.{has, is_at}
 use Rattle.stab_journal.specs.Reached.{Lost, depends, rest}
 use Rattle.ref_log.specs.Log.{Write, has_below, kept}
-use Rattle.plain_language.specs.Steps.{State, Table, plain, apply, next, put_value}
+use Rattle.language.specs.Steps.{State, Table, plain, apply, next, put_value}
 use Rattle.journal_laws.specs.Surviving.{thread_of, value_of}
 use Rattle.journal_laws.proofs.Without.{IsWithout}
 use Rattle.journal_laws.proofs.Applying.{or_false, put_value-here}

@@ -11,7 +11,7 @@ use Rattle.stab_journal.specs.Journal.{RiseFrom}
 use Rattle.stab_journal.specs.Label.{actors, touched}
 use Rattle.stab_journal.specs.Names.{has, read}
 use Rattle.stab_journal.specs.Reached.{nothing_lost, reached}
-use Rattle.plain_language.specs.Plain.{PlainState, IsRun}
+use Rattle.language.specs.Plain.{PlainState, IsRun}
 use Rattle.reach_line.specs.Reached as marks
 use Rattle.restore.specs.declared.line.Line.{Line}
 use Rattle.restore.specs.declared.line.Line.TheVariants.{From, Gone}

@@ -13,11 +13,11 @@ use Rattle.stab_journal.specs.declared.event.Label.TheVariants.{Comm, Get, Enter
 use Rattle.stab_journal.specs.declared.event.Numbered.{Numbered}
 use Rattle.stab_journal.specs.Label.{actors, touched}
 use Rattle.stab_journal.specs.Names.{has}
-use Rattle.plain_language.specs.Expression.{Expr, value, failed}
-use Rattle.plain_language.specs.Look.{answered}
-use Rattle.plain_language.specs.Plain.{PlainState, effect_of, language_of, look_in}
-use Rattle.plain_language.specs.Steps.{State, Effect, Table, plain, next, after_steps, effect_in, exprs_at}
-use Rattle.plain_language.specs.Table.{Look, done, fault, comm_by, enter_by, get_by, received_by, sent_by}
+use Rattle.language.specs.Expression.{Expr, value, failed}
+use Rattle.language.specs.Look.{answered}
+use Rattle.language.specs.Plain.{PlainState, effect_of, language_of, look_in}
+use Rattle.language.specs.Steps.{State, Effect, Table, plain, next, after_steps, effect_in, exprs_at}
+use Rattle.language.specs.Table.{Look, done, fault, comm_by, enter_by, get_by, received_by, sent_by}
 use Rattle.journal_laws.proofs.Applying.{put_threads-named, put_threads-there}
 use Rattle.journal_laws.proofs.Runs.{run_keeps}
 use Rattle.journal_laws.proofs.Stepping.{step_of}

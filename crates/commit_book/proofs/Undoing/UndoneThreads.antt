@@ -20,7 +20,7 @@ use Rattle.thread_slots.specs.declared.state.State.TheVariants.{Parked}
 use Rattle.thread_slots.specs.Slot.{Slot, restored, same_state}
 use Rattle.rendezvous.specs.declared.offer.Offer.{Offer}
 use Rattle.checkpoint_store.specs.Saved.{place_cmp}
-use Rattle.plain_language.specs.Steps.{Table}
+use Rattle.language.specs.Steps.{Table}
 use Rattle.journal_laws.specs.Lines.{is_meeting}
 use Rattle.journal_laws.specs.Lost.{is_hit}
 use Rattle.journal_laws.proofs.Applying.{or_false}

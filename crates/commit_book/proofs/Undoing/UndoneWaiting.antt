@@ -13,7 +13,7 @@ use Rattle.stab_journal.specs.Names.{has, is_at, made}
 use Rattle.stab_journal.specs.Reached.{nothing_lost, reached}
 use Rattle.thread_slots.specs.Slot.{Slot}
 use Rattle.rendezvous.specs.Line.{Seen, nobody}
-use Rattle.plain_language.specs.Plain.{PlainState, IsRun, effect_of, start}
+use Rattle.language.specs.Plain.{PlainState, IsRun, effect_of, start}
 use Rattle.reach_line.specs.Reached as marks
 use Rattle.restore.specs.Line.{IsLineOf}
 use Rattle.restore.specs.Left.{LineMap, is_touched, put_back, without_all}

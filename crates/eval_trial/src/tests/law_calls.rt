@@ -5,7 +5,7 @@ ghost use Rattle.stab_journal.specs.Floor.{is_enter, is_entered};
 ghost use Rattle.stab_journal.specs.Journal.{RiseFrom};
 ghost use Rattle.stab_journal.specs.Reached.{reached};
 ghost use Rattle.stab_journal.specs.Surviving.{run_of};
-ghost use Rattle.plain_language.specs.Plain.{IsRun};
+ghost use Rattle.language.specs.Plain.{IsRun};
 ghost use Rattle.eval_trial.specs.Alone.{StandsAlone, events_of};
 ghost use Rattle.journal_laws.specs.Entered.{is_entered_by};
 ghost use Rattle.journal_laws.specs.Known.{sections_alone, IsExprIn, IsKnown};
@@ -16,11 +16,9 @@ use journal_laws::{
     reached_by_chains, survive, survive_from, undone_twice, upward_closed,
 };
 use plain_language::PlainState;
-use stab_base::{NoMemory, Seq};
+use stab_base::Seq;
 use stab_code::Program;
 use stab_journal::{Label, Numbered};
-use std::alloc::Global;
-use std::sync::Arc;
 
 /// Whether the numbers of the steps rise.
 pub(super) fn rises(run: &[Numbered]) -> bool
@@ -69,13 +67,7 @@ pub(super) fn call_laws_of_runs(run: &[Numbered], m: Seq)
 }
 
 /// Each law of a program's runs, where what is reached from m goes.
-pub(super) fn call_laws_of_programs(
-    alloc: Global,
-    program: &Arc<Program>,
-    run: &[Numbered],
-    m: Seq,
-    gone: &[Seq],
-) -> Result<(), NoMemory>
+pub(super) fn call_laws_of_programs(program: &Program, run: &[Numbered], m: Seq, gone: &[Seq])
     requires rise { RiseFrom 1 run.now }
     requires entered { is_entered m.0 run.now ≡ true }
     requires gone { map (λ s. s.0) gone.now ≡ reached run.now m.0 }
@@ -86,10 +78,7 @@ pub(super) fn call_laws_of_programs(
     undone_twice(program);
     upward_closed(run, m);
     survive(program, run, gone);
-    let start = PlainState::start(alloc, program)?;
-    closed_ids(program, &[]);
-    survive_from(&start, run, gone);
-    Ok(())
+    survive_from(program, run, gone);
 }
 
 /// What the laws of programs say of a run that was played, where what is reached from m goes.

@@ -3,8 +3,8 @@ ghost use Rattle.std.specs.Prelude.{◌≡◌, ◌+◌, ◌++◌, ◌∷◌, [],
 ghost use Rattle.std.specs.Arc.{arc_value};
 ghost use Rattle.stab_journal.specs.declared.event.Event.{Event};
 ghost use Rattle.stab_journal.specs.declared.event.Numbered.{Numbered};
-ghost use Rattle.plain_language.specs.Plain.{PlainState as State};
-ghost use Rattle.plain_language.specs.Standing.{MayStep};
+ghost use Rattle.language.specs.Plain.{PlainState as State};
+ghost use Rattle.language.specs.Standing.{MayStep};
 ghost use Rattle.eval_trial.specs.Alone.{StandsAlone};
 
 use plain_language::{PlainState, PlayFault};

@@ -84,7 +84,7 @@ fn expect_reached<R: AllocGlobal + Abort>(
     call_laws_of_runs(&run, Seq(m));
     let found = reached(rt.alloc(), &run, Seq(m))?;
     let program = program_of(rt.alloc(), ONE_SECTION)?;
-    call_laws_of_programs(rt.alloc(), &program, &run, Seq(m), &found)?;
+    call_laws_of_programs(&program, &run, Seq(m), &found);
     assert_eq!(rt; found.len(), numbers.len());
     for (q, number) in found.iter().zip(numbers) {
         assert_eq!(rt; q.0, *number);
@@ -116,7 +116,7 @@ fn the_laws_of_the_cascade(rt: HostRuntime) -> Result<(), Fail> {
     let end = played(alloc, &program, &run)?.ok_or("the steps are a run of the program")?;
     let gone = reached(alloc, &run, Seq(17))?;
     conclude(&program, &run, Seq(17), &gone, &end);
-    call_laws_of_programs(alloc, &program, &run, Seq(17), &gone)?;
+    call_laws_of_programs(&program, &run, Seq(17), &gone);
     let first = ThreadId(1);
     assert_eq!(rt; end.look(first), Some(Look::Act(ActKind::Stabilize)));
     assert_eq!(rt; end.mark(first), Some(Seq(17)));

@@ -1,10 +1,10 @@
 use Rattle.std.proofs.Common.{refl, get_or, ◌≡◌, ℕ, ◌<◌, ◌∙◌, ap, sym, subst, arith, Some, None, length, set}
-use Rattle.plain_language.specs.Expression.{form, parts_of}
+use Rattle.language.specs.Expression.{form, parts_of}
 use Rattle.plain_language.specs.Pures.{changed}
-use Rattle.plain_language.specs.Redex.{first_counts_alone, frames_of, rebuild, redex, within}
-use Rattle.plain_language.specs.Busy.{busy_at}
-use Rattle.plain_language.proofs.Lists.{set_set}
-use Rattle.plain_language.proofs.Finding.{found, redex_settled}
+use Rattle.language.specs.Redex.{first_counts_alone, frames_of, rebuild, redex, within}
+use Rattle.language.specs.Busy.{busy_at}
+use Rattle.language.proofs.Lists.{set_set}
+use Rattle.language.proofs.Finding.{found, redex_settled}
 use Rattle.plain_language.proofs.Inside.{IsPart, inner_smaller, redex_inside, rebuild_lifted, changed_inside}
 use Rattle.plain_language.proofs.+rebuilt.Goals as goal
 

@@ -1,6 +1,6 @@
 use Rattle.std.proofs.Common.{◌+◌, ◌*◌}
-use Rattle.plain_language.specs.Expression.{parts_of}
-use Rattle.plain_language.specs.Size.{size_of, size_of_parts}
+use Rattle.language.specs.Expression.{parts_of}
+use Rattle.language.specs.Size.{size_of, size_of_parts}
 use Rattle.plain_language.proofs.+rebuilt.Given as goal
 
 abbrev pub decreases-expr::Expr::rebuilt : goal.decreases-expr::Expr::rebuilt

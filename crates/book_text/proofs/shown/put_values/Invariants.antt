@@ -1,7 +1,7 @@
 use Rattle.std.proofs.Common.{◌≡◌, ◌++◌}
 use Rattle.std.specs.List.{flat_map}
 use Rattle.stab_base.specs.Printed.{printed}
-use Rattle.plain_language.specs.Shown.{line}
+use Rattle.language.specs.Shown.{line}
 use Rattle.book_text.proofs.shown.put_values.Given as goal
 
 abbrev pub invariant-loop-value : goal.invariant-loop-value

@@ -8,7 +8,7 @@ use Rattle.stab_code.specs.JobParts.{JobParts}
 use Rattle.stab_code.specs.Program.{ProgramParts}
 use Rattle.stab_code.specs.Valid.{IsValid}
 use Rattle.stab_journal.specs.Due.{released}
-use Rattle.plain_language.specs.Shown.{line, value_lines}
+use Rattle.language.specs.Shown.{line, value_lines}
 use Rattle.book_text.specs.Written.{count_text, fault_lines, released_lines}
 use Rattle.book_text.proofs.Going.{all_whole}
 use Rattle.book_text.proofs.Showing.{is_shown_text}

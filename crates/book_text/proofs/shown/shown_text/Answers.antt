@@ -4,7 +4,7 @@ use Rattle.stab_base.specs.Printed.{printed}
 use Rattle.stab_code.specs.JobParts.{JobParts}
 use Rattle.stab_code.specs.Program.{ProgramParts}
 use Rattle.stab_code.specs.Valid.{IsValid}
-use Rattle.plain_language.specs.Shown.{line, value_lines}
+use Rattle.language.specs.Shown.{line, value_lines}
 use Rattle.book_text.specs.Written.{IsShownText, count_text, fault_lines}
 use Rattle.book_text.proofs.Going.{all_whole}
 use Rattle.book_text.proofs.Showing.{is_shown_text}

@@ -1,8 +1,8 @@
 -- Where a sender and a receiver stand after a meeting.
 use Rattle.std.proofs.Common.{rules, ◌≡◌, Some, subst, ◌∙◌}
 use Rattle.stab_base.specs.Datum.{Datum}
-use Rattle.plain_language.specs.Plain.{language_of, look_in}
-use Rattle.plain_language.specs.Table.{received_by}
+use Rattle.language.specs.Plain.{language_of, look_in}
+use Rattle.language.specs.Table.{received_by}
 use Rattle.step_eval.specs.Acts.{second_of}
 use Rattle.step_eval.specs.Asked.{operands_of}
 use Rattle.step_eval.specs.ControlView.{ControlView, expr_of}

@@ -3,10 +3,10 @@ use Rattle.std.specs.Prelude.{ℤ}
 use mir.Val.{of_z, to_z}
 use Rattle.std.proofs.Common.{◌≡◌, Some, Option, IsSome, SFits, w64, rules, sym, ap, subst, ◌∙◌}
 use Rattle.std.proofs.lemmas.Int.{to_z-of_z}
-use Rattle.plain_language.specs.Effects.{picked_at}
-use Rattle.plain_language.specs.Plain.{language_of, look_in}
-use Rattle.plain_language.specs.Program.{body}
-use Rattle.plain_language.specs.Table.{act, picks, received_by}
+use Rattle.language.specs.Effects.{picked_at}
+use Rattle.language.specs.Plain.{language_of, look_in}
+use Rattle.language.specs.Program.{body}
+use Rattle.language.specs.Table.{act, picks, received_by}
 use Rattle.rendezvous.specs.Offer.{receives_on}
 use Rattle.step_eval.specs.declared.act.Act.{Act}
 use Rattle.step_eval.specs.Asked.{operands_of}

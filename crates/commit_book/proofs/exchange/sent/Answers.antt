@@ -1,8 +1,8 @@
 -- Who offers to send is asked for a send.
 use Rattle.std.proofs.Common.{◌≤◌, List, length, Option, IsSome, sym, subst}
 use Rattle.stab_base.specs.Datum.{Datum}
-use Rattle.plain_language.specs.Plain.{look_in}
-use Rattle.plain_language.specs.Program.{body}
+use Rattle.language.specs.Plain.{look_in}
+use Rattle.language.specs.Program.{body}
 use Rattle.rendezvous.specs.Offer.{sends_on}
 use Rattle.step_eval.specs.declared.act.Act.{Act}
 use Rattle.step_eval.specs.declared.ask.Ask.{Ask}

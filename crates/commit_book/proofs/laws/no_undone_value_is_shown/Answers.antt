@@ -2,7 +2,7 @@ use Rattle.std.proofs.Common.{◌≡◌, ◌+◌, false, Some, ap, sym, ◌∙�
 use Rattle.std.specs.Prelude.{count_by, length}
 use Rattle.stab_journal.specs.declared.event.Numbered.{Numbered}
 use Rattle.stab_journal.specs.Due.{is_print}
-use Rattle.plain_language.specs.Plain.{effect_of, start}
+use Rattle.language.specs.Plain.{effect_of, start}
 use Rattle.journal_laws.specs.Surviving.{prints}
 use Rattle.journal_laws.proofs.Undone.{stands_run}
 use Rattle.commit_book.proofs.Lawful.PrintCounts.{run_printed}

@@ -1,7 +1,7 @@
 use Rattle.std.proofs.Common.{◌≡◌, ◌++◌, take}
 use Rattle.std.specs.List.{flat_map}
 use Rattle.stab_base.specs.Printed.{printed}
-use Rattle.plain_language.specs.Shown.{line}
+use Rattle.language.specs.Shown.{line}
 use Rattle.commit_book.proofs.release.put_lines.Given as goal
 
 abbrev pub invariant-loop-v : goal.invariant-loop-v

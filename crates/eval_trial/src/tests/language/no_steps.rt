@@ -3,7 +3,8 @@
 use super::{at, standing_at, whole};
 use crate::tests::reaching::step_of;
 use crate::tests::thread::program_of;
-use plain_language::{Expr, Head, PlainState, PlayFault};
+use language::Head;
+use plain_language::{Expr, PlainState, PlayFault};
 use stab_base::{RefId, ThreadId, Value};
 use std::alloc::Global;
 use std::process::Abort;

@@ -2,7 +2,8 @@
 
 use super::{at, place, standing_at, whole};
 use crate::tests::thread::program_of;
-use plain_language::{Expr, Head, Look, PlainState, PlayFault, are_flat};
+use language::Head;
+use plain_language::{Expr, Look, PlainState, PlayFault, are_flat};
 use stab_base::{ChanId, Fault, FnId, RefId, Seq, Shape, ThreadId, Value};
 use stab_code::Op;
 use stab_journal::Label;

@@ -3,7 +3,8 @@
 use super::{at, place, standing_at};
 use crate::tests::reaching::run_of;
 use crate::tests::thread::program_of;
-use plain_language::{Expr, Head, Look, PlainState};
+use language::Head;
+use plain_language::{Expr, Look, PlainState};
 use stab_base::{ChanId, Seq, ThreadId, Value};
 use stab_journal::Label;
 use std::alloc::{AllocError, Global};

@@ -1,9 +1,9 @@
 use Rattle.std.proofs.Common.{◌≡◌, ℕ, suc, ◌+◌, ◌∷◌, ◌++◌, [], List, Bor, IfOk, sym, ap, subst, ◌∙◌, arith}
 use Rattle.std.specs.Prelude.{Option, Some, None, option_map, option_and_then}
 use Rattle.plain_language.specs.declared.expr.Expr.{Expr}
-use Rattle.plain_language.specs.Expression.{form, parts_of}
+use Rattle.language.specs.Expression.{form, parts_of}
 use Rattle.expression_text.specs.declared.word.Word.{Word}
-use Rattle.plain_language.specs.declared.head.Head.TheVariants as head
+use Rattle.language.specs.declared.head.Head.TheVariants as head
 use Rattle.expression_text.specs.Reading.{Read, item_of, plan, read, read_plan}
 use Rattle.expression_text.proofs.Loops.{InList, InItems, list_more, list_none, list_end, items_more, items_none, items_none_behind, items_end}
 use Rattle.expression_text.proofs.reading.+reading.Goals as goal

@@ -1,8 +1,8 @@
 use Rattle.std.proofs.Common.{◌≤◌, sym, subst, arith}
 use Rattle.std.proofs.lemmas.Result.{on_ok_weaker}
-use Rattle.plain_language.specs.Expression.{Expr, parts_of}
-use Rattle.plain_language.specs.Size.{size_of, size_of_parts}
-use Rattle.plain_language.proofs.Putting.{smaller_part}
+use Rattle.language.specs.Expression.{Expr, parts_of}
+use Rattle.language.specs.Size.{size_of, size_of_parts}
+use Rattle.language.proofs.Putting.{smaller_part}
 use Rattle.expression_text.proofs.Written.{form_written}
 use Rattle.expression_text.proofs.writing.+writing.Goals as goal
 

@@ -1,6 +1,6 @@
 use Rattle.std.proofs.Common.{◌+◌, ◌*◌}
-use Rattle.plain_language.specs.Expression.{parts_of}
-use Rattle.plain_language.specs.Size.{size_of, size_of_parts}
+use Rattle.language.specs.Expression.{parts_of}
+use Rattle.language.specs.Size.{size_of, size_of_parts}
 use Rattle.expression_text.proofs.Written.{Written}
 use Rattle.expression_text.proofs.writing.+writing.Given as goal
 

@@ -2,7 +2,7 @@ use Rattle.std.proofs.Common.{◌≡◌, true, false, add-one, sym, ap, ◌∙�
 use Rattle.std.specs.Prelude.{Some}
 use Rattle.stab_journal.specs.declared.event.What.{What}
 use Rattle.stab_journal.specs.Journal.{event_at}
-use Rattle.plain_language.specs.Standing.{event}
+use Rattle.language.specs.Standing.{event}
 use Rattle.image_commands.specs.Cuts.{is_cut}
 use Rattle.image_commands.proofs.Counting.{cut_of, one, one_counted}
 use Rattle.image_commands.proofs.cuts.cut_at.Goals as goal

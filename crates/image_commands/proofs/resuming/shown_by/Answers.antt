@@ -1,7 +1,7 @@
 use Rattle.std.proofs.Common.{◌≡◌, List, ◌++◌, length, take, ap, subst, ◌∙◌}
 use Rattle.stab_base.specs.Datum.{Datum}
 use Rattle.stab_code.specs.Program.{ProgramParts}
-use Rattle.plain_language.specs.Shown.{shown, value_lines}
+use Rattle.language.specs.Shown.{shown, value_lines}
 use Rattle.state_text.specs.Ended.{AllDone, SomeHeld}
 use Rattle.image_commands.proofs.Front.{front_of}
 use Rattle.image_commands.proofs.resuming.shown_by.Goals as goal

@@ -1,7 +1,7 @@
 -- The parts so far are the program's.
 use Rattle.std.proofs.Common.{◌≡◌, ◌+◌, ◌*◌, drop}
-use Rattle.plain_language.specs.Expression.{parts_of}
-use Rattle.plain_language.specs.Size.{size_of, size_of_parts}
+use Rattle.language.specs.Expression.{parts_of}
+use Rattle.language.specs.Size.{size_of, size_of_parts}
 use Rattle.image_state.specs.Counted.{are_of}
 use Rattle.image_state.proofs.counted.+counting.Given as goal
 

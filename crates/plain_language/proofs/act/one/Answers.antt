@@ -1,6 +1,6 @@
 use Rattle.std.proofs.Common.{arith}
-use Rattle.plain_language.specs.Busy.{values_in}
-use Rattle.plain_language.proofs.Operands.{length-values_in, one_of-none}
+use Rattle.language.specs.Busy.{values_in}
+use Rattle.language.proofs.Operands.{length-values_in, one_of-none}
 use Rattle.plain_language.proofs.act.one.Goals as goal
 
 pub returns-else-parts-eq1 : goal.returns-else-parts-eq1

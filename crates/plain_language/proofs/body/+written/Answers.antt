@@ -1,8 +1,8 @@
 use Rattle.std.proofs.Common.{◌≡◌, ◌∙◌, ap, sym, subst, map, IfOk}
 use Rattle.std.proofs.lemmas.List.{take_all}
 use Rattle.stab_code.specs.Program.{tree_at, trees_of}
-use Rattle.plain_language.specs.Expression.{Expr, parts_of}
-use Rattle.plain_language.specs.Program.{expr_of, form_of}
+use Rattle.language.specs.Expression.{Expr, parts_of}
+use Rattle.language.specs.Program.{expr_of, form_of}
 use Rattle.plain_language.proofs.Bodies.{exprs_at}
 use Rattle.plain_language.proofs.body.+written.Goals as goal
 

@@ -1,6 +1,6 @@
 use Rattle.std.proofs.Common.{◌≡◌, map, take}
 use Rattle.stab_code.specs.Program.{tree_at}
-use Rattle.plain_language.specs.Program.{expr_of}
+use Rattle.language.specs.Program.{expr_of}
 use Rattle.plain_language.proofs.body.+written.Given as goal
 
 abbrev pub decreases-written : goal.decreases-written

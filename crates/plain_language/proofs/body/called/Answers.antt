@@ -1,13 +1,13 @@
 use Rattle.std.proofs.Common.{◌≡◌, ◌∙◌, ap, sym, subst, IfOk}
 use Rattle.std.specs.Prelude.{slice_get}
-use Rattle.plain_language.specs.Busy.{values_in}
-use Rattle.plain_language.specs.Expression.{Expr, put}
+use Rattle.language.specs.Busy.{values_in}
+use Rattle.language.specs.Expression.{Expr, put}
 use Rattle.plain_language.specs.Given.{given_to}
-use Rattle.plain_language.specs.Outcome.{called}
-use Rattle.plain_language.specs.Program.{body}
+use Rattle.language.specs.Outcome.{called}
+use Rattle.language.specs.Program.{body}
 use Rattle.plain_language.specs.declared.given.Given.TheVariants.{All}
 use Rattle.plain_language.proofs.Bodies.{body_is, given_values}
-use Rattle.plain_language.proofs.Putting.{put-agree}
+use Rattle.language.proofs.Putting.{put-agree}
 use Rattle.plain_language.proofs.body.called.Goals as goal
 
 pub returns-in_ok-written-in-Some : goal.returns-in_ok-written-in-Some

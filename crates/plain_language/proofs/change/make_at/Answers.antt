@@ -2,9 +2,9 @@ use Rattle.std.proofs.Common.{◌≡◌, IsSome, ap, subst, sym, ◌∙◌}
 use Rattle.std.specs.Ordering.{nat_cmp}
 use Rattle.std.specs.FinMap as map
 use Rattle.std.specs.FinMap.{FinMap}
-use Rattle.plain_language.specs.Expression.{Expr}
+use Rattle.language.specs.Expression.{Expr}
 use Rattle.plain_language.specs.Next.{after_next}
-use Rattle.plain_language.proofs.Staying.{all_said, inserted_twice, still_there}
+use Rattle.language.proofs.Staying.{all_said, inserted_twice, still_there}
 use Rattle.plain_language.proofs.change.make_at.Goals as goal
 
 pub replace-fault-requires : goal.replace-fault-requires

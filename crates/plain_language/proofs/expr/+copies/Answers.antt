@@ -1,8 +1,8 @@
 use Rattle.std.proofs.Common.{◌≤◌, sym, subst, arith}
-use Rattle.plain_language.specs.Expression.{Expr, parts_of}
+use Rattle.language.specs.Expression.{Expr, parts_of}
 use Rattle.plain_language.specs.Given.{given_to}
-use Rattle.plain_language.specs.Size.{size_of, size_of_parts}
-use Rattle.plain_language.proofs.Putting.{copied_more, copied_all, smaller_part}
+use Rattle.language.specs.Size.{size_of, size_of_parts}
+use Rattle.language.proofs.Putting.{copied_more, copied_all, smaller_part}
 use Rattle.plain_language.proofs.expr.+copies.Goals as goal
 
 pub put_copies-put_copy-requires : goal.put_copies-put_copy-requires

@@ -1,7 +1,7 @@
 use Rattle.std.proofs.Common.{◌≡◌, ◌+◌, ◌*◌, map, take}
 use Rattle.plain_language.specs.Given.{given_to}
-use Rattle.plain_language.specs.Expression.{parts_of, put}
-use Rattle.plain_language.specs.Size.{size_of, size_of_parts}
+use Rattle.language.specs.Expression.{parts_of, put}
+use Rattle.language.specs.Size.{size_of, size_of_parts}
 use Rattle.plain_language.proofs.expr.+copies.Given as goal
 
 abbrev pub decreases-Expr::put_copy : goal.decreases-Expr::put_copy

@@ -1,4 +1,4 @@
-use Rattle.plain_language.proofs.Maps.{added_set}
+use Rattle.language.proofs.Maps.{added_set}
 use Rattle.plain_language.proofs.numbered.add.Goals as goal
 
 pub returns : goal.returns

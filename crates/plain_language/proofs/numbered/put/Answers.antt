@@ -1,4 +1,4 @@
-use Rattle.plain_language.proofs.Maps.{entered_map}
+use Rattle.language.proofs.Maps.{entered_map}
 use Rattle.plain_language.proofs.numbered.put.Goals as goal
 
 pub returns : goal.returns

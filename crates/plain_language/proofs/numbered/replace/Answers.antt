@@ -1,6 +1,6 @@
 use Rattle.std.proofs.Common.{is_some, ◌∙◌, ap, sym}
 use Rattle.std.proofs.lemmas.Bool.{false≢true}
-use Rattle.plain_language.proofs.Maps.{entered_map, get_looked}
+use Rattle.language.proofs.Maps.{entered_map, get_looked}
 use Rattle.plain_language.proofs.numbered.replace.Goals as goal
 
 pub unwrap-requires : goal.unwrap-requires

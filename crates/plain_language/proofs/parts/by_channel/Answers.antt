@@ -3,8 +3,8 @@ use Rattle.std.specs.Ordering.{nat_cmp}
 use Rattle.std.specs.FinSet.{from_list}
 use Rattle.std.proofs.lemmas.Grind.{common_steps}
 use Rattle.stab_base.specs.declared.numbers.ChanId.{ChanId}
-use Rattle.plain_language.specs.Parts.{channels_of}
-use Rattle.plain_language.proofs.Onto.{among, among-empty, among_next, map_push}
+use Rattle.language.specs.Parts.{channels_of}
+use Rattle.language.proofs.Onto.{among, among-empty, among_next, map_push}
 use Rattle.plain_language.proofs.parts.by_channel.Goals as goal
 
 abbrev number : ChanId → ℕ

@@ -1,7 +1,7 @@
 use Rattle.std.proofs.Common.{◌≡◌, length, map}
 use Rattle.std.specs.FinSet.{from_list}
-use Rattle.plain_language.specs.Parts.{channels_of}
-use Rattle.plain_language.proofs.Onto.{among}
+use Rattle.language.specs.Parts.{channels_of}
+use Rattle.language.proofs.Onto.{among}
 use Rattle.plain_language.proofs.parts.by_channel.Given as goal
 
 -- what is left, put into what was taken, gives all of it

@@ -4,8 +4,8 @@ use Rattle.std.specs.FinMap.{from_entries}
 use Rattle.std.proofs.lemmas.Grind.{common_steps}
 use Rattle.stab_base.specs.declared.numbers.RefId.{RefId}
 use Rattle.stab_base.specs.Datum.{Datum}
-use Rattle.plain_language.specs.Parts.{references_of}
-use Rattle.plain_language.proofs.Onto.{onto, onto-empty, onto_next, map_push}
+use Rattle.language.specs.Parts.{references_of}
+use Rattle.language.proofs.Onto.{onto, onto-empty, onto_next, map_push}
 use Rattle.plain_language.proofs.parts.by_reference.Goals as goal
 
 abbrev by_number : RefId × Datum → ℕ × Datum

@@ -1,7 +1,7 @@
 use Rattle.std.proofs.Common.{◌≡◌, length, map}
 use Rattle.std.specs.FinMap.{from_entries}
-use Rattle.plain_language.specs.Parts.{references_of}
-use Rattle.plain_language.proofs.Onto.{onto}
+use Rattle.language.specs.Parts.{references_of}
+use Rattle.language.proofs.Onto.{onto}
 use Rattle.plain_language.proofs.parts.by_reference.Given as goal
 
 -- what is left, put onto what was taken, gives all of it

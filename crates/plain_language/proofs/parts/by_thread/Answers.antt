@@ -3,9 +3,9 @@ use Rattle.std.specs.Ordering.{nat_cmp}
 use Rattle.std.specs.FinMap.{from_entries}
 use Rattle.std.proofs.lemmas.Grind.{common_steps}
 use Rattle.stab_base.specs.declared.numbers.ThreadId.{ThreadId}
-use Rattle.plain_language.specs.Expression.{Expr}
-use Rattle.plain_language.specs.Parts.{threads_of}
-use Rattle.plain_language.proofs.Onto.{onto, onto-empty, onto_next, map_push}
+use Rattle.language.specs.Expression.{Expr}
+use Rattle.language.specs.Parts.{threads_of}
+use Rattle.language.proofs.Onto.{onto, onto-empty, onto_next, map_push}
 use Rattle.plain_language.proofs.parts.by_thread.Goals as goal
 
 abbrev by_number : ThreadId × Expr → ℕ × Expr

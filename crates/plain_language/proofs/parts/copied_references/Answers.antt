@@ -3,7 +3,7 @@ use Rattle.std.specs.Ordering.{nat_cmp}
 use Rattle.std.specs.FinMap.{FinMap, from_entries, insert}
 use Rattle.std.proofs.lemmas.Grind.{common_steps}
 use Rattle.stab_base.specs.Datum.{Datum}
-use Rattle.plain_language.proofs.Onto.{onto, onto-empty, onto_next}
+use Rattle.language.proofs.Onto.{onto, onto-empty, onto_next}
 use Rattle.plain_language.proofs.parts.copied_references.Goals as goal
 
 pub loop-r-init : goal.loop-r-init

@@ -2,8 +2,8 @@ use Rattle.std.proofs.Common.{◌≡◌, ℕ, [], ◌∷◌, ◌++◌, ap, ◌�
 use Rattle.std.specs.Ordering.{nat_cmp}
 use Rattle.std.specs.FinMap.{FinMap, from_entries, insert}
 use Rattle.std.proofs.lemmas.Grind.{common_steps}
-use Rattle.plain_language.specs.Expression.{Expr}
-use Rattle.plain_language.proofs.Onto.{onto, onto-empty, onto_next}
+use Rattle.language.specs.Expression.{Expr}
+use Rattle.language.proofs.Onto.{onto, onto-empty, onto_next}
 use Rattle.plain_language.proofs.parts.copied_threads.Goals as goal
 
 pub loop-t-init : goal.loop-t-init

@@ -1,6 +1,6 @@
 use Rattle.std.proofs.Common.{◌≡◌, length}
 use Rattle.std.specs.FinMap.{from_entries}
-use Rattle.plain_language.proofs.Onto.{onto}
+use Rattle.language.proofs.Onto.{onto}
 use Rattle.plain_language.proofs.parts.copied_threads.Given as goal
 
 -- what is left, put onto the copies, gives all of it

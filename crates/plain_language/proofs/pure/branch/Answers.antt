@@ -1,5 +1,5 @@
 use Rattle.std.proofs.Common.{cond, get_or, ◌∙◌, ap, sym, arith}
-use Rattle.plain_language.specs.Outcome.{becomes}
+use Rattle.language.specs.Outcome.{becomes}
 use Rattle.plain_language.proofs.Blocks.{put-given_nothing, branched, branched_wrong}
 use Rattle.plain_language.proofs.pure.branch.Goals as goal
 

@@ -1,7 +1,7 @@
 use Rattle.std.proofs.Common.{◌≡◌, ◌∷◌, Some, ◌∙◌, ap, sym, arith}
 use Rattle.std.proofs.lemmas.Grind.{common_steps}
-use Rattle.plain_language.specs.Expression.{parts_of}
-use Rattle.plain_language.specs.Outcome.{becomes}
+use Rattle.language.specs.Expression.{parts_of}
+use Rattle.language.specs.Outcome.{becomes}
 use Rattle.plain_language.specs.Pures.{left_of_block}
 use Rattle.plain_language.proofs.Blocks.{block_of-left, item_is}
 use Rattle.plain_language.proofs.pure.item.Goals as goal

@@ -1,5 +1,5 @@
 use Rattle.std.proofs.Common.{◌∙◌, ap}
-use Rattle.plain_language.specs.Outcome.{becomes}
+use Rattle.language.specs.Outcome.{becomes}
 use Rattle.plain_language.proofs.Blocks.{put-given_nothing, waiting_two, waiting_wrong}
 use Rattle.plain_language.proofs.pure.waiting.Goals as goal
 

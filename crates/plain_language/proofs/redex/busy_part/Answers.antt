@@ -1,6 +1,6 @@
 use Rattle.std.proofs.Common.{◌∙◌, ap, sym}
-use Rattle.plain_language.specs.Busy.{busy_at}
-use Rattle.plain_language.proofs.Finding.{position_busy}
+use Rattle.language.specs.Busy.{busy_at}
+use Rattle.language.proofs.Finding.{position_busy}
 use Rattle.plain_language.proofs.redex.busy_part.Goals as goal
 
 pub returns-else-first_counts_alone : goal.returns-else-first_counts_alone

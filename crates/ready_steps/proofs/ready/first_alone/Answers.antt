@@ -1,6 +1,6 @@
 use Rattle.std.proofs.Common.{◌≡◌, ℕ, sym, ap, ◌∙◌}
 use Rattle.std.specs.Prelude.{true}
-use Rattle.plain_language.specs.Program.{body}
+use Rattle.language.specs.Program.{body}
 use Rattle.ready_steps.specs.Ready.{look_of, rests_at}
 use Rattle.ready_steps.proofs.Searching.{does, further, to_end}
 use Rattle.ready_steps.proofs.ready.first_alone.Goals as goal

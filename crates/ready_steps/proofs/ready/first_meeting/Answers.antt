@@ -1,7 +1,7 @@
 use Rattle.std.proofs.Common.{◌≡◌, ℕ, sym, ap, ◌∙◌}
 use Rattle.std.specs.Prelude.{true, false}
 use Rattle.std.proofs.lemmas.Bool.{false≢true}
-use Rattle.plain_language.specs.Program.{body}
+use Rattle.language.specs.Program.{body}
 use Rattle.ready_steps.specs.Ready.{look_of, receives_at, sends_at}
 use Rattle.ready_steps.proofs.Searching.{does, further, to_end}
 use Rattle.ready_steps.proofs.ready.first_meeting.Goals as goal

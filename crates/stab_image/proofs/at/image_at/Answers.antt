@@ -3,7 +3,7 @@ use Rattle.std.specs.Prelude.{is_some}
 use Rattle.std.specs.Arc.{arc_value}
 use Rattle.stab_code.specs.Limits.{max_script}
 use Rattle.stab_text.specs.Text.{IsTextOf}
-use Rattle.plain_language.specs.Plain.{standing}
+use Rattle.language.specs.Plain.{standing}
 use Rattle.trace_verify.specs.Generations.{times}
 use Rattle.image_lines.specs.HeadText.{IsLength}
 use Rattle.stab_image.specs.Limits.{max_number}

@@ -5,8 +5,8 @@ use Rattle.std.specs.FinMap as map
 use Rattle.std.specs.FinMap.{from_entries}
 use Rattle.stab_text.specs.Text.{IsTextOf}
 use Rattle.journal_laws.specs.Known.{IsExprIn, IsKnown}
-use Rattle.plain_language.specs.Held.{Held}
-use Rattle.plain_language.specs.Plain.{PlainState}
+use Rattle.language.specs.Held.{Held}
+use Rattle.language.specs.Plain.{PlainState}
 use Rattle.image_lines.specs.HeadText.{IsLength}
 use Rattle.image_run.specs.Next.{AreBelowNext}
 use Rattle.image_state.specs.Held.{held_parts}

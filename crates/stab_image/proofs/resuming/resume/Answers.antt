@@ -5,8 +5,8 @@ use Rattle.std.specs.FinMap.{from_entries}
 use Rattle.std.specs.Ordering.{nat_cmp}
 use Rattle.stab_code.specs.Program.{ProgramParts}
 use Rattle.stab_journal.specs.declared.event.Event.{Event}
-use Rattle.plain_language.specs.Plain.{effect_of, language_of}
-use Rattle.plain_language.specs.Quiet.{IsQuiet}
+use Rattle.language.specs.Plain.{effect_of, language_of}
+use Rattle.language.specs.Quiet.{IsQuiet}
 use Rattle.image_laws.specs.Image.{Image, IsContinuedBy, StandsAt}
 use Rattle.stab_image.specs.Limits.{max_number}
 use Rattle.stab_image.specs.View.{image_of}

@@ -3,7 +3,7 @@ use Rattle.std.specs.List.{AllByRecursion}
 use Rattle.stab_journal.specs.declared.event.Numbered.{Numbered}
 use Rattle.stab_code.specs.Program.{ProgramParts}
 use Rattle.stab_code.specs.Valid.{CountsAreWithin}
-use Rattle.plain_language.specs.Plain.{IsRun, PlainState}
+use Rattle.language.specs.Plain.{IsRun, PlainState}
 use Rattle.image_laws.specs.Image.{StandsAt}
 use Rattle.image_lines.specs.HeadText.{IsProbe}
 use Rattle.standing_runs.specs.Standing.{IsStanding}

@@ -3,7 +3,7 @@ use Rattle.std.specs.Prelude.{count_by, length}
 use Rattle.stab_journal.specs.declared.event.Numbered.{Numbered}
 use Rattle.stab_journal.specs.Due.{is_print}
 use Rattle.stab_journal.specs.Journal.{survivors}
-use Rattle.plain_language.specs.Plain.{start}
+use Rattle.language.specs.Plain.{start}
 use Rattle.commit_book.proofs.Lawful.PrintCounts.{run_printed}
 use Rattle.stab_top.proofs.laws.undos_and_output.Goals as goal
 

@@ -1,7 +1,7 @@
 use Rattle.std.proofs.Common.{ap, subst, sym}
 use Rattle.std.specs.Prelude.{is_some}
 use Rattle.plain_language.specs.declared.look.Look.{Look}
-use Rattle.plain_language.specs.Program.{body}
+use Rattle.language.specs.Program.{body}
 use Rattle.state_text.specs.Counts.{counted}
 use Rattle.state_text.proofs.Counting.{AreSoFar, all_so_far, none_so_far, one_so_far}
 use Rattle.state_text.proofs.counts.counts_of.Goals as goal

@@ -1,6 +1,6 @@
 use Rattle.std.proofs.Common.{sym, ◌∙◌}
-use Rattle.plain_language.specs.Plain.{look_in}
-use Rattle.plain_language.specs.Program.{body}
+use Rattle.language.specs.Plain.{look_in}
+use Rattle.language.specs.Program.{body}
 use Rattle.state_text.proofs.Looking.{all_passed, done_is, held_at, none_passed, not_done, one_passed}
 use Rattle.state_text.proofs.ended.all_ended.Goals as goal
 

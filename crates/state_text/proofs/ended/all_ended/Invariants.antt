@@ -1,8 +1,8 @@
 -- The threads up to the last one ended.
 use Rattle.std.proofs.Common.{◌≡◌, ℕ, ◌≤◌, ◌-◌, true}
 use Rattle.std.specs.Prelude.{IfSome}
-use Rattle.plain_language.specs.Plain.{look_in, standing}
-use Rattle.plain_language.specs.Shown.{is_done}
+use Rattle.language.specs.Plain.{look_in, standing}
+use Rattle.language.specs.Shown.{is_done}
 use Rattle.state_text.proofs.ended.all_ended.Given as goal
 
 abbrev pub invariant-loop-t : goal.invariant-loop-t

@@ -1,7 +1,7 @@
 use Rattle.std.proofs.Common.{ℕ, List, ◌++◌, ap, sym, ◌∙◌, append-nil}
 use Rattle.std.specs.Prelude.{is_some}
-use Rattle.plain_language.specs.Plain.{look_in}
-use Rattle.plain_language.specs.Program.{body}
+use Rattle.language.specs.Plain.{look_in}
+use Rattle.language.specs.Program.{body}
 use Rattle.image_text.proofs.Going.{at_first, at_last, one_more}
 use Rattle.state_text.specs.Text.{fault_line_of}
 use Rattle.state_text.proofs.Looking.{failed_line, no_line}

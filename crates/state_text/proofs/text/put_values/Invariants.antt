@@ -2,7 +2,7 @@
 use Rattle.std.proofs.Common.{◌≡◌, ◌++◌, take}
 use Rattle.std.specs.List.{flat_map}
 use Rattle.stab_base.specs.Printed.{printed}
-use Rattle.plain_language.specs.Shown.{line}
+use Rattle.language.specs.Shown.{line}
 use Rattle.state_text.proofs.text.put_values.Given as goal
 
 abbrev pub invariant-loop-value : goal.invariant-loop-value

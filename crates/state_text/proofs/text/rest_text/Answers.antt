@@ -5,8 +5,8 @@ use Rattle.std.proofs.lemmas.Grind.{flat_map-append}
 use Rattle.std.proofs.lemmas.List.{take-append-drop}
 use Rattle.stab_base.specs.Datum.{Datum}
 use Rattle.stab_base.specs.Printed.{printed}
-use Rattle.plain_language.specs.Plain.{look_in}
-use Rattle.plain_language.specs.Shown.{count_line, line, value_lines}
+use Rattle.language.specs.Plain.{look_in}
+use Rattle.language.specs.Shown.{count_line, line, value_lines}
 use Rattle.state_text.specs.Text.{fault_lines}
 use Rattle.state_text.proofs.text.rest_text.Goals as goal
 

@@ -1,7 +1,7 @@
 -- A literal and a variable have values.
 use Rattle.std.proofs.Common.{ap}
 use Rattle.stab_base.specs.Datum.{unit, truth, int, text}
-use Rattle.plain_language.specs.Program.{form_of}
+use Rattle.language.specs.Program.{form_of}
 use Rattle.step_eval.proofs.Forms.{head-is}
 use Rattle.step_eval.proofs.Searching.{has-value, has-variable}
 use Rattle.step_eval.proofs.depth.is_form.Goals as goal

@@ -1,7 +1,7 @@
 use Rattle.std.proofs.Common.{◌≡◌, Some, ap, sym, ◌∙◌, rules}
 use Rattle.stab_base.specs.Datum.{unit, truth, int, text}
-use Rattle.plain_language.specs.Expression.{value}
-use Rattle.plain_language.specs.Program.{form_of}
+use Rattle.language.specs.Expression.{value}
+use Rattle.language.specs.Program.{form_of}
 use Rattle.step_eval.proofs.Forms.{leaf-value, leaf-variable, slot-there}
 use Rattle.step_eval.proofs.node.leaf.Goals as goal
 

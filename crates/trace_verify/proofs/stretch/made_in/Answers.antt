@@ -1,6 +1,6 @@
 use Rattle.std.proofs.Common.{◌≡◌, ap, sym, subst, ◌∙◌, add-one, arith}
 use Rattle.stab_journal.specs.declared.event.Label.TheVariants.{Local}
-use Rattle.plain_language.specs.Held.{Held}
+use Rattle.language.specs.Held.{Held}
 use Rattle.plain_language.specs.Plays.{step_in}
 use Rattle.trace_verify.specs.Stretch.{AreMade}
 use Rattle.trace_verify.proofs.Stretching.{one_more}

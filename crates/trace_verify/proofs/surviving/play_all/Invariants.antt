@@ -1,8 +1,8 @@
 -- The steps that are left lead from the state to where all of them lead.
 use Rattle.std.proofs.Common.{◌≡◌, drop}
 use Rattle.std.specs.Prelude.{Some}
-use Rattle.plain_language.specs.Plain.{effect_of}
-use Rattle.plain_language.specs.Steps.{after_steps}
+use Rattle.language.specs.Plain.{effect_of}
+use Rattle.language.specs.Steps.{after_steps}
 use Rattle.trace_verify.proofs.surviving.play_all.Given as goal
 
 abbrev pub invariant-loop-step : goal.invariant-loop-step

@@ -6,7 +6,7 @@ use Rattle.stab_code.specs.Program.{ProgramParts}
 use Rattle.stab_journal.specs.Due.{due}
 use Rattle.stab_journal.specs.Event.{weight_of}
 use Rattle.stab_journal.specs.Journal.{Journal}
-use Rattle.plain_language.specs.Shown.{line}
+use Rattle.language.specs.Shown.{line}
 use Rattle.commit_book.specs.Book.{BookView}
 use Rattle.commit_book.specs.Layout.{view_of}
 use Rattle.commit_book.specs.Releases.{IsReleased, due_lines}

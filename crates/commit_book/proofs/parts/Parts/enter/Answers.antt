@@ -14,9 +14,9 @@ use Rattle.std.proofs.Common.{◌≡◌}
 use Rattle.step_eval.specs.Asked.{IsEnter}
 use Rattle.commit_book.proofs.Acting.Acted.{needs_fits}
 use Rattle.stab_code.specs.Program.{ProgramParts}
-use Rattle.plain_language.specs.Look.{entered}
-use Rattle.plain_language.specs.Outcome.{called}
-use Rattle.plain_language.specs.Program.{body}
+use Rattle.language.specs.Look.{entered}
+use Rattle.language.specs.Outcome.{called}
+use Rattle.language.specs.Program.{body}
 use Rattle.step_eval.specs.Asked.{operands_of}
 use Rattle.commit_book.specs.Acting.{number_after}
 use Rattle.commit_book.proofs.parts.Parts.enter.Goals as goal

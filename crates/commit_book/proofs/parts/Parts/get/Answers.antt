@@ -13,7 +13,7 @@ use Rattle.std.proofs.Common.{◌≡◌}
 use Rattle.std.specs.Prelude.{is_some}
 use Rattle.step_eval.specs.Asked.{act_next}
 use Rattle.commit_book.proofs.Acting.Acted.{needs_fits}
-use Rattle.plain_language.specs.Look.{answered}
+use Rattle.language.specs.Look.{answered}
 use Rattle.std.specs.Prelude.{IfSome}
 use Rattle.ref_log.specs.Log.{Write, last_of, writes_of}
 use Rattle.std.proofs.lemmas.Bool.{eqb-true}

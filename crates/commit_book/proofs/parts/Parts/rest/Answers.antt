@@ -1,5 +1,5 @@
 use Rattle.std.proofs.Common.{rules, refl}
-use Rattle.plain_language.specs.Plain.{look_in}
+use Rattle.language.specs.Plain.{look_in}
 use Rattle.step_eval.specs.ControlView.{expr_of}
 use Rattle.commit_book.proofs.Acting.Acted.{in_ok, needs_few, needs_there, reserved}
 use Rattle.commit_book.proofs.Acting.RestActs.{rest_lasts, unoffering}

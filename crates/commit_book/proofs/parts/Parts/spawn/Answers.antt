@@ -8,8 +8,8 @@ use Rattle.stab_journal.specs.declared.event.Label.TheVariants.{Spawn}
 use Rattle.stab_journal.specs.Event.{IsLabel}
 use Rattle.comm_graph.specs.declared.node.NodeFor.TheVariants as node
 use Rattle.comm_graph.specs.Node.{Node}
-use Rattle.plain_language.specs.Outcome.{called}
-use Rattle.plain_language.specs.Program.{body}
+use Rattle.language.specs.Outcome.{called}
+use Rattle.language.specs.Program.{body}
 use Rattle.step_eval.specs.Asked.{act_next, operands_of}
 use Rattle.step_eval.specs.ControlView.{ControlView, Fits}
 use Rattle.step_eval.specs.Turns.{Takes}

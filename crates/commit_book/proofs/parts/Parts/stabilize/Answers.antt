@@ -1,7 +1,7 @@
 use Rattle.std.proofs.Common.{◌≡◌, ◌≤◌, subst, arith}
 use Rattle.std.specs.Prelude.{option_map}
 use Rattle.stab_code.specs.Valid.{IsValid}
-use Rattle.plain_language.specs.Redex.{mark}
+use Rattle.language.specs.Redex.{mark}
 use Rattle.step_eval.specs.ControlView.{ControlView, Fits, expr_of}
 use Rattle.stab_journal.specs.Journal.{survivors}
 use Rattle.commit_book.proofs.Undoing.Granting.{held_low, held_none, mark_is, no_mark}

@@ -1,7 +1,7 @@
 use Rattle.std.proofs.Common.{◌≡◌, [], refl, sym, ap, subst}
 use Rattle.std.specs.Arc.{arc_value}
-use Rattle.plain_language.specs.Held.{Held}
-use Rattle.plain_language.specs.Standing.{nothing}
+use Rattle.language.specs.Held.{Held}
+use Rattle.language.specs.Standing.{nothing}
 use Rattle.eval_trial.specs.Alone.{StandsAlone}
 use Rattle.eval_trial.proofs.tests.played.played.Goals as goal
 

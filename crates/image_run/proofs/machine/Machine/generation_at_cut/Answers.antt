@@ -1,6 +1,6 @@
 use Rattle.std.proofs.Common.{ℕ, sym, ap, ◌∙◌}
 use Rattle.std.specs.Prelude.{Option, unwrap_or}
-use Rattle.plain_language.proofs.Maps.{get_looked}
+use Rattle.language.proofs.Maps.{get_looked}
 use Rattle.image_run.proofs.machine.Machine.generation_at_cut.Goals as goal
 
 pub returns-in-Some : goal.returns-in-Some

@@ -1,6 +1,6 @@
 use Rattle.std.proofs.Common.{refl, sym, subst, ◌∙◌}
 use Rattle.journal_laws.specs.Known.{IsExprIn, IsKnown}
-use Rattle.plain_language.specs.Held.{Held}
+use Rattle.language.specs.Held.{Held}
 use Rattle.trace_verify.specs.Surviving.{IsKept}
 use Rattle.image_run.proofs.Stepping.{begun}
 use Rattle.image_run.proofs.machine.Machine.new.Goals as goal

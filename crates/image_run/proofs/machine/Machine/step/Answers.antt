@@ -2,7 +2,7 @@ use Rattle.std.proofs.Common.{sym, ap, subst, ◌∙◌, arith}
 use Rattle.std.specs.Prelude.{IsSome, Ok}
 use Rattle.std.proofs.lemmas.Bool.{false≢true}
 use Rattle.stab_journal.specs.Since.{AreBelow}
-use Rattle.plain_language.specs.Plain.{plain_step}
+use Rattle.language.specs.Plain.{plain_step}
 use Rattle.trace_verify.specs.Surviving.{PlaysOn}
 use Rattle.image_run.specs.Machine.{run_of, state_of}
 use Rattle.image_run.proofs.Stepping.{stepped}

@@ -1,8 +1,8 @@
 use Rattle.std.proofs.Common.{◌≡◌, sym, subst}
 use Rattle.std.specs.Prelude.{None, IfOk, MatchOption}
-use Rattle.plain_language.specs.Held.{Held}
-use Rattle.plain_language.specs.Plain.{language_of}
-use Rattle.plain_language.specs.Quiet.{IsQuiet}
+use Rattle.language.specs.Held.{Held}
+use Rattle.language.specs.Plain.{language_of}
+use Rattle.language.specs.Quiet.{IsQuiet}
 use Rattle.ready_steps.specs.Ready.{IsReady, look_of}
 use Rattle.image_run.proofs.Turning.{first_thread}
 use Rattle.image_run.proofs.turn.Run.next.Goals as goal

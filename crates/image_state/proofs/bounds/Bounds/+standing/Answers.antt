@@ -1,7 +1,7 @@
 use Rattle.std.proofs.Common.{◌≤◌, length, sym, subst, ap, ◌∙◌, arith}
-use Rattle.plain_language.specs.Expression.{Expr, parts_of}
-use Rattle.plain_language.specs.Size.{size_of, size_of_parts}
-use Rattle.plain_language.proofs.Putting.{smaller_part}
+use Rattle.language.specs.Expression.{Expr, parts_of}
+use Rattle.language.specs.Size.{size_of, size_of_parts}
+use Rattle.language.proofs.Putting.{smaller_part}
 use Rattle.image_state.specs.Held.{known_of}
 use Rattle.image_state.proofs.Forms.{passed, refused}
 use Rattle.image_state.proofs.bounds.Bounds.+standing.Goals as goal

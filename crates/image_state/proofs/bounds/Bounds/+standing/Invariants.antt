@@ -1,7 +1,7 @@
 -- The parts so far stand, with the slots that they bind.
 use Rattle.std.proofs.Common.{◌≡◌, ◌+◌, ◌*◌, drop, length, take}
-use Rattle.plain_language.specs.Expression.{parts_of}
-use Rattle.plain_language.specs.Size.{size_of, size_of_parts}
+use Rattle.language.specs.Expression.{parts_of}
+use Rattle.language.specs.Size.{size_of, size_of_parts}
 use Rattle.image_state.specs.Held.{known_of}
 use Rattle.image_state.specs.Stands.{parts_stand}
 use Rattle.image_state.proofs.bounds.Bounds.+standing.Given as goal

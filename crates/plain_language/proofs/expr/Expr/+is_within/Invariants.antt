@@ -1,8 +1,8 @@
 -- The parts so far are flat enough.
 use Rattle.std.proofs.Common.{◌≡◌, ◌-◌, drop}
 use Rattle.std.specs.Prelude.{nat_le}
-use Rattle.plain_language.specs.Depth.{depth_of_parts}
-use Rattle.plain_language.specs.Expression.{parts_of}
+use Rattle.language.specs.Depth.{depth_of_parts}
+use Rattle.language.specs.Expression.{parts_of}
 use Rattle.plain_language.proofs.expr.Expr.+is_within.Given as goal
 
 abbrev pub decreases-is_within : goal.decreases-is_within

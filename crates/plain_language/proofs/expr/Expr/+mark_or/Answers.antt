@@ -1,8 +1,8 @@
 use Rattle.std.proofs.Common.{◌≡◌, ℕ, ◌<◌, ◌∙◌, ap, sym, subst, arith, [], Some, None, length}
-use Rattle.plain_language.specs.Redex.{first_counts_alone, redex}
-use Rattle.plain_language.specs.Busy.{busy_at, redex_with, mark_or}
+use Rattle.language.specs.Redex.{first_counts_alone, redex}
+use Rattle.language.specs.Busy.{busy_at, redex_with, mark_or}
 use Rattle.plain_language.specs.View.{node_expr}
-use Rattle.plain_language.proofs.Finding.{found, redex_settled}
+use Rattle.language.proofs.Finding.{found, redex_settled}
 use Rattle.plain_language.proofs.Inside.{IsPart, inner_smaller, mark_lifted}
 use Rattle.plain_language.proofs.expr.Expr.+mark_or.Goals as goal
 

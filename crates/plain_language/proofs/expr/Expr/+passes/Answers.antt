@@ -1,9 +1,9 @@
 use Rattle.std.proofs.Common.{◌≡◌, ℕ, ◌<◌, ◌∙◌, ap, sym, subst, arith, [], Some, None, length}
 use Rattle.std.specs.Prelude.{option_map}
-use Rattle.plain_language.specs.Redex.{first_counts_alone, redex}
-use Rattle.plain_language.specs.Busy.{busy_at, redex_with, passes}
+use Rattle.language.specs.Redex.{first_counts_alone, redex}
+use Rattle.language.specs.Busy.{busy_at, redex_with, passes}
 use Rattle.plain_language.specs.View.{node_expr}
-use Rattle.plain_language.proofs.Finding.{found, redex_settled}
+use Rattle.language.proofs.Finding.{found, redex_settled}
 use Rattle.plain_language.proofs.Inside.{IsPart, inner_smaller, passes_at_zero, passes_above_zero, passes_none, never_below}
 use Rattle.plain_language.proofs.expr.Expr.+passes.Goals as goal
 

@@ -1,10 +1,10 @@
 use Rattle.std.proofs.Common.{◌≡◌, Option, subst, IfOk}
 use Rattle.std.specs.Prelude.{option_map}
 use Rattle.std.specs.Option.{option_copied}
-use Rattle.plain_language.specs.Expression.{Expr}
-use Rattle.plain_language.specs.Steps.{Effect}
-use Rattle.plain_language.specs.Table.{to}
-use Rattle.plain_language.specs.Look.{language, look}
+use Rattle.language.specs.Expression.{Expr}
+use Rattle.language.specs.Steps.{Effect}
+use Rattle.language.specs.Table.{to}
+use Rattle.language.specs.Look.{language, look}
 use Rattle.plain_language.proofs.Acting.{no_get, get_this, get_other}
 use Rattle.plain_language.proofs.expr.Expr.after_get.Goals as goal
 

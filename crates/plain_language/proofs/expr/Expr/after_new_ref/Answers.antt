@@ -1,4 +1,4 @@
-use Rattle.plain_language.specs.Look.{language, look}
+use Rattle.language.specs.Look.{language, look}
 use Rattle.plain_language.proofs.Acting.{no_ref}
 use Rattle.plain_language.proofs.expr.Expr.after_new_ref.Goals as goal
 

@@ -1,4 +1,4 @@
-use Rattle.plain_language.specs.Look.{language, look}
+use Rattle.language.specs.Look.{language, look}
 use Rattle.plain_language.proofs.Acting.{no_set}
 use Rattle.plain_language.proofs.expr.Expr.after_set.Goals as goal
 

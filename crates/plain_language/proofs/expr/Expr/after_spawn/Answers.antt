@@ -1,5 +1,5 @@
-use Rattle.plain_language.specs.Program.{body}
-use Rattle.plain_language.specs.Look.{language, look}
+use Rattle.language.specs.Program.{body}
+use Rattle.language.specs.Look.{language, look}
 use Rattle.plain_language.proofs.Acting.{no_spawn}
 use Rattle.plain_language.proofs.expr.Expr.after_spawn.Goals as goal
 

@@ -1,5 +1,5 @@
 use Rattle.std.proofs.Common.{◌≡◌, subst, IfOk}
-use Rattle.plain_language.specs.Expression.{Expr}
+use Rattle.language.specs.Expression.{Expr}
 use Rattle.plain_language.proofs.Blocks.{put-given_nothing}
 use Rattle.plain_language.proofs.expr.Expr.copy.Goals as goal
 

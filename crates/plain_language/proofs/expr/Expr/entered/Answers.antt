@@ -1,5 +1,5 @@
 use Rattle.std.proofs.Common.{◌∙◌, ap}
-use Rattle.plain_language.specs.Redex.{cap, rebuild}
+use Rattle.language.specs.Redex.{cap, rebuild}
 use Rattle.plain_language.proofs.expr.Expr.entered.Goals as goal
 
 pub returns : goal.returns

@@ -1,5 +1,5 @@
 use Rattle.plain_language.specs.Acts.{act_of}
-use Rattle.plain_language.specs.Program.{body}
+use Rattle.language.specs.Program.{body}
 use Rattle.plain_language.proofs.Looking.{no_pure_at_act}
 use Rattle.plain_language.proofs.expr.Expr.next_pure.Goals as goal
 

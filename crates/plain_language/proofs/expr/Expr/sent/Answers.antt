@@ -1,5 +1,5 @@
 use Rattle.std.proofs.lemmas.Bool.{false≢true}
-use Rattle.plain_language.specs.Look.{language, look}
+use Rattle.language.specs.Look.{language, look}
 use Rattle.plain_language.proofs.Acting.{no_sent}
 use Rattle.plain_language.proofs.expr.Expr.sent.Goals as goal
 

@@ -1,8 +1,8 @@
 use Rattle.std.proofs.Common.{◌≡◌, Some, ◌∙◌, arith}
 use Rattle.std.proofs.lemmas.Grind.{common_steps}
-use Rattle.plain_language.specs.Look.{language, look}
-use Rattle.plain_language.specs.Program.{body}
-use Rattle.plain_language.specs.Table.{pure_of}
+use Rattle.language.specs.Look.{language, look}
+use Rattle.language.specs.Program.{body}
+use Rattle.language.specs.Table.{pure_of}
 use Rattle.plain_language.proofs.Looking.{one_step_more}
 use Rattle.plain_language.proofs.expr.Expr.stepped_times.Goals as goal
 

@@ -1,8 +1,8 @@
 use Rattle.std.proofs.Common.{◌≡◌}
 use Rattle.std.specs.Prelude.{◌-◌}
-use Rattle.plain_language.specs.Look.{language}
-use Rattle.plain_language.specs.Program.{body}
-use Rattle.plain_language.specs.Table.{pure_steps}
+use Rattle.language.specs.Look.{language}
+use Rattle.language.specs.Program.{body}
+use Rattle.language.specs.Table.{pure_steps}
 use Rattle.plain_language.proofs.expr.Expr.stepped_times.Given as goal
 
 abbrev pub invariant-loop-step : goal.invariant-loop-step

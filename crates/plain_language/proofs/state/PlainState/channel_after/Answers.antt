@@ -2,9 +2,9 @@ use Rattle.std.proofs.Common.{Some, None, ap, subst}
 use Rattle.std.specs.Ordering.{nat_cmp}
 use Rattle.std.specs.FinSet as set
 use Rattle.std.specs.FinSet.{FinSet}
-use Rattle.plain_language.specs.Above.{IsLeastAbove}
-use Rattle.plain_language.specs.Held.{Held}
-use Rattle.plain_language.proofs.Ranges.{key_above, no_key_above}
+use Rattle.language.specs.Above.{IsLeastAbove}
+use Rattle.language.specs.Held.{Held}
+use Rattle.language.proofs.Ranges.{key_above, no_key_above}
 use Rattle.plain_language.proofs.state.PlainState.channel_after.Goals as goal
 
 pub returns-in_err-c : goal.returns-in_err-c

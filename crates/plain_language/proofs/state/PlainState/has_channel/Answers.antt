@@ -1,7 +1,7 @@
 use Rattle.std.proofs.Common.{◌∙◌, ap, sym}
 use Rattle.std.specs.Cmp.{nat_cmp_total}
 use Rattle.std.specs.FinSet as set
-use Rattle.plain_language.specs.Held.{Held}
+use Rattle.language.specs.Held.{Held}
 use Rattle.plain_language.proofs.state.PlainState.has_channel.Goals as goal
 
 pub returns : goal.returns

@@ -8,12 +8,12 @@ use Rattle.stab_code.specs.Program.{ProgramParts}
 use Rattle.plain_language.specs.declared.play.PlayFault.TheVariants.{NoStep}
 use Rattle.stab_journal.specs.declared.event.Label.TheVariants.{Local}
 use Rattle.plain_language.specs.declared.play.PlayFault.{PlayFault}
-use Rattle.plain_language.specs.Held.{Held}
+use Rattle.language.specs.Held.{Held}
 use Rattle.plain_language.specs.Plays.{Plays}
-use Rattle.plain_language.specs.Look.{language}
-use Rattle.plain_language.specs.Plain.{standing}
-use Rattle.plain_language.specs.Program.{body}
-use Rattle.plain_language.specs.Table.{local_by, to}
+use Rattle.language.specs.Look.{language}
+use Rattle.language.specs.Plain.{standing}
+use Rattle.language.specs.Program.{body}
+use Rattle.language.specs.Table.{local_by, to}
 use Rattle.plain_language.proofs.Locals.{no_steps, steps_made}
 use Rattle.plain_language.proofs.state.PlainState.local.Goals as goal
 

@@ -1,7 +1,7 @@
 use Rattle.std.proofs.Common.{◌∙◌, ap, sym}
 use Rattle.std.specs.FinMap as map
-use Rattle.plain_language.specs.Held.{Held}
-use Rattle.plain_language.proofs.Maps.{get_looked}
+use Rattle.language.specs.Held.{Held}
+use Rattle.language.proofs.Maps.{get_looked}
 use Rattle.plain_language.proofs.state.PlainState.reference.Goals as goal
 
 pub returns : goal.returns

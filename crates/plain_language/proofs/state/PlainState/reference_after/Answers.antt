@@ -3,9 +3,9 @@ use Rattle.std.specs.Ordering.{nat_cmp}
 use Rattle.std.specs.FinMap as map
 use Rattle.std.specs.FinMap.{FinMap}
 use Rattle.stab_base.specs.Datum.{Datum}
-use Rattle.plain_language.specs.Above.{IsLeastAbove}
-use Rattle.plain_language.specs.Held.{Held}
-use Rattle.plain_language.proofs.Ranges.{entry_above, entry_holds, no_entry_above}
+use Rattle.language.specs.Above.{IsLeastAbove}
+use Rattle.language.specs.Held.{Held}
+use Rattle.language.proofs.Ranges.{entry_above, entry_holds, no_entry_above}
 use Rattle.plain_language.proofs.state.PlainState.reference_after.Goals as goal
 
 pub returns-in_err-r-clause-least : goal.returns-in_err-r-clause-least

@@ -1,8 +1,8 @@
 use Rattle.std.proofs.Common.{◌≡◌, ◌∙◌, Some, IsSome, ap, subst, sym}
 use Rattle.std.specs.Option.{option_copied}
-use Rattle.plain_language.specs.Held.{Held}
-use Rattle.plain_language.specs.Plain.{standing}
-use Rattle.plain_language.proofs.Staying.{still_there}
+use Rattle.language.specs.Held.{Held}
+use Rattle.language.specs.Plain.{standing}
+use Rattle.language.proofs.Staying.{still_there}
 use Rattle.plain_language.proofs.state.PlainState.spawn.Goals as goal
 
 pub stand-requires : goal.stand-requires

@@ -2,10 +2,10 @@ use Rattle.std.proofs.Common.{◌≡◌, Some, None, ap, subst}
 use Rattle.std.specs.Ordering.{nat_cmp}
 use Rattle.std.specs.FinMap as map
 use Rattle.std.specs.FinMap.{FinMap}
-use Rattle.plain_language.specs.Expression.{Expr}
-use Rattle.plain_language.specs.Above.{IsLeastAbove}
-use Rattle.plain_language.specs.Held.{Held}
-use Rattle.plain_language.proofs.Ranges.{entry_above, entry_holds, no_entry_above}
+use Rattle.language.specs.Expression.{Expr}
+use Rattle.language.specs.Above.{IsLeastAbove}
+use Rattle.language.specs.Held.{Held}
+use Rattle.language.proofs.Ranges.{entry_above, entry_holds, no_entry_above}
 use Rattle.plain_language.proofs.state.PlainState.thread_after.Goals as goal
 
 pub returns-in_err-t-clause-least : goal.returns-in_err-t-clause-least

@@ -1,8 +1,8 @@
 use Rattle.std.proofs.Common.{length, ◌<◌, is_some, ◌∙◌, ap, sym}
 use Rattle.std.proofs.lemmas.Bool.{false≢true}
-use Rattle.plain_language.specs.Held.{Held}
-use Rattle.plain_language.specs.Plain.{standing}
-use Rattle.plain_language.proofs.Maps.{get_looked, nothing_there, not_below}
+use Rattle.language.specs.Held.{Held}
+use Rattle.language.specs.Plain.{standing}
+use Rattle.language.proofs.Maps.{get_looked, nothing_there, not_below}
 use Rattle.plain_language.proofs.state.PlainState.threads.Goals as goal
 
 pub returns-in-Some-clause-greatest : goal.returns-in-Some-clause-greatest

@@ -1,6 +1,6 @@
 use Rattle.std.proofs.Common.{◌∙◌, ap, sym, is_some}
 use Rattle.std.specs.FinMap as map
-use Rattle.plain_language.proofs.Maps.{get_looked}
+use Rattle.language.proofs.Maps.{get_looked}
 use Rattle.schedule_drill.specs.Out.{Out}
 use Rattle.schedule_drill.proofs.leases.Leases.has.Goals as goal
 

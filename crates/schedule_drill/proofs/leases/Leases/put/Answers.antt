@@ -1,7 +1,7 @@
 use Rattle.std.proofs.Common.{◌≡◌, Option, Some, None, sym, ap, subst, ◌∙◌}
 use Rattle.std.specs.Prelude.{OnOk, Result}
 use Rattle.std.specs.FinMap as map
-use Rattle.plain_language.proofs.Maps.{entered_map, get_looked}
+use Rattle.language.proofs.Maps.{entered_map, get_looked}
 use Rattle.schedule_drill.specs.declared.held.Held.{Held}
 use Rattle.schedule_drill.specs.Out.{Out}
 use Rattle.schedule_drill.proofs.leases.Leases.put.Goals as goal

@@ -4,8 +4,8 @@ use Rattle.std.specs.Arc.{arc_value}
 use Rattle.stab_base.specs.declared.fault.Fault.TheVariants.{WrongKind}
 use Rattle.stab_code.specs.Program.{ProgramParts}
 use Rattle.stab_code.specs.Valid.{IsValid}
-use Rattle.plain_language.specs.Plain.{PlainState, IsRun, look_in, standing}
-use Rattle.plain_language.specs.Table.{fault}
+use Rattle.language.specs.Plain.{PlainState, IsRun, look_in, standing}
+use Rattle.language.specs.Table.{fault}
 use Rattle.stab_types.proofs.Runs.{never_wrong_here}
 use Rattle.stab_types.proofs.typed.Typed.never_wrong.Goals as goal
 

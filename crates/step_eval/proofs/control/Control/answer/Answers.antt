@@ -1,8 +1,8 @@
 -- The value stands where the act stood.
 use Rattle.std.proofs.Common.{IsSome, ap, sym, subst, ◌∙◌}
-use Rattle.plain_language.specs.Expression.{value}
-use Rattle.plain_language.specs.Look.{answered}
-use Rattle.plain_language.specs.Redex.{cap, within}
+use Rattle.language.specs.Expression.{value}
+use Rattle.language.specs.Look.{answered}
+use Rattle.language.specs.Redex.{cap, within}
 use Rattle.step_eval.specs.Asked.{act_next}
 use Rattle.step_eval.specs.ControlView.{ControlView, Fits, expr_of}
 use Rattle.step_eval.specs.Seen.{seen_at}

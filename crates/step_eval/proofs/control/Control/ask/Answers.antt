@@ -1,8 +1,8 @@
 -- What is next is told by what is looked at.
 use Rattle.std.specs.Arc.{arc_value}
 use Rattle.std.proofs.Common.{ap, sym, ◌∙◌, subst}
-use Rattle.plain_language.specs.Look.{look}
-use Rattle.plain_language.specs.Program.{body}
+use Rattle.language.specs.Look.{look}
+use Rattle.language.specs.Program.{body}
 use Rattle.step_eval.specs.declared.ask.Ask.{Ask}
 use Rattle.step_eval.specs.declared.machine.Focus.TheVariants as focus
 use Rattle.step_eval.specs.Asked.{IsAsked, operands_of}

@@ -4,9 +4,9 @@ use Rattle.std.specs.Prelude.{option_and_then}
 use Rattle.stab_base.specs.Datum.{Datum}
 use Rattle.stab_code.specs.declared.head.Head.TheVariants.{Two}
 use Rattle.stab_code.specs.declared.head.Op.TheVariants.{And}
-use Rattle.plain_language.specs.Expression.{value}
-use Rattle.plain_language.specs.Operands.{one_of, truth_of}
-use Rattle.plain_language.specs.Outcome.{Outcome}
+use Rattle.language.specs.Expression.{value}
+use Rattle.language.specs.Operands.{one_of, truth_of}
+use Rattle.language.specs.Outcome.{Outcome}
 use Rattle.step_eval.specs.Arrival.{Arrives, turned}
 use Rattle.step_eval.specs.ControlView.{view_of}
 use Rattle.step_eval.specs.Meaning.{node_at, within_forms}

@@ -2,8 +2,8 @@
 use Rattle.std.proofs.Common.{◌≡◌, length, slice_get, true, false, Some, OnOk, refl, ap, sym, ◌∙◌, subst, arith}
 use Rattle.std.specs.Prelude.{option_and_then}
 use Rattle.stab_code.specs.declared.head.Head.TheVariants.{If}
-use Rattle.plain_language.specs.Operands.{one_of, truth_of}
-use Rattle.plain_language.specs.Outcome.{Outcome}
+use Rattle.language.specs.Operands.{one_of, truth_of}
+use Rattle.language.specs.Outcome.{Outcome}
 use Rattle.step_eval.specs.Arrival.{Arrives, turned}
 use Rattle.step_eval.specs.ControlView.{view_of}
 use Rattle.step_eval.specs.Meaning.{node_at}

@@ -1,7 +1,7 @@
 -- The forms round the redex are the frames.
 use Rattle.std.proofs.Common.{◌≡◌, ◌<◌, ◌≤◌, refl, sym, ◌∙◌, arith}
 use Rattle.stab_base.specs.declared.fault.Fault.TheVariants.{TooDeep}
-use Rattle.plain_language.specs.Redex.{spine}
+use Rattle.language.specs.Redex.{spine}
 use Rattle.step_eval.specs.ControlView.{view_of}
 use Rattle.step_eval.proofs.Arriving.{arrives-by, arrives-fault}
 use Rattle.step_eval.proofs.Redexes.{cap-over, cap-within, spine_is}

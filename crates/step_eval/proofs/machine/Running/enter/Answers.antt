@@ -2,11 +2,11 @@
 use Rattle.std.proofs.Common.{◌≡◌, ◌∷◌, List, is_some, ap, sym, ◌∙◌, subst}
 use Rattle.std.specs.Arc.{arc_value}
 use Rattle.stab_base.specs.Datum.{Datum}
-use Rattle.plain_language.specs.declared.head.Head.TheVariants.{Section}
-use Rattle.plain_language.specs.Expression.{form, none, part}
-use Rattle.plain_language.specs.Outcome.{called}
-use Rattle.plain_language.specs.Program.{body}
-use Rattle.plain_language.specs.Redex.{cap, within}
+use Rattle.language.specs.declared.head.Head.TheVariants.{Section}
+use Rattle.language.specs.Expression.{form, none, part}
+use Rattle.language.specs.Outcome.{called}
+use Rattle.language.specs.Program.{body}
+use Rattle.language.specs.Redex.{cap, within}
 use Rattle.step_eval.specs.Entries.{IsBodyEntry}
 use Rattle.step_eval.specs.FrameView.{FrameView}
 use Rattle.step_eval.specs.Sections.{section_frame}

@@ -1,6 +1,6 @@
 -- What is looked at is that expression.
 use Rattle.std.proofs.Common.{OnOk, sym, ◌∙◌, subst}
-use Rattle.plain_language.specs.Expression.{Expr}
+use Rattle.language.specs.Expression.{Expr}
 use Rattle.step_eval.specs.Arrival.{Arrives}
 use Rattle.step_eval.specs.ControlView.{view_of}
 use Rattle.step_eval.specs.declared.machine.Focus.TheVariants as focus

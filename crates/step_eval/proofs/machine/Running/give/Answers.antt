@@ -1,7 +1,7 @@
 -- A value comes to the innermost frame.
 use Rattle.std.proofs.Common.{◌≡◌, ◌∷◌, ◌++◌, refl, ap, sym, ◌∙◌}
 use Rattle.std.specs.Prelude.{option_map, option_to_list}
-use Rattle.plain_language.specs.Expression.{value}
+use Rattle.language.specs.Expression.{value}
 use Rattle.step_eval.specs.ControlView.{view_of}
 use Rattle.step_eval.specs.FrameView.{FrameView}
 use Rattle.step_eval.specs.Meaning.{form_at, within_forms}

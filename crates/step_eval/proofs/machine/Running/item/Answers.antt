@@ -4,9 +4,9 @@ use Rattle.std.specs.Arc.{arc_value}
 use Rattle.std.proofs.lemmas.Option.{slice_get_within}
 use Rattle.stab_base.specs.Datum.{Datum}
 use Rattle.stab_code.specs.Program.{tree_at}
-use Rattle.plain_language.specs.Expression.{put}
-use Rattle.plain_language.specs.Outcome.{Outcome}
-use Rattle.plain_language.specs.Program.{expr_of}
+use Rattle.language.specs.Expression.{put}
+use Rattle.language.specs.Outcome.{Outcome}
+use Rattle.language.specs.Program.{expr_of}
 use Rattle.step_eval.specs.Arrival.{Arrives, turned}
 use Rattle.step_eval.specs.ControlView.{view_of}
 use Rattle.step_eval.specs.FrameView.{FrameView}

@@ -1,8 +1,8 @@
 use Rattle.std.proofs.Common.{[], refl, sym, ap, subst, ◌∙◌, arith}
 use Rattle.std.specs.Arc.{arc_value}
-use Rattle.plain_language.specs.Held.{Held, held}
-use Rattle.plain_language.specs.Plain.{start}
-use Rattle.plain_language.specs.Standing.{StandsFor, nothing}
+use Rattle.language.specs.Held.{Held, held}
+use Rattle.language.specs.Plain.{start}
+use Rattle.language.specs.Standing.{StandsFor, nothing}
 use Rattle.journal_laws.proofs.Runs.{start_known}
 use Rattle.journal_laws.specs.Known.{IsExprIn, IsKnown}
 use Rattle.stab_journal.specs.Since.{AreBelow}

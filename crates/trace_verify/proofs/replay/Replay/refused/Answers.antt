@@ -2,7 +2,7 @@ use Rattle.std.proofs.Common.{◌+◌, length, of_z, w64, sym, ap, subst, ◌∙
 use Rattle.std.specs.Prelude.{IsSome}
 use Rattle.stab_journal.specs.declared.event.What.TheVariants.{Step}
 use Rattle.stab_journal.specs.Script.{script_at}
-use Rattle.plain_language.specs.Plain.{plain_step}
+use Rattle.language.specs.Plain.{plain_step}
 use Rattle.trace_verify.specs.declared.verdict.Why.TheVariants.{Revocable, WrongAttempt, WrongProbe}
 use Rattle.trace_verify.specs.Replayed.{IsWrongFor}
 use Rattle.trace_verify.specs.Verdict.{revocable, wrong_attempt, wrong_probe}

@@ -5,7 +5,7 @@ use Rattle.stab_journal.specs.declared.event.Label.{Label}
 use Rattle.stab_journal.specs.declared.event.Label.TheVariants.{Probe}
 use Rattle.stab_journal.specs.declared.event.What.TheVariants.{Step}
 use Rattle.stab_journal.specs.Script.{probed_by}
-use Rattle.plain_language.specs.Plain.{plain_step, start}
+use Rattle.language.specs.Plain.{plain_step, start}
 use Rattle.trace_verify.specs.Verdict.{no_step}
 use Rattle.trace_verify.proofs.Following.{step_follows}
 use Rattle.trace_verify.proofs.replay.Replay.step.Goals as goal

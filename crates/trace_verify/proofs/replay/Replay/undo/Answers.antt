@@ -3,8 +3,8 @@ use Rattle.std.specs.List.{list_any}
 use Rattle.stab_journal.specs.declared.event.Numbered.{Numbered}
 use Rattle.stab_journal.specs.Label.{actors}
 use Rattle.stab_journal.specs.Names.{has}
-use Rattle.plain_language.specs.Plain.{start}
-use Rattle.plain_language.specs.Standing.{MayUndo}
+use Rattle.language.specs.Plain.{start}
+use Rattle.language.specs.Standing.{MayUndo}
 use Rattle.trace_verify.specs.Generations.{times}
 use Rattle.trace_verify.specs.Parts.{run_in}
 use Rattle.trace_verify.specs.Verdict.{not_revocable}

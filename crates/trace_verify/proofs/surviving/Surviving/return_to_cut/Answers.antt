@@ -1,7 +1,7 @@
 use Rattle.std.proofs.Common.{length, drop, refl, sym, ap, subst, ◌∙◌}
 use Rattle.std.specs.Prelude.{IsSome, Some}
-use Rattle.plain_language.specs.Held.{Held}
-use Rattle.plain_language.specs.Since.{end_from}
+use Rattle.language.specs.Held.{Held}
+use Rattle.language.specs.Since.{end_from}
 use Rattle.trace_verify.proofs.Leading.{ahead_leads, all_based}
 use Rattle.trace_verify.specs.Surviving.{LeadTo}
 use Rattle.trace_verify.proofs.surviving.Surviving.return_to_cut.Goals as goal

@@ -1,7 +1,7 @@
 use Rattle.std.proofs.Common.{◌++◌, refl, sym, ap, subst, ◌∙◌}
 use Rattle.std.specs.Prelude.{IsSome, Some}
-use Rattle.plain_language.specs.Plain.{effect_of}
-use Rattle.plain_language.specs.Since.{end_from}
+use Rattle.language.specs.Plain.{effect_of}
+use Rattle.language.specs.Since.{end_from}
 use Rattle.trace_verify.specs.declared.parts.Parts.{Parts}
 use Rattle.trace_verify.specs.Parts.{IsParted, run_in}
 use Rattle.trace_verify.specs.Surviving.{LeadTo, LeadsOn}
