@@ -9,7 +9,7 @@ use stab_base::NoMemory;
 use std::alloc::Global;
 
 /// What may still be owed.
-#[derive(Clone, Copy, PartialEq, Eq, Debug)]
+#[derive(Clone, Copy, PartialEq, Eq)]
 pub(crate) enum Owed {
     Expression,
     Value,
@@ -17,14 +17,14 @@ pub(crate) enum Owed {
 }
 
 /// So many of them.
-#[derive(Clone, Copy, PartialEq, Eq, Debug)]
+#[derive(Clone, Copy, PartialEq, Eq)]
 pub(crate) struct Owes {
     pub what: Owed,
     pub count: u32,
 }
 
 /// What begins with a word.
-#[derive(Clone, Copy, PartialEq, Eq, Debug)]
+#[derive(Clone, Copy, PartialEq, Eq)]
 pub(crate) enum Begun {
     /// A value without parts.
     Value,

@@ -78,7 +78,7 @@ impl Slots {
 
 /// What a form is, apart from its parts: `Block` names the slots of its items, whose forms are its first parts,
 /// and its last part is the form after them. A `u32` is a slot.
-#[derive(Debug, Drop)]
+#[derive(Drop)]
 pub enum Head {
     Unit,
     Truth(bool),

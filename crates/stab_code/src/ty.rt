@@ -7,7 +7,7 @@ use std::alloc::Global;
 use std::marker::Model;
 
 /// What a written type is made of. Contracts see it as a `Written`, which has no addresses.
-#[derive(Debug, Drop)]
+#[derive(Drop)]
 pub enum TyForm {
     Unit,
     Bool,
@@ -19,7 +19,7 @@ pub enum TyForm {
 }
 
 /// A type as a program writes it. Contracts see it as a `Written`.
-#[derive(Debug, Drop)]
+#[derive(Drop)]
 pub struct Ty {
     form: Box<TyForm>,
 }

@@ -80,14 +80,14 @@ pub enum What {
 }
 
 /// An entry of the journal, with the worker that made it, 1 to 64. Threads, channels and references in it are 1 to 4,000,000,000.
-#[derive(Clone, Copy, PartialEq, Eq, Debug)]
+#[derive(Clone, Copy, PartialEq, Eq)]
 pub struct Event {
     pub worker: u32,
     pub what: What,
 }
 
 /// A step with its number in the journal.
-#[derive(Clone, Copy, PartialEq, Eq, Debug)]
+#[derive(Clone, Copy, PartialEq, Eq)]
 pub struct Numbered {
     pub seq: Seq,
     pub label: Label,

@@ -5,7 +5,7 @@ use crate::kind::Kind;
 use std::alloc::{AllocError, AllocFailed};
 
 /// A token of a text: the bytes from `start` to `end`, both counted from 0.
-#[derive(Clone, Copy, Debug, PartialEq, Eq)]
+#[derive(Clone, Copy, PartialEq, Eq)]
 pub struct Token {
     pub kind: Kind,
     pub start: u32,

@@ -1,13 +1,16 @@
 //! What a token does after an expression. Rare cases aren't inlined, so that the common path keeps a small stack
 //! frame.
-ghost use Rattle.std.specs.Prelude.{◌≡◌, ◌++◌, ◌∷◌, [], Option, Some, IfOk};
+ghost use Rattle.std.specs.Prelude.{◌≡◌, ◌++◌, ◌∷◌, [], Option, Some, IfOk, IfSome, IsNone};
+ghost use Rattle.stab_parse.specs.declared.reader.Reader.{Reader as ReaderParts};
+ghost use Rattle.stab_parse.specs.Closing.{frame_of};
 ghost use Rattle.stab_parse.specs.Frames.{top_of};
-ghost use Rattle.stab_parse.specs.Moves.{Goes, behind_top, block_done, block_in, call_done, close_brace, close_paren, closes, comma, did, end_items, ends, first_of_call, head_of_call, in_top, item, open_brace, operator, outcome, owed_in, popped, pushed, relation, relation_top, semicolon, settled, whole_and, whole_expr, whole_sum};
+ghost use Rattle.stab_parse.specs.Seen.{Seen as SeenParts};
+ghost use Rattle.stab_parse.specs.Moves.{Goes, Refused, behind_top, block_done, block_in, call_done, close_brace, close_paren, closes, comma, did, end_items, ends, first_of_call, head_of_call, in_top, item, open_brace, operator, outcome, owed_in, popped, pushed, relation, relation_top, semicolon, settled, settled_outcome, whole_and, whole_expr, whole_sum};
 
 use crate::frame::{BlockPlace, Callee, Frame, Level, Phase, Seen, SignatureParts};
 use crate::parser::{Admission, Parser};
 use crate::reader::{Reader, deepest, is_operator, one_more, only, takes_right};
-use crate::symbol::{Span, Symbol};
+use crate::symbol::{ActWord, Span, Symbol};
 use crate::tree::{Function, Head, ItemNames};
 use stab_code::Op;
 use std::alloc::{AllocError, Global};
@@ -30,6 +33,30 @@ fn call_place(callee: Callee) -> u32
     }
 }
 
+/// What a `)` ends.
+#[derive(Clone, Copy)]
+pub(crate) enum Closing {
+    Group(u32),
+    Second(u32, u8),
+    Args(Callee, u8, usize),
+    One(ActWord, u32),
+    TwoRight(ActWord, u32, u8),
+}
+
+fn closing_of(top: Option<Frame>) -> Option<Closing>
+    ensures some { IfSome result (λ closing. top ≡ Some (frame_of closing)) }
+    ensures none { IsNone result → (seen : SeenParts) (r : ReaderParts) → in_top close_paren top seen r ≡ outcome Refused r }
+{
+    match top? {
+        Frame::Group(at) => Some(Closing::Group(at)),
+        Frame::Second(at, left) => Some(Closing::Second(at, left)),
+        Frame::Args(callee, depth, before) => Some(Closing::Args(callee, depth, before)),
+        Frame::One(word, at) => Some(Closing::One(word, at)),
+        Frame::TwoRight(word, at, left) => Some(Closing::TwoRight(word, at, left)),
+        _ => None,
+    }
+}
+
 impl Reader {
     /// A call is complete.
     pub(crate) fn call(
@@ -41,6 +68,24 @@ impl Reader {
         ensures ok { IfOk result (λ seen. settled seen self.new ≡ call_done callee arguments depth self.old) }
     {
         self.complete(call_head(callee), arguments, call_place(callee), depth)
+    }
+
+    fn closed(&mut self, closing: Closing, seen: Seen) -> Result<Seen, AllocError>
+        ensures ok { IfOk result (λ whole. settled_outcome (settled whole self.new) ≡ close_paren (frame_of closing) seen self.old) }
+    {
+        match closing {
+            Closing::Group(at) => self.settle(Seen::new(at, seen.depth())),
+            Closing::Second(at, left) => {
+                self.complete(Head::Pair, 2, at, deepest(left, seen.depth()))
+            }
+            Closing::Args(callee, depth, before) => {
+                self.call(callee, one_more(before), depth.max(seen.depth()))
+            }
+            Closing::One(word, at) => self.complete(Head::Act(word), 1, at, only(seen.depth())),
+            Closing::TwoRight(word, at, left) => {
+                self.complete(Head::Act(word), 2, at, deepest(left, seen.depth()))
+            }
+        }
     }
 
     fn whole_sum(&mut self, seen: Seen) -> Result<Seen, AllocError>
@@ -82,26 +127,13 @@ impl Parser {
         ensures ok { IfOk result (λ admission. did admission self.new
             ≡ in_top close_paren (top_of self.old.reader.frames) seen (popped self.old.reader)) }
     {
-        let whole = match self.reader.frames.pop() {
-            Some(Frame::Group(at)) => self.reader.settle(Seen::new(at, seen.depth()))?,
-            Some(Frame::Second(at, left)) => {
-                self.reader
-                    .complete(Head::Pair, 2, at, deepest(left, seen.depth()))?
+        match closing_of(self.reader.frames.pop()) {
+            Some(closing) => {
+                let whole = self.reader.closed(closing, seen)?;
+                Ok(self.goes(Phase::Has(whole)))
             }
-            Some(Frame::Args(callee, depth, before)) => {
-                self.reader
-                    .call(callee, one_more(before), depth.max(seen.depth()))?
-            }
-            Some(Frame::One(word, at)) => self
-                .reader
-                .complete(Head::Act(word), 1, at, only(seen.depth()))?,
-            Some(Frame::TwoRight(word, at, left)) => {
-                self.reader
-                    .complete(Head::Act(word), 2, at, deepest(left, seen.depth()))?
-            }
-            _ => return Ok(Admission::Refused),
-        };
-        Ok(self.goes(Phase::Has(whole)))
+            None => Ok(Admission::Refused),
+        }
     }
 
     #[inline(never)]
@@ -358,7 +390,6 @@ impl Parser {
     }
 
     /// A token after a whole expression.
-    #[tactic(auto, using(crate::proofs::Settling::stands_alone))]
     fn closes(
         &mut self,
         alloc: Global,

@@ -137,7 +137,7 @@ fn has_steps_of_a_request<R: AllocGlobal + Abort>(rt: &R, book: &Book) -> Result
             worker: 1,
             what: What::Step(label),
         };
-        assert_eq!(rt; book.history().get(Seq(q)), Some(event));
+        assert!(rt; book.history().get(Seq(q)) == Some(event));
     }
     Ok(())
 }

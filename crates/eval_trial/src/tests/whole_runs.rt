@@ -50,7 +50,7 @@ fn expect_end<R: AllocGlobal + Abort>(
         assert_eq!(rt;
             state.play(alloc, step.seq, &step.label),
             Ok(()),
-            "{step:?}"
+            "{:?}", step.seq
         );
     }
     let end = end_of(alloc, &state)?;

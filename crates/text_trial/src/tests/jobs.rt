@@ -47,11 +47,16 @@ fn tells_programs_apart(rt: HostRuntime) -> Result<(), Fail> {
         (CALL, SUM, false),
     ];
     for (left, right, same) in table {
-        let left = program_of(&rt, rt.alloc(), left)?;
-        let right = program_of(&rt, rt.alloc(), right)?;
-        assert_eq!(rt; left.same(&right), same);
+        assert!(rt; are_same(&rt, rt.alloc(), left, right)? == same);
     }
     Ok(())
+}
+
+// Whether two texts are of the same program.
+fn are_same(rt: &impl Abort, alloc: Global, left: &str, right: &str) -> Result<bool, Fail> {
+    let left = program_of(rt, alloc, left)?;
+    let right = program_of(rt, alloc, right)?;
+    Ok(left.same(&right))
 }
 
 fn job_of(

@@ -179,7 +179,7 @@ fn play_all(
 ) -> Result<(), Fail> {
     for step in &run_of(alloc, lines)? {
         let made = state.play(alloc, step.seq, &step.label);
-        assert_eq!(rt; made, Ok(()), "{step:?}");
+        assert_eq!(rt; made, Ok(()), "{:?}", step.seq);
     }
     Ok(())
 }

@@ -32,25 +32,8 @@ invariant_of-plan c =
       plain = c.in_ok-plain_from.ensures.numbers;
     }
 
-pub functions-requires-clause-texts : goal.functions-requires-clause-texts
-functions-requires-clause-texts c =
-    subst (HaveTexts c.args.bytes.now) (sym (c.all-forms.ensures ∙ c.requires.is_tree.1)) (texts-read c.args.bytes.now c.args.tree.now c.requires)
+pub planned-requires-clause-functions : goal.planned-requires-clause-functions
+planned-requires-clause-functions c = λ read. sym (c.all-functions.ensures ∙ read.is_tree.0)
 
-pub of-nodes-requires : goal.of-nodes-requires
-of-nodes-requires c =
-    let forms_is = c.all-forms.ensures ∙ c.requires.is_tree.1 in
-    let fs_is = c.all-functions.ensures ∙ c.requires.is_tree.0 in
-    let are = c.in_ok-made.ensures.ok c.requires.syntax (sym fs_is) (sym forms_is) in
-    heads-and-lists c.all-forms.result.now c.functions.new.progress c.in_ok-parts.parts c.in_ok-parts.ensures.lists are.whole
-    (ap length are.nodes ∙ length-nodes_of_all 0 (in_order are.defined.trees) ∙ are.size ∙ ap length (sym forms_is))
-
-pub new-requires : goal.new-requires
-new-requires c =
-    let forms_is = c.all-forms.ensures ∙ c.requires.is_tree.1 in
-    let fs_is = c.all-functions.ensures ∙ c.requires.is_tree.0 in
-    let bytes = c.args.bytes.now in
-    let are = c.in_ok-made.ensures.ok c.requires.syntax (sym fs_is) (sym forms_is) in
-    let scoped = program-made bytes c.requires.syntax c.all-functions.result.now (sym fs_is) c.in_ok-names.ensures.none c.all-forms.result.now c.in_ok-main.main.0 c.functions.new.progress c.in_ok-made.made.items c.in_ok-main.ensures.main are in
-    subst (λ texts. IsValid (program_of c.in_ok-made.made.items c.of-nodes.result texts c.in_ok-main.main)) (sym c.in_ok-texts.ensures.texts)
-    (subst (λ nodes. IsValid (program_of c.in_ok-made.made.items nodes (texts_of c.functions.new.progress) c.in_ok-main.main)) (ap (nodes_in c.functions.new.progress.heads.items) (sym c.in_ok-parts.ensures.lists) ∙ sym c.of-nodes.ensures)
-    (valid-read bytes c.args.tree.now c.requires _ scoped))
+pub planned-requires-clause-forms : goal.planned-requires-clause-forms
+planned-requires-clause-forms c = λ read. sym (c.all-forms.ensures ∙ read.is_tree.1)
