@@ -15,6 +15,7 @@ ghost use Rattle.stab_top.specs.declared.report.Role.TheVariants.{Image as Image
 use crate::loading::load;
 use crate::report::{Report, Role, Status};
 use image_commands::{Shown, shown_by};
+use sink_lines::put_lines;
 use stab_files::{Files, Sink, SinkFail};
 use stab_image::{Image, ImageFault, read_image};
 use stab_words::ResumeArgs;
@@ -107,7 +108,7 @@ fn put_shown<K: Sink>(status: Status, shown: Shown, sink: &mut K) -> Report
     ensures told { IsPutAs status shown.text.items (outcome_of K.told K.faults sink.old sink.new result) }
 {
     let Shown { resumed, text, .. } = shown;
-    match sink.put(&text) {
+    match put_lines(sink, &text) {
         Ok(()) => Report::gone_on(status, resumed),
         Err(SinkFail::Failed) => Report::gone_on(Status::SinkFault, resumed),
     }

@@ -17,6 +17,7 @@ use crate::loading::load;
 use crate::reading::{program_of, read_probes_file, read_trace_file};
 use crate::report::{Report, Role, Status};
 use image_commands::{Saved, save};
+use sink_lines::put_lines;
 use stab_code::Program;
 use stab_files::{Files, Sink, SinkFail};
 use stab_journal::History;
@@ -146,7 +147,7 @@ fn save_cut<K: Sink>(
 fn put_image_text<K: Sink>(bytes: &[u8], sink: &mut K) -> Report
     ensures { IsPut result.status bytes.now (outcome_of K.told K.faults sink.old sink.new result) }
 {
-    match sink.put(bytes) {
+    match put_lines(sink, bytes) {
         Ok(()) => Report::bare(Status::Done),
         Err(SinkFail::Failed) => Report::bare(Status::SinkFault),
     }
