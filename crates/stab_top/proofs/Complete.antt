@@ -96,18 +96,18 @@ module _ {Content Fault : Type 0} (form : Form Content Fault) (c : Call) (name b
   read_refused none (inr (loaded, loads, inr says)) = inl says.0
 
   -- `Said` is true of what is held; or the call failed
-  said_of : ((fault : Fault) → form.HasFault bytes fault → ⊥) → (faults : ℕ) (Said : Content → Type 0) → ReadSays form c name faults Said
+  pub said_of : ((fault : Fault) → form.HasFault bytes fault → ⊥) → (faults : ℕ) (Said : Content → Type 0) → ReadSays form c name faults Said
       → Failed (status_of c) c ⊎ ((content : Content) × form.IsOf bytes content × Said content)
   said_of none faults Said (inl (refused, rests)) = inl (read_refused none refused)
   said_of none faults Said (inr (content, holds, said)) =
       inr (content, subst (λ b. form.IsOf b content) (loaded_is form.role c name bytes holds.bytes faults is holds.loads) holds.is, said)
 
-  failed_refused : (fault : Fault) → Failed (status_of c) c → IsRefused form c fault ⊎ CountedFault c
+  pub failed_refused : (fault : Fault) → Failed (status_of c) c → IsRefused form c fault ⊎ CountedFault c
   failed_refused fault (inl none) = inl (inr none)
   failed_refused fault (inr counted) = inr counted.1
 
   -- what is held has a fault, and was refused for it
-  fault_refused : (fault : Fault) → ((content : Content) → form.IsOf bytes content → ⊥) → ((other : Fault) → form.HasFault bytes other → other ≡ fault) → (faults : ℕ) (Said : Content → Type 0)
+  pub fault_refused : (fault : Fault) → ((content : Content) → form.IsOf bytes content → ⊥) → ((other : Fault) → form.HasFault bytes other → other ≡ fault) → (faults : ℕ) (Said : Content → Type 0)
       → ReadSays form c name faults Said → IsRefused form c fault ⊎ CountedFault c
   fault_refused fault none one faults Said (inl (inl (says, blames), rests)) = failed_refused fault (load_refused form.role (status_of c) c name bytes is says)
   fault_refused fault none one faults Said (inl (inr (loaded, loads, inl have), rests)) =
@@ -119,13 +119,13 @@ module _ {Content Fault : Type 0} (form : Form Content Fault) (c : Call) (name b
 
 -- ---- the three forms
 
-ok_is : {A B : Type 0} (a b : A) → ◌≡◌ {A = Result A B} (Ok a) (Ok b) → a ≡ b
+pub ok_is : {A B : Type 0} (a b : A) → ◌≡◌ {A = Result A B} (Ok a) (Ok b) → a ≡ b
 ok_is a b h = cc
 
-err_is : {A B : Type 0} (a b : B) → ◌≡◌ {A = Result A B} (Err a) (Err b) → a ≡ b
+pub err_is : {A B : Type 0} (a b : B) → ◌≡◌ {A = Result A B} (Err a) (Err b) → a ≡ b
 err_is a b h = cc
 
-not_ok : {A B : Type 0} (a : A) (b : B) → ◌≡◌ {A = Result A B} (Ok a) (Err b) → ⊥
+pub not_ok : {A B : Type 0} (a : A) (b : B) → ◌≡◌ {A = Result A B} (Ok a) (Err b) → ⊥
 not_ok a b h = cc
 
 module _ (c : Call) (name bytes : List ℕ) where
@@ -327,7 +327,7 @@ of_script : (c : Call) (name : Option (List ℕ)) (script : List ℤ) (Said : Li
 of_script c None script Said is says = inr (subst Said (sym is) says)
 of_script c (Some name) script Said is says = script_said c name is.0 script is.1 is.2 c.files.faults Said says
 
-behind_program : (c : Call) (named : Option (List ℕ)) (script : List ℤ) (Said : List ℤ → Type 0) → IsScriptFor c named script → Failed (status_of c) c ⊎ ScriptSays c named Said → Failed (status_of c) c ⊎ Said script
+pub behind_program : (c : Call) (named : Option (List ℕ)) (script : List ℤ) (Said : List ℤ → Type 0) → IsScriptFor c named script → Failed (status_of c) c ⊎ ScriptSays c named Said → Failed (status_of c) c ⊎ Said script
 behind_program c named script Said is (inl failed) = inl failed
 behind_program c named script Said is (inr says) = of_script c named script Said is says
 
@@ -348,7 +348,7 @@ pub bad_trace_refused : (words : List (List ℕ)) (c : Call) (args : VerifyArgs)
 bad_trace_refused words c args text bytes program script fault says is held of for_script trace has =
     trace_refused c program script bytes args.trace fault trace has (trace_said words c args text program script says is held of for_script)
 
-probes_refused : (c : Call) (named : Option (List ℕ)) (Said : List ℤ → Type 0) (name bytes : List ℕ) (fault : ProbesFault) → named ≡ Some name → IsHeld roles.Probes c name bytes → probes.reading bytes ≡ Err fault
+pub probes_refused : (c : Call) (named : Option (List ℕ)) (Said : List ℤ → Type 0) (name bytes : List ℕ) (fault : ProbesFault) → named ≡ Some name → IsHeld roles.Probes c name bytes → probes.reading bytes ≡ Err fault
     → Failed (status_of c) c ⊎ ScriptSays c named Said → IsRefused probes_form c fault ⊎ CountedFault c
 probes_refused c named Said name bytes fault is held has (inl failed) = failed_refused probes_form c name bytes held fault failed
 probes_refused c named Said name bytes fault is held has (inr says) =

@@ -19,3 +19,5 @@ pub mod TypesFound
 pub mod SourceRead
 pub mod ImageRead
 pub mod GoneOn
+pub mod SavedCuts
+pub mod ReadImages

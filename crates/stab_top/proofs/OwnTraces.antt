@@ -46,9 +46,12 @@ kept_are : (struck : FinSet nat_cmp) (q : ℕ) (es : List Event) → kept_of q (
 kept_are struck q [] = refl
 kept_are struck q (e ∷ es) = ap (λ ns. cond (contains struck q) [] (step_at q e.what) ++ ns) (kept_are struck (suc q) es)
 
-same_run : (p : ProgramParts) (script : List ℤ) (a b : Journal) → entries a ≡ entries b → IsOfRun p script b → IsOfRun p script a
+pub same_events : (a b : Journal) → entries a ≡ entries b → a.events ≡ b.events
+same_events a b same = sym (events_are a.struck 1 a.events) ∙ ap (map (λ (e : Entry). e.event)) same ∙ events_are b.struck 1 b.events
+
+pub same_run : (p : ProgramParts) (script : List ℤ) (a b : Journal) → entries a ≡ entries b → IsOfRun p script b → IsOfRun p script a
 same_run p script a b same x =
-    let events : a.events ≡ b.events = sym (events_are a.struck 1 a.events) ∙ ap (map (λ (e : Entry). e.event)) same ∙ events_are b.struck 1 b.events in
+    let events = same_events a b same in
     let left : survivors a ≡ survivors b = sym (kept_are a.struck 1 a.events) ∙ ap (kept_of 1) same ∙ kept_are b.struck 1 b.events in
     record {
       run = x.run;
@@ -57,7 +60,7 @@ same_run p script a b same x =
       follows = subst (FollowsScript script) (sym events) x.follows;
     }
 
-same_ok : (r : Result (List Entry) TraceFault) (xs ys : List Entry) → r ≡ Ok xs → r ≡ Ok ys → xs ≡ ys
+pub same_ok : (r : Result (List Entry) TraceFault) (xs ys : List Entry) → r ≡ Ok xs → r ≡ Ok ys → xs ≡ ys
 same_ok r xs ys e f = cc
 
 -- ---- a run

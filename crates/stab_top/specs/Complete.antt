@@ -1,7 +1,10 @@
 -- The terms of the laws of whole calls.
-use Rattle.std.specs.Prelude.{◌≡◌, ℕ, ℤ, ◌≤◌, List, [], ◌++◌, length, Option, Some, None, ◌⊎◌}
+use Rattle.std.specs.Prelude.{◌≡◌, ℕ, ℤ, ◌<◌, ◌≤◌, List, [], ◌++◌, length, Option, Some, None, ◌⊎◌}
 use Rattle.commit_book.specs.Book.{BookView}
 use Rattle.drill_text.specs.declared.script.Line.{Line}
+use Rattle.image_commands.specs.Cuts.{cuts_in}
+use Rattle.image_commands.specs.Saved.{IsImageOf}
+use Rattle.image_laws.specs.Image.{Image}
 use Rattle.lone_worker.specs.Desk.{desk_of}
 use Rattle.language.specs.Plain.{PlainState, end_of}
 use Rattle.schedule_drill.specs.declared.fault.DrillFault.{DrillFault}
@@ -15,18 +18,19 @@ use Rattle.stab_types.specs.Typed.{IsFirstUntyped, IsTyped}
 use Rattle.stab_words.specs.declared.request.Request.{Request}
 use Rattle.stab_words.specs.declared.request.Request.TheVariants.{Check, Drill, Run, Save, Trace as WritesTrace, Types, Verify, Watch}
 use Rattle.trace_verify.specs.declared.verdict.Verdict.{Verdict}
-use Rattle.trace_verify.specs.Verdict.{IsVerdict}
+use Rattle.trace_verify.specs.Verdict.{IsOfRun, IsVerdict}
 use Rattle.stab_top.specs.declared.report.Status.{Status}
-use Rattle.stab_top.specs.declared.report.Status.TheVariants.{BadScript, Done, FileFault, Held, NoMemory, SinkFault, Spent, Untyped}
+use Rattle.stab_top.specs.declared.report.Status.TheVariants.{BadScript, Done, FileFault, Held, NoCut, NoMemory, No, SinkFault, Spent, Untyped}
 use Rattle.stab_top.specs.declared.report.Role.{Role}
 use Rattle.stab_top.specs.declared.report.Role.TheVariants.{Program, Probes}
 use Rattle.stab_top.specs.Call.{Call, CountedFault, status_of}
 use Rattle.stab_top.specs.Drilling.{IsPlayedOut, IsStuck, drill_text}
 use Rattle.sink_lines.specs.Device.{Gains, GainsPrefix}
-use Rattle.stab_top.specs.Ending.{Refuses, shown_by, verdict_status}
+use Rattle.stab_top.specs.Ending.{Outcome, Refuses, shown_by, verdict_status}
 use Rattle.stab_top.specs.Loading.{max_bytes}
 use Rattle.stab_top.specs.Reading.{Blames, Form, probes_form, trace_form}
 use Rattle.stab_top.specs.Reason.{blames_script}
+use Rattle.stab_top.specs.Resuming.{HasWritten}
 
 -- the files say that they hold the bytes under the name, and the bytes are within the limit for their role
 pub record IsHeld (role : Role) (c : Call) (name bytes : List ℕ) : Type 0 where
@@ -130,3 +134,20 @@ StopsWith BadScript c fault = Refuses c.outcome (blames_script fault)
 StopsWith FileFault c fault = CountedFault c
 StopsWith NoMemory c fault = Unit {0}
 StopsWith _ c fault = ⊥
+
+-- the image at the n-th cut of the trace was written, or it has fewer cuts, or it isn't that of a run; or memory ran out
+abbrev pub IsSavedAs : Status → Call → List ℕ → ProgramParts → List ℤ → Journal → ℕ → Type 0
+IsSavedAs Done c text program script history n =
+    (bytes : List ℕ) × IsImageOf text program script history n bytes × Gains c.outcome.sink c.outcome.sink_after bytes
+IsSavedAs NoCut c text program script history n = IsOfRun program script history × (cuts_in history.events < n)
+IsSavedAs No c text program script history n = IsOfRun program script history → ⊥
+IsSavedAs NoMemory c text program script history n = Unit {0}
+IsSavedAs _ c text program script history n = ⊥
+
+-- a run went on from the image, came to its end or used up the fuel, and was written; or memory ran out
+abbrev pub HasResumed : Status → Image → ℕ → Outcome → Type 0
+HasResumed Done image fuel o = HasWritten Done image fuel o
+HasResumed Held image fuel o = HasWritten Held image fuel o
+HasResumed Spent image fuel o = HasWritten Spent image fuel o
+HasResumed NoMemory image fuel o = Unit {0}
+HasResumed _ image fuel o = ⊥

@@ -11,12 +11,14 @@ ghost use Rattle.language.specs.Plain.{PlainState};
 ghost use Rattle.language.specs.Standing.{event};
 ghost use Rattle.schedule_drill.specs.Drilled.{IsDrilled, IsOfScript, IsRefused as IsUnplayed};
 ghost use Rattle.schedule_drill.specs.declared.fault.DrillFault.{DrillFault};
+ghost use Rattle.image_laws.specs.Image.{Image};
 ghost use Rattle.stab_base.specs.declared.fault.Fault.TheVariants.{WrongKind};
 ghost use Rattle.stab_base.specs.declared.numbers.Seq.{Seq};
 ghost use Rattle.stab_base.specs.declared.numbers.ThreadId.{ThreadId};
 ghost use Rattle.probe_text.specs.declared.fault.ProbesFault.{ProbesFault};
 ghost use Rattle.stab_code.specs.JobParts.{JobParts, job_of};
 ghost use Rattle.stab_code.specs.Program.{ProgramParts};
+ghost use Rattle.stab_image.specs.declared.fault.ImageFault.{ImageFault};
 ghost use Rattle.stab_journal.specs.declared.event.Event.{Event};
 ghost use Rattle.stab_journal.specs.declared.event.Numbered.{Numbered};
 ghost use Rattle.stab_journal.specs.declared.event.What.TheVariants.{Undo};
@@ -32,19 +34,22 @@ ghost use Rattle.stab_words.specs.Asked.{asked};
 ghost use Rattle.stab_words.specs.declared.request.Request.{Request};
 ghost use Rattle.stab_words.specs.declared.request.DrillArgs.{DrillArgs};
 ghost use Rattle.stab_words.specs.declared.request.MillArgs.{MillArgs};
-ghost use Rattle.stab_words.specs.declared.request.Request.TheVariants.{Check, Drill, Mill, Run, Trace, Types, Verify, Watch};
+ghost use Rattle.stab_words.specs.declared.request.Request.TheVariants.{Check, Drill, Mill, Resume, Run, Save, Trace, Types, Verify, Watch};
+ghost use Rattle.stab_words.specs.declared.request.ResumeArgs.{ResumeArgs};
 ghost use Rattle.stab_words.specs.declared.request.RunArgs.{RunArgs as Args};
+ghost use Rattle.stab_words.specs.declared.request.SaveArgs.{SaveArgs};
 ghost use Rattle.stab_words.specs.declared.request.VerifyArgs.{VerifyArgs};
 ghost use Rattle.trace_text.specs.declared.fault.TraceFault.{TraceFault};
 ghost use Rattle.trace_text.specs.Text.{trace};
 ghost use Rattle.stab_top.specs.Call.{Call, CountedFault, Says, status_of};
-ghost use Rattle.stab_top.specs.Complete.{Checked, ComesTo, IsHeld, IsHeldFor, IsRefused, IsScriptFor, Ran, StopsWith, TypesFound, WasDrilled, WasJudged, WasStuck};
+ghost use Rattle.stab_top.specs.Complete.{Checked, ComesTo, HasResumed, IsHeld, IsHeldFor, IsRefused, IsSavedAs, IsScriptFor, Ran, StopsWith, TypesFound, WasDrilled, WasJudged, WasStuck};
 ghost use Rattle.stab_top.specs.Ending.{IsRunOf, shown_by};
 ghost use Rattle.stab_top.specs.Watching.{watched_by};
 ghost use Rattle.stab_words.specs.Command.{most_workers};
 ghost use Rattle.stab_top.specs.Headline.{AsksForRun, IsEnd, IsOfTheLanguage, ShowsRunOf};
 ghost use Rattle.stab_top.specs.Reading.{probes_form, program_form, trace_form};
-ghost use Rattle.stab_top.specs.declared.report.Role.TheVariants.{Probes as ProbesFile, Program as ProgramFile, Script as ScriptFile, Trace as TraceFile};
+ghost use Rattle.stab_top.specs.Resuming.{image_form};
+ghost use Rattle.stab_top.specs.declared.report.Role.TheVariants.{Image as ImageFile, Probes as ProbesFile, Program as ProgramFile, Script as ScriptFile, Trace as TraceFile};
 ghost use Rattle.stab_top.specs.declared.report.Status.TheVariants.{Done as DoneStatus, NoMemory as NoMemoryStatus};
 
 use scope_check::programs_are_valid;
@@ -169,7 +174,7 @@ pub fn scripts_are_drilled()
     ensures { (words : List (List ℕ)) (c : Call) (args : DrillArgs) (text bytes : List ℕ) (program : ProgramParts)
         (script : List ℤ) → Says words c → asked words ≡ Ok (Drill args) → IsHeld ProgramFile c args.file text →
         IsTextOf text program → IsScriptFor c args.probes script → IsHeld ScriptFile c args.script bytes →
-        WasDrilled c (job_of program script args.fuel args.quantum) (script_of bytes) ⊎ CountedFault c }
+        WasDrilled c (job_of program script args.fuel) (script_of bytes) ⊎ CountedFault c }
 {}
 
 /// If a line of such a drill script isn't an order, the script was refused, or memory ran out, or a fault was counted.
@@ -179,7 +184,7 @@ pub fn bad_lines_stop_drills()
         asked words ≡ Ok (Drill args) → IsHeld ProgramFile c args.file text → IsTextOf text program →
         IsScriptFor c args.probes script → IsHeld ScriptFile c args.script bytes →
         script_of bytes ≡ before ++ line ∷ behind → line.order ≡ None →
-        (WasStuck c (job_of program script args.fuel args.quantum) (script_of bytes) ⊎ (status_of c ≡ NoMemoryStatus)) ⊎ CountedFault c }
+        (WasStuck c (job_of program script args.fuel) (script_of bytes) ⊎ (status_of c ≡ NoMemoryStatus)) ⊎ CountedFault c }
 {}
 
 /// The job and the lines of such a script determine the result, unless memory runs out or a fault is counted. If a drill of the
@@ -190,13 +195,13 @@ pub fn drills_are_determined()
         (script : List ℤ) (lines : List ℕ) (book : BookView) → Says words c → asked words ≡ Ok (Drill args) →
         IsHeld ProgramFile c args.file text → IsTextOf text program → IsScriptFor c args.probes script →
         IsHeld ScriptFile c args.script bytes →
-        IsDrilled (job_of program script args.fuel args.quantum) (script_of bytes) lines book →
+        IsDrilled (job_of program script args.fuel) (script_of bytes) lines book →
         ComesTo (status_of c) c lines book }
     ensures stopped { (words : List (List ℕ)) (c : Call) (args : DrillArgs) (text bytes : List ℕ) (program : ProgramParts)
         (script : List ℤ) (fault : DrillFault) → Says words c → asked words ≡ Ok (Drill args) →
         IsHeld ProgramFile c args.file text → IsTextOf text program → IsScriptFor c args.probes script →
         IsHeld ScriptFile c args.script bytes → IsOfScript fault →
-        IsUnplayed (job_of program script args.fuel args.quantum) (script_of bytes) fault → StopsWith (status_of c) c fault }
+        IsUnplayed (job_of program script args.fuel) (script_of bytes) fault → StopsWith (status_of c) c fault }
 {}
 
 /// The job determines the run of one worker, as `run`, `trace` and `mill` make one: two such runs that are over have the same
@@ -245,6 +250,49 @@ pub fn bad_probes_stop_drills()
 pub fn bad_traces_are_refused()
     ensures { (words : List (List ℕ)) (c : Call) (args : VerifyArgs) (text bytes : List ℕ) (program : ProgramParts)
         (script : List ℤ) (fault : TraceFault) → Says words c → asked words ≡ Ok (Verify args) →
+        IsHeld ProgramFile c args.file text → IsTextOf text program → IsScriptFor c args.probes script →
+        IsHeld TraceFile c args.trace bytes → trace_form.HasFault bytes fault → IsRefused trace_form c fault ⊎ CountedFault c }
+{}
+
+/// If the words ask for the image at a cut, and the files say that they hold the program, the script and the trace within their
+/// limits, then: the image at that cut was written; or the trace is that of a run and has fewer cuts; or it isn't that of a run; or
+/// memory ran out, or a fault was counted.
+pub fn cuts_are_saved()
+    ensures { (words : List (List ℕ)) (c : Call) (args : SaveArgs) (text bytes : List ℕ) (program : ProgramParts)
+        (script : List ℤ) (history : Journal) → Says words c → asked words ≡ Ok (Save args) →
+        IsHeld ProgramFile c args.file text → IsTextOf text program → IsScriptFor c args.probes script →
+        IsHeld TraceFile c args.trace bytes → trace_form.IsOf bytes history →
+        IsSavedAs (status_of c) c text program script history args.at ⊎ CountedFault c }
+{}
+
+/// If the words ask for a run that goes on from an image, and the files say that they hold the text of an image under its name within
+/// the limit, then the run went on to its end, or until the fuel was used up, and what it shows was written; or memory ran out, or a
+/// fault was counted.
+pub fn images_go_on()
+    ensures { (words : List (List ℕ)) (c : Call) (args : ResumeArgs) (bytes : List ℕ) (image : Image) → Says words c →
+        asked words ≡ Ok (Resume args) → IsHeld ImageFile c args.image bytes → image_form.IsOf bytes image →
+        HasResumed (status_of c) image args.fuel c.outcome ⊎ CountedFault c }
+{}
+
+/// If they hold bytes with a fault there, then the call was refused for this fault, or memory ran out, or a fault was counted.
+pub fn bad_images_are_refused()
+    ensures { (words : List (List ℕ)) (c : Call) (args : ResumeArgs) (bytes : List ℕ) (fault : ImageFault) → Says words c →
+        asked words ≡ Ok (Resume args) → IsHeld ImageFile c args.image bytes → image_form.HasFault bytes fault →
+        IsRefused image_form c fault ⊎ CountedFault c }
+{}
+
+/// The same for the probe file of an image that is to be saved, if there is a program.
+pub fn bad_probes_stop_saves()
+    ensures { (words : List (List ℕ)) (c : Call) (args : SaveArgs) (text name bytes : List ℕ) (program : ProgramParts)
+        (fault : ProbesFault) → Says words c → asked words ≡ Ok (Save args) →
+        IsHeld ProgramFile c args.file text → IsTextOf text program → args.probes ≡ Some name →
+        IsHeld ProbesFile c name bytes → probes_form.HasFault bytes fault → IsRefused probes_form c fault ⊎ CountedFault c }
+{}
+
+/// The same for its trace file, if there are a program and a script.
+pub fn bad_traces_stop_saves()
+    ensures { (words : List (List ℕ)) (c : Call) (args : SaveArgs) (text bytes : List ℕ) (program : ProgramParts)
+        (script : List ℤ) (fault : TraceFault) → Says words c → asked words ≡ Ok (Save args) →
         IsHeld ProgramFile c args.file text → IsTextOf text program → IsScriptFor c args.probes script →
         IsHeld TraceFile c args.trace bytes → trace_form.HasFault bytes fault → IsRefused trace_form c fault ⊎ CountedFault c }
 {}
