@@ -1,6 +1,6 @@
 //! The program's one call by two workers, one of which is held at the gate while the other works.
 
-use crate::gates::GateStab;
+use crate::gates::{GateStab, GateThree};
 use crate::two::ENDLESS;
 use stab_base::NoMemory;
 use stab_files::{MemFiles, MemSink};
@@ -9,6 +9,7 @@ use std::alloc::Global;
 use std::sync::Wait;
 use std::test::Fail;
 use std::thread::Threads;
+use worker_lease::Gate;
 
 // These words.
 fn words_of(alloc: Global, line: &str) -> Result<Vec<String>, NoMemory> {
@@ -26,13 +27,14 @@ fn files(alloc: Global) -> Result<MemFiles, NoMemory> {
     Ok(MemFiles::new(held, Vec::new(alloc)))
 }
 
-// The status of the call.
-fn status<R: Threads + Wait + Sync>(
+// The status of the call with these words.
+fn status<R: Threads + Wait + Sync, G: Gate + Sync>(
     rt: &R,
     alloc: Global,
-    gate: &GateStab,
+    line: &str,
+    gate: &G,
 ) -> Result<Status, NoMemory> {
-    let words = words_of(alloc, "run p --workers 2")?;
+    let words = words_of(alloc, line)?;
     let mut files = files(alloc)?;
     let Ok(mut sink) = MemSink::new(alloc, 1_000, Vec::new(alloc)) else {
         return Err(NoMemory);
@@ -45,10 +47,31 @@ fn status<R: Threads + Wait + Sync>(
 #[test]
 fn gate_stab(rt: HostRuntime) -> Result<(), Fail> {
     let gate = GateStab::new();
-    let status = status(&rt, rt.alloc(), &gate)?;
+    let status = status(&rt, rt.alloc(), "run p --workers 2", &gate)?;
     let visits = &gate.visits;
     assert!(rt;
         status == Status::Spent && visits.all_met() && visits.times(1) >= 1 && visits.times(2) >= 1
     );
+    Ok(())
+}
+
+// The same of a watched run.
+#[test]
+fn gate_watch(rt: HostRuntime) -> Result<(), Fail> {
+    let gate = GateStab::new();
+    let status = status(&rt, rt.alloc(), "watch p --workers 2", &gate)?;
+    let visits = &gate.visits;
+    assert!(rt;
+        status == Status::Spent && visits.all_met() && visits.times(1) >= 1 && visits.times(2) >= 1
+    );
+    Ok(())
+}
+
+// Who is at the gate hasn't committed yet: both threads are leased while two workers are there, so that a third has nothing to do.
+#[test]
+fn gate_before_commit(rt: HostRuntime) -> Result<(), Fail> {
+    let gate = GateThree::new();
+    let status = status(&rt, rt.alloc(), "run p --workers 3", &gate)?;
+    assert!(rt; status == Status::Spent && gate.two_alone());
     Ok(())
 }
