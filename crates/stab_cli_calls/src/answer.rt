@@ -30,6 +30,10 @@ fn add(answer: &mut String, word: &str, rest: &str, told: &Told) -> Result<(), A
             let waits = told.waits;
             writeln!(answer, "gate {waits}")
         }
+        "resumed" => {
+            let resumed = told.resumed.as_str();
+            writeln!(answer, "resumed {resumed}")
+        }
         "exit" => add_end(answer, told),
         _ => Ok(()),
     }

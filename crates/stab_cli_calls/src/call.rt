@@ -1,5 +1,6 @@
 //! Makes the call of a row.
 
+use crate::resumed::resumed_of;
 use crate::table::{Held, Table, Told};
 use stab_base::Seq;
 use stab_files::{MemFiles, MemSink};
@@ -63,6 +64,7 @@ fn told_of(alloc: Global, report: &Report, written: &[u8], waits: u32) -> io::Re
         reason,
         weights: weights_of(alloc, report)?,
         waits,
+        resumed: resumed_of(alloc, report)?,
     })
 }
 

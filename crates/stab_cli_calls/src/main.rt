@@ -25,6 +25,7 @@
 //! | `events N` | how many events the book has that it reports, or `none` without a book |
 //! | `weights NUMBERS` | how many pure steps each of these is, 1 for any other event |
 //! | `gate N` | how often a worker was at the gate |
+//! | `resumed EVENTS` | the events of a run that went on from an image, each its worker and its words, with commas between them |
 //! | <code>&#124; TEXT</code> | behind a call: the next line of its output. `times N TEXT` stands for so many |
 //! | `...` | what else its output has isn't compared |
 //! | `exit N REASON` | its exit status and its reason, which ends the row |
@@ -38,6 +39,7 @@ mod answer;
 mod call;
 mod disk;
 mod events;
+mod resumed;
 mod rows;
 mod table;
 

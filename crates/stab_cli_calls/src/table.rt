@@ -20,6 +20,8 @@ pub struct Told {
     pub weights: Option<Vec<u32>>,
     /// How often a worker was at the gate.
     pub waits: u32,
+    /// The events of a run that went on from an image.
+    pub resumed: String,
 }
 
 /// The files and the row of a table, as far as its lines were read.
@@ -54,6 +56,7 @@ impl Table {
                 reason: String::new(alloc),
                 weights: None,
                 waits: 0,
+                resumed: String::new(alloc),
             },
         }
     }
