@@ -24,7 +24,7 @@ pub fn shown_by(alloc: Global, image: Image, fuel: u64, quantum: u32) -> Result<
     requires fuel { fuel ≤ max_fuel }
     requires some_quantum { 1 ≤ quantum }
     requires quantum { quantum ≤ max_quantum }
-    ensures { IfOk result (IsShown image fuel) }
+    ensures { IfOk result (IsShown image fuel quantum) }
 {
     let program = Arc::try_clone(image.program())?;
     let before = image.printed().len();

@@ -3,3 +3,4 @@ pub mod Noting
 pub mod Stepping
 pub mod Fitting
 pub mod Turning
+pub mod Added

@@ -75,7 +75,5 @@ module _ (m : Machine) where
     pub quiet_for : (k : Held) → k ≡ m.surviving.state → IsQuiet (language_of m.surviving.state.program) (state_of m) → IsQuiet (language_of o.state.program) k.state
     quiet_for k same q = subst (λ (x : Held). IsQuiet (language_of o.state.program) x.state) (sym same) (subst (λ (p : ProgramParts). IsQuiet (language_of p) (state_of m)) program q)
 
-    pub ready_for : (k s : Held) (r : Ready) → k ≡ m.surviving.state → s ≡ m.surviving.state → IsReady s.program s.state r → IsQuiet (language_of o.state.program) k.state → ⊥
-    ready_for k s r same also at q =
-        not_quiet r (subst (λ (x : Held). IsReady x.program x.state r) also at)
-        (subst (λ (p : ProgramParts). IsQuiet (language_of p) (state_of m)) (sym program) (subst (λ (x : Held). IsQuiet (language_of o.state.program) x.state) same q))
+    pub quiet_back : (k : Held) → k ≡ m.surviving.state → IsQuiet (language_of o.state.program) k.state → IsQuiet (language_of m.surviving.state.program) (state_of m)
+    quiet_back k same q = subst (λ (p : ProgramParts). IsQuiet (language_of p) (state_of m)) (sym program) (subst (λ (x : Held). IsQuiet (language_of o.state.program) x.state) same q)

@@ -1,10 +1,14 @@
 //! A run that goes on to its end.
-ghost use Rattle.std.specs.Prelude.{◌≡◌, ◌≤◌, true, false, IfOk};
+ghost use Rattle.std.specs.Prelude.{◌≡◌, ◌≤◌, [], true, false, IfOk, OnOk};
+ghost use Rattle.std.specs.List.{AllByRecursion};
+ghost use Rattle.stab_journal.specs.declared.event.Event.{Event as OneEvent};
 ghost use Rattle.stab_journal.specs.Event.{weight_of};
 ghost use Rattle.language.specs.Plain.{language_of};
 ghost use Rattle.language.specs.Quiet.{IsQuiet};
 ghost use Rattle.image_laws.specs.Image.{IsContinuedBy};
+ghost use Rattle.image_run.specs.Machine.{state_of, worker};
 ghost use Rattle.image_run.specs.Origin.{IsOrigin, image_of};
+ghost use Rattle.image_run.specs.Turns.{AreTurns, IsRun};
 
 use crate::machine::Machine;
 use crate::order::Order;
@@ -35,25 +39,68 @@ pub fn go_on(alloc: Global, origin: Origin, fuel: u64, quantum: u32) -> Result<R
     requires quantum { quantum ≤ 10000 }
     ensures continues { IfOk result (λ r. IsContinuedBy (image_of origin) r.events.items r.state.state) }
     ensures program { IfOk result (λ r. r.state.program ≡ origin.state.program) }
+    ensures workers { IfOk result (λ r. AllByRecursion (λ (e : OneEvent). e.worker ≡ worker) r.events.items) }
+    ensures turns { IfOk result (λ r. AreTurns fuel quantum r.events.items) }
     ensures spent { IfOk result (λ r. r.spent ≡ true → (fuel ≤ weight_of r.events.items) × (IsQuiet (language_of origin.state.program) r.state.state → ⊥)) }
     ensures quiet { IfOk result (λ r. r.spent ≡ false → IsQuiet (language_of origin.state.program) r.state.state) }
 {
-    let mut run = Run {
+    let mut run = begin(alloc, origin, quantum)?;
+    let spent = run.play(fuel)?;
+    Ok(end(run, spent))
+}
+
+// A run without events, with all threads in its queue.
+fn begin(alloc: Global, origin: Origin, quantum: u32) -> Result<Run, NoMemory>
+    requires origin { IsOrigin origin }
+    requires some { 1 ≤ quantum }
+    requires little { quantum ≤ 10000 }
+    ensures run { IfOk result IsRun }
+    ensures origin { IfOk result (λ run. run.machine.origin ≡ origin) }
+    ensures quantum { IfOk result (λ run. run.quantum ≡ quantum) }
+    ensures none { IfOk result (λ run. run.machine.events.items ≡ []) }
+{
+    let order = queue_of(alloc, &origin.state)?;
+    let machine = Machine::new(alloc, origin)?;
+    Ok(Run {
         alloc,
         quantum,
-        order: queue_of(alloc, &origin.state)?,
-        machine: Machine::new(alloc, origin)?,
-    };
-    while run.machine.weight() < fuel {
-        let next = run.next()?;
-        match next {
-            Some(chosen) => run.turn(chosen)?,
-            None => return Ok(end(run, false)),
+        machine,
+        order,
+    })
+}
+
+impl Run {
+    // Makes turns until no thread can step or the events weigh as much as the fuel. Returns whether the fuel is used up and somebody can
+    // step.
+    fn play(&mut self, fuel: u64) -> Result<bool, NoMemory>
+        requires run { IsRun self.old }
+        requires fuel { fuel ≤ 16000000 }
+        requires turns { AreTurns fuel self.old.quantum self.old.machine.events.items }
+        ensures run { OnOk result (IsRun self.new) }
+        ensures origin { OnOk result (self.new.machine.origin ≡ self.old.machine.origin) }
+        ensures turns { OnOk result (AreTurns fuel self.old.quantum self.new.machine.events.items) }
+        ensures spent { IfOk result (λ spent. spent ≡ true → (fuel ≤ self.new.machine.weight) × (IsQuiet (language_of self.new.machine.surviving.state.program) (state_of self.new.machine) → ⊥)) }
+        ensures quiet { IfOk result (λ spent. spent ≡ false → IsQuiet (language_of self.new.machine.surviving.state.program) (state_of self.new.machine)) }
+    {
+        while self.machine.weight() < fuel {
+            match self.next()? {
+                Some(chosen) => self.turn(chosen)?,
+                None => return Ok(false),
+            }
         }
+        self.can_step()
     }
-    match first_ready(alloc, run.machine.state())? {
-        Some(_) => Ok(end(run, true)),
-        None => Ok(end(run, false)),
+
+    // Whether somebody can step.
+    fn can_step(&self) -> Result<bool, NoMemory>
+        requires { IsRun self.now }
+        ensures some { IfOk result (λ can. can ≡ true → IsQuiet (language_of self.now.machine.surviving.state.program) (state_of self.now.machine) → ⊥) }
+        ensures none { IfOk result (λ can. can ≡ false → IsQuiet (language_of self.now.machine.surviving.state.program) (state_of self.now.machine)) }
+    {
+        match first_ready(self.alloc, self.machine.state())? {
+            Some(_) => Ok(true),
+            None => Ok(false),
+        }
     }
 }
 

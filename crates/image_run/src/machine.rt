@@ -44,6 +44,7 @@ impl Machine {
         ensures at { IfOk result IsAt }
         ensures origin { IfOk result (λ m. m.origin ≡ origin) }
         ensures none { IfOk result (λ m. m.weight ≡ 0) }
+        ensures empty { IfOk result (λ m. m.events.items ≡ []) }
     {
         let start = origin.state.copy(alloc)?;
         Ok(Machine {
@@ -130,6 +131,7 @@ impl Machine {
         ensures origin { OnOk result (self.new.origin ≡ self.old.origin) }
         ensures most { IfOk result (λ n. n ≤ most) }
         ensures weight { IfOk result (λ n. self.new.weight ≡ self.old.weight + n) }
+        ensures event { IfOk result (λ n. 1 ≤ n → self.new.events.items ≡ self.old.events.items ++ event worker (Step (Local t n)) ∷ []) }
         ensures none { IfOk result (λ n. n ≡ 0 → step_in self.old.surviving.state (number_of self.old) (Local t 1) ≡ None) }
     {
         let seq = self.number();

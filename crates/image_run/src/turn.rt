@@ -7,7 +7,7 @@ ghost use Rattle.language.specs.Quiet.{IsQuiet};
 ghost use Rattle.ready_steps.specs.Ready.{CanMeet, IsReady, look_of};
 ghost use Rattle.image_run.specs.Acting.{is_lone};
 ghost use Rattle.image_run.specs.Machine.{HasRoom, state_of};
-ghost use Rattle.image_run.specs.Turns.{IsMoved, IsRun};
+ghost use Rattle.image_run.specs.Turns.{Adds, IsAct, IsActAtMost, IsMoved, IsRun, IsTurn};
 
 use crate::choice::{Chosen, first_chosen, first_queued, partner};
 use crate::machine::Machine;
@@ -34,6 +34,7 @@ impl Run {
         requires { IsRun self.old }
         ensures run { IsRun self.new }
         ensures machine { self.new.machine ≡ self.old.machine }
+        ensures quantum { self.new.quantum ≡ self.old.quantum }
         ensures next { IfOk result (λ o. MatchOption o (IsQuiet (language_of self.old.machine.surviving.state.program) (state_of self.old.machine))
             (λ k. IsReady self.old.machine.surviving.state.program (state_of self.old.machine) k.ready)) }
     {
@@ -49,7 +50,8 @@ impl Run {
         requires run { IsRun self.old }
         requires room { self.old.machine.weight ≤ 16000000 }
         requires ready { IsReady self.old.machine.surviving.state.program (state_of self.old.machine) chosen.ready }
-        ensures { OnOk result (IsMoved 1 10001 self.old self.new) }
+        ensures moved { OnOk result (IsMoved 1 10001 self.old self.new) }
+        ensures added { OnOk result (Adds (IsTurn self.old.quantum) self.old.machine.events.items self.new.machine.events.items) }
     {
         match chosen.ready {
             Ready::Alone(t) => {
@@ -68,7 +70,8 @@ impl Run {
         requires run { IsRun self.old }
         requires room { HasRoom self.old.machine }
         requires meets { CanMeet self.old.machine.surviving.state.program (state_of self.old.machine) meeting }
-        ensures { OnOk result (IsMoved 1 1 self.old self.new) }
+        ensures moved { OnOk result (IsMoved 1 1 self.old self.new) }
+        ensures added { OnOk result (Adds IsAct self.old.machine.events.items self.new.machine.events.items) }
     {
         let label = Label::Comm(meeting.sender, meeting.receiver, meeting.chan);
         self.machine.step(self.alloc, label)?;
@@ -81,7 +84,8 @@ impl Run {
         requires run { IsRun self.old }
         requires room { self.old.machine.weight ≤ 16000000 }
         requires ready { IsReady self.old.machine.surviving.state.program (state_of self.old.machine) (Ready.Alone t) }
-        ensures { OnOk result (IsMoved 1 10001 self.old self.new) }
+        ensures moved { OnOk result (IsMoved 1 10001 self.old self.new) }
+        ensures added { OnOk result (Adds (IsTurn self.old.quantum) self.old.machine.events.items self.new.machine.events.items) }
     {
         match self.machine.look(t) {
             Some(Look::Pure) => {
@@ -101,7 +105,8 @@ impl Run {
         requires run { IsRun self.old }
         requires room { self.old.machine.weight ≤ 16000000 }
         requires pure { look_of self.old.machine.surviving.state.program (state_of self.old.machine) t.0 ≡ Some Look.Pure }
-        ensures { OnOk result (IsMoved 1 10001 self.old self.new) }
+        ensures moved { OnOk result (IsMoved 1 10001 self.old self.new) }
+        ensures added { OnOk result (Adds (IsTurn self.old.quantum) self.old.machine.events.items self.new.machine.events.items) }
     {
         self.machine.local(self.alloc, t, self.quantum)?;
         self.go_on(t)?;
@@ -112,7 +117,8 @@ impl Run {
     fn go_on(&mut self, t: ThreadId) -> Result<(), NoMemory>
         requires run { IsRun self.old }
         requires room { HasRoom self.old.machine }
-        ensures { OnOk result (IsMoved 0 1 self.old self.new) }
+        ensures moved { OnOk result (IsMoved 0 1 self.old self.new) }
+        ensures added { OnOk result (Adds IsActAtMost self.old.machine.events.items self.new.machine.events.items) }
     {
         match self.machine.look(t) {
             None | Some(Look::Done | Look::Failed(_)) => {}
@@ -134,7 +140,8 @@ impl Run {
         requires room { HasRoom self.old.machine }
         requires look { look_of self.old.machine.surviving.state.program (state_of self.old.machine) t.0 ≡ Some look }
         requires lone { is_lone look ≡ true }
-        ensures { OnOk result (IsMoved 1 1 self.old self.new) }
+        ensures moved { OnOk result (IsMoved 1 1 self.old self.new) }
+        ensures added { OnOk result (Adds IsAct self.old.machine.events.items self.new.machine.events.items) }
     {
         if let Look::Act(ActKind::Stabilize) = look {
             self.stabilize(t)?;
@@ -153,7 +160,8 @@ impl Run {
         requires run { IsRun self.old }
         requires room { HasRoom self.old.machine }
         requires look { look_of self.old.machine.surviving.state.program (state_of self.old.machine) t.0 ≡ Some (Look.Act ActKind.Stabilize) }
-        ensures { OnOk result (IsMoved 1 1 self.old self.new) }
+        ensures moved { OnOk result (IsMoved 1 1 self.old self.new) }
+        ensures added { OnOk result (Adds IsAct self.old.machine.events.items self.new.machine.events.items) }
     {
         let mark = self.machine.revocable(self.alloc, t)?;
         match mark {

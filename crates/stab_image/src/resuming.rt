@@ -21,7 +21,7 @@ pub fn resume(alloc: Global, image: Image, fuel: u64, quantum: u32) -> Result<Re
     requires fuel { fuel ≤ max_fuel }
     requires some_quantum { 1 ≤ quantum }
     requires quantum { quantum ≤ max_quantum }
-    ensures resumed { IfOk result (IsResumed image fuel) }
+    ensures resumed { IfOk result (IsResumed image fuel quantum) }
     ensures behind { IfOk result (IsBehind image) }
     ensures history { (p : ProgramParts) (script : List ℤ) (events : List OneEvent) → StandsAt p script events image
         → IfOk result (λ r. IsHistoryTo p script (events ++ r.events.items) r.state.state) }

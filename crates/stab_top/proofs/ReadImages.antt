@@ -54,7 +54,7 @@ one_image bytes i j a b = ok_is {B = ImageFault} i j (image_back bytes j (Ok i) 
 -- ---- a good image
 
 module _ (c : Call) (args : ResumeArgs) (bytes : List ℕ) (held : IsHeld roles.Image c args.image bytes) where
-  as_resumed : (image : Image) (status : Status) → ResumeEnds status image args.fuel c.outcome → HasResumed status image args.fuel c.outcome ⊎ CountedFault c
+  as_resumed : (image : Image) (status : Status) → ResumeEnds status image args.fuel args.quantum c.outcome → HasResumed status image args.fuel args.quantum c.outcome ⊎ CountedFault c
   as_resumed image Done ends = inl ends
   as_resumed image Held ends = inl ends
   as_resumed image Spent ends = inl ends
@@ -73,24 +73,24 @@ module _ (c : Call) (args : ResumeArgs) (bytes : List ℕ) (held : IsHeld roles.
   as_resumed image NoCut ends = elim ends.stops [ ]
   as_resumed image BadImage ends = elim ends.stops [ ]
 
-  came : (image : Image) → IsImageText bytes image → Failed (status_of c) c ⊎ ((other : Image) × IsImageText bytes other × ResumeEnds (status_of c) other args.fuel c.outcome)
-      → HasResumed (status_of c) image args.fuel c.outcome ⊎ CountedFault c
-  came image is (inl (inl none)) = inl (subst (λ (s : Status). HasResumed s image args.fuel c.outcome) (sym none) tt)
+  came : (image : Image) → IsImageText bytes image → Failed (status_of c) c ⊎ ((other : Image) × IsImageText bytes other × ResumeEnds (status_of c) other args.fuel args.quantum c.outcome)
+      → HasResumed (status_of c) image args.fuel args.quantum c.outcome ⊎ CountedFault c
+  came image is (inl (inl none)) = inl (subst (λ (s : Status). HasResumed s image args.fuel args.quantum c.outcome) (sym none) tt)
   came image is (inl (inr counted)) = inr counted.1
   came image is (inr (other, also, ends)) =
-      as_resumed image (status_of c) (subst (λ (i : Image). ResumeEnds (status_of c) i args.fuel c.outcome) (one_image bytes other image also is) ends)
+      as_resumed image (status_of c) (subst (λ (i : Image). ResumeEnds (status_of c) i args.fuel args.quantum c.outcome) (one_image bytes other image also is) ends)
 
-  said : (image : Image) → IsImageText bytes image → ResumeSays c args → HasResumed (status_of c) image args.fuel c.outcome ⊎ CountedFault c
+  said : (image : Image) → IsImageText bytes image → ResumeSays c args → HasResumed (status_of c) image args.fuel args.quantum c.outcome ⊎ CountedFault c
   said image is says =
-      came image is (said_of image_form c args.image bytes held (λ fault has. has.none image is) c.files_after (λ i. ResumeEnds (status_of c) i args.fuel c.outcome) says)
+      came image is (said_of image_form c args.image bytes held (λ fault has. has.none image is) c.files_after (λ i. ResumeEnds (status_of c) i args.fuel args.quantum c.outcome) says)
 
   refused : (fault : ImageFault) → IsNoImage bytes fault → ResumeSays c args → IsRefused image_form c fault ⊎ CountedFault c
   refused fault has says =
       fault_refused image_form c args.image bytes held fault (λ image is. has.none image is) (λ other same. one_fault bytes other fault same.first has.first) c.files_after
-      (λ i. ResumeEnds (status_of c) i args.fuel c.outcome) says
+      (λ i. ResumeEnds (status_of c) i args.fuel args.quantum c.outcome) says
 
 pub image_goes_on : (words : List (List ℕ)) (c : Call) (args : ResumeArgs) (bytes : List ℕ) (image : Image) → Says words c → asked words ≡ Ok (Resume args)
-    → IsHeld roles.Image c args.image bytes → image_form.IsOf bytes image → HasResumed (status_of c) image args.fuel c.outcome ⊎ CountedFault c
+    → IsHeld roles.Image c args.image bytes → image_form.IsOf bytes image → HasResumed (status_of c) image args.fuel args.quantum c.outcome ⊎ CountedFault c
 image_goes_on words c args bytes image says is held reads = said c args bytes held image reads (request_said words c (Resume args) says is)
 
 pub bad_image_refused : (words : List (List ℕ)) (c : Call) (args : ResumeArgs) (bytes : List ℕ) (fault : ImageFault) → Says words c → asked words ≡ Ok (Resume args)

@@ -131,7 +131,7 @@ SaveSays c args =
 
 -- the image in the file, from which the run was to go on
 abbrev pub ResumeSays : Call → ResumeArgs → Type 0
-ResumeSays c args = LastSays image_form c args.image (λ image. ResumeEnds (status_of c) image args.fuel c.outcome)
+ResumeSays c args = LastSays image_form c args.image (λ image. ResumeEnds (status_of c) image args.fuel args.quantum c.outcome)
 
 -- the file of the drill script was refused, which is blamed; or its bytes were to be played on a new book of the job
 abbrev pub OrdersSay : Call → DrillArgs → ProgramParts → List ℤ → Type 0

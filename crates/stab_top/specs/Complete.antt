@@ -145,9 +145,9 @@ IsSavedAs NoMemory c text program script history n = Unit {0}
 IsSavedAs _ c text program script history n = ⊥
 
 -- a run went on from the image, came to its end or used up the fuel, and was written; or memory ran out
-abbrev pub HasResumed : Status → Image → ℕ → Outcome → Type 0
-HasResumed Done image fuel o = HasWritten Done image fuel o
-HasResumed Held image fuel o = HasWritten Held image fuel o
-HasResumed Spent image fuel o = HasWritten Spent image fuel o
-HasResumed NoMemory image fuel o = Unit {0}
-HasResumed _ image fuel o = ⊥
+abbrev pub HasResumed : Status → Image → ℕ → ℕ → Outcome → Type 0
+HasResumed Done image fuel quantum o = HasWritten Done image fuel quantum o
+HasResumed Held image fuel quantum o = HasWritten Held image fuel quantum o
+HasResumed Spent image fuel quantum o = HasWritten Spent image fuel quantum o
+HasResumed NoMemory image fuel quantum o = Unit {0}
+HasResumed _ image fuel quantum o = ⊥

@@ -46,21 +46,21 @@ IsPutAs status text o =
     ⊎ ((o.report.status ≡ SinkFault) × GainsPrefix o.sink o.sink_after text)
 
 -- A run went on from the image, which is reported, and this is what it shows behind the lines of what was printed up to the cut.
-pub record HasGoneOn (image : Image) (fuel : ℕ) (o : Outcome) : Type 0 where
+pub record HasGoneOn (image : Image) (fuel quantum : ℕ) (o : Outcome) : Type 0 where
   pub resumed : Resumed
   pub reported : Blames o.report (names_resumed resumed)
-  pub is : IsResumed image fuel resumed
+  pub is : IsResumed image fuel quantum resumed
   pub text : List ℕ
   pub shows : shown image.program resumed.state.state ≡ value_lines image.program image.state.output ++ text
 
 -- the same, with the end that the status says, and the text was written whole
-pub record HasWritten (status : Status) (image : Image) (fuel : ℕ) (o : Outcome) : Type 0 where
-  pub on : HasGoneOn image fuel o
+pub record HasWritten (status : Status) (image : Image) (fuel quantum : ℕ) (o : Outcome) : Type 0 where
+  pub on : HasGoneOn image fuel quantum o
   pub stops : StopsAs status image.program on.resumed
   pub gains : Gains o.sink o.sink_after on.text
 
 -- What each status says of an image from which a run was to go on. Want of memory is free, and no other status comes.
-abbrev pub ResumeEnds : Status → Image → ℕ → Outcome → Type 0
-ResumeEnds SinkFault image fuel o = (on : HasGoneOn image fuel o) × GainsPrefix o.sink o.sink_after on.text
-ResumeEnds NoMemory image fuel o = Refuses o no_blame
-ResumeEnds status image fuel o = HasWritten status image fuel o
+abbrev pub ResumeEnds : Status → Image → ℕ → ℕ → Outcome → Type 0
+ResumeEnds SinkFault image fuel quantum o = (on : HasGoneOn image fuel quantum o) × GainsPrefix o.sink o.sink_after on.text
+ResumeEnds NoMemory image fuel quantum o = Refuses o no_blame
+ResumeEnds status image fuel quantum o = HasWritten status image fuel quantum o

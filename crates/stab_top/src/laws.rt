@@ -174,7 +174,7 @@ pub fn scripts_are_drilled()
     ensures { (words : List (List ℕ)) (c : Call) (args : DrillArgs) (text bytes : List ℕ) (program : ProgramParts)
         (script : List ℤ) → Says words c → asked words ≡ Ok (Drill args) → IsHeld ProgramFile c args.file text →
         IsTextOf text program → IsScriptFor c args.probes script → IsHeld ScriptFile c args.script bytes →
-        WasDrilled c (job_of program script args.fuel) (script_of bytes) ⊎ CountedFault c }
+        WasDrilled c (job_of program script args.fuel args.quantum) (script_of bytes) ⊎ CountedFault c }
 {}
 
 /// If a line of such a drill script isn't an order, the script was refused, or memory ran out, or a fault was counted.
@@ -184,7 +184,7 @@ pub fn bad_lines_stop_drills()
         asked words ≡ Ok (Drill args) → IsHeld ProgramFile c args.file text → IsTextOf text program →
         IsScriptFor c args.probes script → IsHeld ScriptFile c args.script bytes →
         script_of bytes ≡ before ++ line ∷ behind → line.order ≡ None →
-        (WasStuck c (job_of program script args.fuel) (script_of bytes) ⊎ (status_of c ≡ NoMemoryStatus)) ⊎ CountedFault c }
+        (WasStuck c (job_of program script args.fuel args.quantum) (script_of bytes) ⊎ (status_of c ≡ NoMemoryStatus)) ⊎ CountedFault c }
 {}
 
 /// The job and the lines of such a script determine the result, unless memory runs out or a fault is counted. If a drill of the
@@ -195,13 +195,13 @@ pub fn drills_are_determined()
         (script : List ℤ) (lines : List ℕ) (book : BookView) → Says words c → asked words ≡ Ok (Drill args) →
         IsHeld ProgramFile c args.file text → IsTextOf text program → IsScriptFor c args.probes script →
         IsHeld ScriptFile c args.script bytes →
-        IsDrilled (job_of program script args.fuel) (script_of bytes) lines book →
+        IsDrilled (job_of program script args.fuel args.quantum) (script_of bytes) lines book →
         ComesTo (status_of c) c lines book }
     ensures stopped { (words : List (List ℕ)) (c : Call) (args : DrillArgs) (text bytes : List ℕ) (program : ProgramParts)
         (script : List ℤ) (fault : DrillFault) → Says words c → asked words ≡ Ok (Drill args) →
         IsHeld ProgramFile c args.file text → IsTextOf text program → IsScriptFor c args.probes script →
         IsHeld ScriptFile c args.script bytes → IsOfScript fault →
-        IsUnplayed (job_of program script args.fuel) (script_of bytes) fault → StopsWith (status_of c) c fault }
+        IsUnplayed (job_of program script args.fuel args.quantum) (script_of bytes) fault → StopsWith (status_of c) c fault }
 {}
 
 /// The job determines the run of one worker, as `run`, `trace` and `mill` make one: two such runs that are over have the same
@@ -271,7 +271,7 @@ pub fn cuts_are_saved()
 pub fn images_go_on()
     ensures { (words : List (List ℕ)) (c : Call) (args : ResumeArgs) (bytes : List ℕ) (image : Image) → Says words c →
         asked words ≡ Ok (Resume args) → IsHeld ImageFile c args.image bytes → image_form.IsOf bytes image →
-        HasResumed (status_of c) image args.fuel c.outcome ⊎ CountedFault c }
+        HasResumed (status_of c) image args.fuel args.quantum c.outcome ⊎ CountedFault c }
 {}
 
 /// If they hold bytes with a fault there, then the call was refused for this fault, or memory ran out, or a fault was counted.

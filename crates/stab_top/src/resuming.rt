@@ -82,7 +82,7 @@ fn resume_image<K: Sink>(
 ) -> Report
     requires fuel { IsUpTo most_fuel fuel }
     requires quantum { IsUpTo most_quantum quantum }
-    ensures { ResumeEnds result.status image fuel (outcome_of K.told K.faults sink.old sink.new result) }
+    ensures { ResumeEnds result.status image fuel quantum (outcome_of K.told K.faults sink.old sink.new result) }
 {
     match shown_by(alloc, image, fuel, quantum) {
         Ok(shown) => put_shown(status_of(shown.resumed.spent, shown.all_ended), shown, sink),

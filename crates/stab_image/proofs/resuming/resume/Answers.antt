@@ -51,6 +51,8 @@ returns-clause-resumed c0 =
     record {
       continues = continues c;
       program = c.in_ok-resumed.ensures.program ∙ program_is c;
+      workers = c.in_ok-resumed.ensures.workers;
+      turns = c.in_ok-resumed.ensures.turns;
       spent = λ on.
           let h = c.in_ok-resumed.ensures.spent on in
           (h.0, λ quiet. h.1 (subst (λ (p : ProgramParts). IsQuiet (language_of p) r.state.state) (sym (program_is c)) quiet));
