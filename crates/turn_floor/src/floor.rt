@@ -261,6 +261,9 @@ impl<K: Kept, C: Ledger, S: Ledger> Floor<K, C, S> {
         ensures given { seat.new.me ≡ (giving seat.old.me.0, []) }
     {
         self.table.shared.store::<Give>(seat, TURN, 0);
+        // One order has this load, the store before it, and the count and the look at the turn of who goes to sleep: so the one sees
+        // that somebody waits, or the other that the turn is free. In a weaker order both could miss it, and nobody would wake
+        // the sleeper. No clause says this.
         if self.waiting.load(SeqCst) > 0 {
             self.table.shared.wake_one(TURN);
         }
