@@ -182,6 +182,16 @@ fn puts_into_a_file(rt: HostRuntime) -> Result<(), Fail> {
     Ok(())
 }
 
+#[test]
+fn tells_what_a_vector_holds(rt: HostRuntime) -> Result<(), Fail> {
+    let mut bytes = Vec::new(rt.alloc());
+    let mut sink = OutSink::telling(&mut bytes);
+    assert_eq!(rt; put_both(&mut sink, b"3\n", b"ended\n"), Ok(()));
+    drop(sink);
+    assert_eq!(rt; bytes.as_slice(), b"3\nended\n".as_slice());
+    Ok(())
+}
+
 // A writer that is interrupted a number of times, then takes one byte a time up to a number, and then none.
 #[derive(Drop)]
 struct Halting {
