@@ -1,6 +1,7 @@
 //! What texts are read as.
 
-use stab_image::{Image, ImageFault, put_image, read_image};
+use image_text::ImageFault;
+use stab_image::{Image, put_image, read_image};
 use std::alloc::{AllocError, Global};
 
 /// How long a text may be.

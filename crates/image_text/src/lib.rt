@@ -4,6 +4,7 @@
 mod expression;
 mod fault;
 mod filling;
+mod image_fault;
 mod laws;
 mod names;
 mod number;
@@ -14,6 +15,7 @@ mod writing;
 
 pub use expression::expression_in;
 pub use fault::LineFault;
+pub use image_fault::ImageFault;
 pub use laws::{expressions_read_back, words_read_back};
 pub use number::{count_in, name_in};
 pub use pieces::next_piece;

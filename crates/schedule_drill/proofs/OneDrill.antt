@@ -15,8 +15,8 @@ use Rattle.drill_text.specs.declared.order.Verb.TheVariants.{Lease, Step, Commit
 use Rattle.drill_text.specs.declared.script.Line.{Line}
 use Rattle.lone_worker.specs.Desk.{desk_of}
 use Rattle.lone_worker.proofs.OneStart.{one_start, start_shown}
-use Rattle.schedule_drill.specs.declared.fault.DrillFault.{DrillFault}
-use Rattle.schedule_drill.specs.declared.fault.DrillFault.TheVariants.{BadLine, NoSuchLease, HeldTwice, NoMemory}
+use Rattle.drill_text.specs.declared.fault.DrillFault.{DrillFault}
+use Rattle.drill_text.specs.declared.fault.DrillFault.TheVariants.{BadLine, NoSuchLease, HeldTwice, NoMemory}
 use Rattle.schedule_drill.specs.declared.held.Held.{Held}
 use Rattle.schedule_drill.specs.Alike.{AreAlike, AreOne, AreTrue, IsHeldTruly, IsOneHeld}
 use Rattle.schedule_drill.specs.Drilled.{ArePlayed, IsDrilled, IsNew, IsOfScript, IsRefused, StopsAt, fault_at, fault_in, refused}

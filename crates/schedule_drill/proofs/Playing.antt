@@ -12,8 +12,8 @@ use Rattle.drill_text.specs.Order.{HasLease, order_of}
 use Rattle.drill_text.specs.Script.{line_of, script_of}
 use Rattle.drill_text.proofs.Orders.{order-was}
 use Rattle.text_lines.specs.Lines.{lines_of}
-use Rattle.schedule_drill.specs.declared.fault.DrillFault.{DrillFault}
-use Rattle.schedule_drill.specs.declared.fault.DrillFault.TheVariants.{BadLine, NoSuchLease, HeldTwice, NoMemory}
+use Rattle.drill_text.specs.declared.fault.DrillFault.{DrillFault}
+use Rattle.drill_text.specs.declared.fault.DrillFault.TheVariants.{BadLine, NoSuchLease, HeldTwice, NoMemory}
 use Rattle.schedule_drill.specs.Drilled.{ArePlayed, IsFaultOf, IsNew, IsRefused, IsStopped}
 use Rattle.schedule_drill.specs.Played.{IsPlayed, Stand}
 

@@ -7,8 +7,8 @@ use Rattle.drill_text.specs.declared.order.Order.{Order}
 use Rattle.drill_text.specs.declared.order.Verb.{Verb}
 use Rattle.drill_text.specs.declared.order.Verb.TheVariants.{Lease, Step, Commit}
 use Rattle.drill_text.specs.declared.script.Line.{Line}
-use Rattle.schedule_drill.specs.declared.fault.DrillFault.{DrillFault}
-use Rattle.schedule_drill.specs.declared.fault.DrillFault.TheVariants.{BadLine, NoSuchLease, HeldTwice, NoMemory}
+use Rattle.drill_text.specs.declared.fault.DrillFault.{DrillFault}
+use Rattle.drill_text.specs.declared.fault.DrillFault.TheVariants.{BadLine, NoSuchLease, HeldTwice, NoMemory}
 use Rattle.schedule_drill.specs.Out.{Out, all_given_back}
 use Rattle.schedule_drill.specs.Played.{Stand, IsPlayed}
 

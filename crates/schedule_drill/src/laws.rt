@@ -15,7 +15,7 @@ ghost use Rattle.schedule_drill.specs.Drilled.{IsDrilled, IsOfScript, IsRefused,
 ghost use Rattle.schedule_drill.specs.Out.{all_given_back};
 ghost use Rattle.schedule_drill.specs.Played.{IsCommit, IsLeased, IsStep, Stand};
 ghost use Rattle.schedule_drill.specs.Solo.{IsDrilledByOne};
-ghost use Rattle.schedule_drill.specs.declared.fault.DrillFault.{DrillFault};
+ghost use Rattle.drill_text.specs.declared.fault.DrillFault.{DrillFault};
 ghost use Rattle.schedule_drill.specs.declared.held.Held.{Held};
 
 /// At alike stands a lease tells the same, and leaves alike stands.

@@ -13,12 +13,11 @@ ghost use Rattle.schedule_drill.specs.Played.{IsAnswered, IsPlayed, stand};
 ghost use Rattle.schedule_drill.specs.Text.{answered, lent_text, release_text};
 ghost use Rattle.schedule_drill.specs.declared.held.At.TheVariants as at;
 
-use crate::fault::DrillFault;
 use crate::held::{At, Held};
 use crate::leases::Leases;
 use crate::spelling::{commit_line, lent_line, release_line, step_line, unlent_line};
 use commit_book::{Book, CommitRefused, Lease, Turn};
-use drill_text::{Line, Order, Verb};
+use drill_text::{DrillFault, Line, Order, Verb};
 use stab_base::NoMemory;
 use stab_journal::What;
 use std::alloc::Global;

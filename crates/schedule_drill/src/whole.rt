@@ -9,11 +9,10 @@ ghost use Rattle.schedule_drill.specs.Drilled.{ArePlayed, IsDrilled, IsRefused, 
 ghost use Rattle.schedule_drill.specs.Out.{AreUnder};
 ghost use Rattle.schedule_drill.specs.Played.{stand};
 
-use crate::fault::DrillFault;
 use crate::leases::Leases;
 use crate::play::play;
 use commit_book::Book;
-use drill_text::{Line, read_script};
+use drill_text::{DrillFault, Line, read_script};
 use stab_code::Job;
 use std::alloc::Global;
 

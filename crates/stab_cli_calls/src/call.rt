@@ -2,10 +2,11 @@
 
 use crate::resumed::resumed_of;
 use crate::table::{Held, Table, Told};
+use call_report::{Made, Report, reason};
 use stab_base::Seq;
 use stab_files::{MemFiles, MemSink};
 use stab_journal::{Label, What};
-use stab_top::{Gate, Report, reason, stab};
+use stab_top::{Gate, stab};
 use std::alloc::{AllocError, Global};
 use std::io::{self, ErrorKind};
 use std::sync::Wait;
@@ -82,7 +83,7 @@ fn reason_of(alloc: Global, report: &Report) -> io::Result<String> {
 
 // How many pure steps each event of the book is.
 fn weights_of(alloc: Global, report: &Report) -> Result<Option<Vec<u32>>, AllocError> {
-    let Some(book) = &report.book else {
+    let Some(Made::Book(book)) = &report.made else {
         return Ok(None);
     };
     let mut weights = Vec::new(alloc);

@@ -1,14 +1,14 @@
 //! The events of a run that went on from an image, in short.
 
+use call_report::{Made, Report};
 use stab_base::{ChanId, RefId, Seq, ThreadId};
 use stab_journal::{Label, What};
-use stab_top::Report;
 use std::alloc::{AllocError, Global};
 
 /// The events that it made, each its worker and its words, with commas between them.
 pub fn resumed_of(alloc: Global, report: &Report) -> Result<String, AllocError> {
     let mut text = String::new(alloc);
-    if let Some(resumed) = &report.resumed {
+    if let Some(Made::Resumed(resumed)) = &report.made {
         for event in resumed.events.iter() {
             if !text.is_empty() {
                 text.push(',')?;

@@ -18,8 +18,8 @@ use Rattle.image_state.specs.Parts.{parts_from}
 use Rattle.image_state.specs.State.{AreOfState, state_in}
 use Rattle.image_state.proofs.Sounding.{parts_are_sound}
 use Rattle.image_state.proofs.StateLaws.{state_back, state_was}
-use Rattle.stab_image.specs.declared.fault.ImageFault.{ImageFault}
-use Rattle.stab_image.specs.declared.fault.ImageFault.TheVariants.{BadProgram}
+use Rattle.image_text.specs.declared.image_fault.ImageFault.{ImageFault}
+use Rattle.image_text.specs.declared.image_fault.ImageFault.TheVariants.{BadProgram}
 use Rattle.stab_image.specs.ImageText.{text_of_image}
 use Rattle.stab_image.specs.Read.{Answer, IsRead, IsReadBehind, IsReadFrom, OfProgram, counts_read, fault_of, image_with, with_counts, with_state}
 use Rattle.stab_image.specs.Written.{IsImageText, IsRight, lines_of, next_of}

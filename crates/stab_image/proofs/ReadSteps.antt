@@ -16,8 +16,8 @@ use Rattle.image_lines.proofs.CountsLaws.{counts_was}
 use Rattle.image_lines.proofs.OpeningLaws.{program_was}
 use Rattle.image_state.specs.Parts.{Parts}
 use Rattle.image_state.specs.State.{state_in}
-use Rattle.stab_image.specs.declared.fault.ImageFault.{ImageFault}
-use Rattle.stab_image.specs.declared.fault.ImageFault.TheVariants.{BadProgram, NoMemory}
+use Rattle.image_text.specs.declared.image_fault.ImageFault.{ImageFault}
+use Rattle.image_text.specs.declared.image_fault.ImageFault.TheVariants.{BadProgram, NoMemory}
 use Rattle.stab_image.specs.Read.{Answer, IsRead, IsReadBehind, IsReadFrom, counts_read, fault_of, image_with, state_read, with_counts, with_state}
 use Rattle.stab_image.specs.Written.{IsImageText}
 use Rattle.stab_image.proofs.ReadLaws.{image_back, image_was}

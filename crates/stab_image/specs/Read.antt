@@ -14,8 +14,8 @@ use Rattle.image_lines.specs.Opening.{program_in}
 use Rattle.image_state.specs.Parts.{Parts}
 use Rattle.image_state.specs.Sound.{state_from}
 use Rattle.image_state.specs.State.{state_in}
-use Rattle.stab_image.specs.declared.fault.ImageFault.{ImageFault}
-use Rattle.stab_image.specs.declared.fault.ImageFault.TheVariants.{BadLine, BadNumber, BadProgram, BadState, NoEnd}
+use Rattle.image_text.specs.declared.image_fault.ImageFault.{ImageFault}
+use Rattle.image_text.specs.declared.image_fault.ImageFault.TheVariants.{BadLine, BadNumber, BadProgram, BadState, NoEnd}
 
 abbrev pub Answer : Type 0
 Answer = Result Image ImageFault

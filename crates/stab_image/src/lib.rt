@@ -2,7 +2,6 @@
 #![tactic(auto)]
 
 mod at;
-mod fault;
 mod image;
 mod named;
 mod put;
@@ -11,7 +10,6 @@ mod resuming;
 mod right;
 
 pub use at::image_at;
-pub use fault::ImageFault;
 pub use image::Image;
 pub use image_run::Resumed;
 pub use put::put_image;

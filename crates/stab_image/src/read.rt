@@ -7,15 +7,14 @@ ghost use Rattle.image_lines.specs.CountsText.{AreCounts};
 ghost use Rattle.image_lines.specs.HeadText.{IsLength};
 ghost use Rattle.image_state.specs.Held.{held_parts};
 ghost use Rattle.image_state.specs.Sound.{AreSound};
-ghost use Rattle.stab_image.specs.declared.fault.ImageFault.TheVariants.{NoMemory as NoMemoryLeft};
+ghost use Rattle.image_text.specs.declared.image_fault.ImageFault.TheVariants.{NoMemory as NoMemoryLeft};
 ghost use Rattle.stab_image.specs.Read.{IsRead, IsReadBehind, counts_read, fault_of, image_with, state_read};
 ghost use Rattle.stab_image.specs.Written.{IsImageText};
 
-use crate::fault::ImageFault;
 use crate::image::Image;
 use image_lines::{Counts, TextFault, counts_in, program_in};
 use image_state::{Parts, state_in};
-use image_text::LineFault;
+use image_text::{ImageFault, LineFault};
 use plain_language::PlainState;
 use stab_base::NoMemory;
 use stab_code::Program;

@@ -19,7 +19,7 @@ use Rattle.stab_text.specs.Text.{HasFault, IsTextOf}
 use Rattle.stab_text.proofs.Reading.{not_both, one_fault, one_program}
 use Rattle.stab_words.specs.Asked.{asked}
 use Rattle.stab_words.specs.Command.{most_workers}
-use Rattle.stab_top.specs.Watching.{watched_by}
+use Rattle.book_runs.specs.Watching.{watched_by}
 use Rattle.stab_words.specs.declared.request.DrillArgs.{DrillArgs}
 use Rattle.stab_words.specs.declared.request.MillArgs.{MillArgs}
 use Rattle.stab_words.specs.declared.request.Request.{Request}
@@ -30,19 +30,25 @@ use Rattle.stab_words.specs.declared.request.WordFault.{WordFault}
 use Rattle.trace_text.specs.declared.fault.TraceFault.{TraceFault}
 use Rattle.trace_text.specs.Reading as traces
 use Rattle.trace_text.specs.Text.{entries}
-use Rattle.stab_top.specs.declared.report.Role.{Role}
-use Rattle.stab_top.specs.declared.report.Role.TheVariants as roles
-use Rattle.stab_top.specs.declared.report.Status.{Status}
-use Rattle.stab_top.specs.declared.report.Status.TheVariants.{Done, Held, BadWords, BadText, NoFile, TooBig, FileFault, SinkFault, Spent, NoMemory, BadProbes, BadTrace, BadScript, No, Untyped, NoCut, BadImage}
+use Rattle.call_status.specs.declared.role.Role.{Role}
+use Rattle.call_status.specs.declared.role.Role.TheVariants as roles
+use Rattle.call_status.specs.declared.status.Status.{Status}
+use Rattle.call_status.specs.declared.status.Status.TheVariants.{Done, Held, BadWords, BadText, NoFile, TooBig, FileFault, SinkFault, Spent, NoMemory, BadProbes, BadTrace, BadScript, No, Untyped, NoCut, BadImage}
 use Rattle.sink_lines.specs.Device.{Device}
-use Rattle.stab_top.specs.Ending.{AsReleased, AtTheEnd, CheckEnds, IsJudged, IsTold, RunEnds, VerdictEnds, Writing, milled_by, shown_by}
-use Rattle.stab_top.specs.Drilling.{DrillEnds, PlayEnds}
+use Rattle.book_runs.specs.Ending.{AsReleased, AtTheEnd, Writing, milled_by, shown_by}
+use Rattle.file_commands.specs.Checking.{CheckEnds, CheckSays}
+use Rattle.file_commands.specs.Judging.{IsJudged, IsTold, TraceSays, VerdictEnds, VerifySays}
+use Rattle.stab_top.specs.Running.{RunEnds}
+use Rattle.file_commands.specs.Drilling.{DrillEnds, DrillSays, OrdersSay, PlayEnds}
 use Rattle.stab_top.specs.Milling.{MillEnds}
-use Rattle.stab_top.specs.Loading.{Finds, LoadRefused, Loads, max_bytes}
-use Rattle.stab_top.specs.Reading.{Blames, Form, ReadRefused, probes_form, program_form, trace_form}
-use Rattle.stab_top.specs.Saving.{source_form}
-use Rattle.stab_top.specs.Typing.{TypesEnds}
-use Rattle.stab_top.specs.Call.{Call, CheckSays, CountedFault, CutSays, DrillSays, LastSays, OrdersSay, ReadSays, RequestSays, RunSaysBy, Says, ScriptSays, TraceSays, VerifySays, WordsSay, status_of}
+use Rattle.call_report.specs.Loading.{Finds, LoadRefused, Loads}
+use Rattle.call_status.specs.Role.{max_bytes}
+use Rattle.call_report.specs.Report.{Blames}
+use Rattle.call_report.specs.Reading.{Form, ReadRefused, probes_form, program_form, trace_form}
+use Rattle.file_commands.specs.Saving.{CutSays, source_form}
+use Rattle.file_commands.specs.Typing.{TypesEnds}
+use Rattle.call_report.specs.Call.{Call, CountedFault, LastSays, ReadSays, ScriptSays, status_of}
+use Rattle.stab_top.specs.Call.{RequestSays, RunSaysBy, Says, WordsSay}
 use Rattle.stab_top.specs.Complete.{Checked, IsHeld, IsHeldFor, IsRefused, IsScriptFor, Ran, WasDrilled, WasJudged, WasStuck}
 
 -- what is found, if the files say what they hold
@@ -112,7 +118,7 @@ module _ {Content Fault : Type 0} (form : Form Content Fault) (c : Call) (name b
   fault_refused fault none one faults Said (inl (inl (says, blames), rests)) = failed_refused fault (load_refused form.role (status_of c) c name bytes is says)
   fault_refused fault none one faults Said (inl (inr (loaded, loads, inl have), rests)) =
       let same = one have.fault (subst (λ b. form.HasFault b have.fault) (loaded_is form.role c name bytes loaded c.files_after is loads) have.has) in
-      inl (inl (have.status, subst (λ f. Blames c.outcome.report (form.blames f)) same have.blames))
+      inl (inl (have.status, subst (λ f. Blames c.outcome.report (Some (form.blames f))) same have.blames))
   fault_refused fault none one faults Said (inl (inr (loaded, loads, inr says), rests)) = inl (inr says.0)
   fault_refused fault none one faults Said (inr (content, holds, said)) =
       absurd (none content (subst (λ b. form.IsOf b content) (loaded_is form.role c name bytes holds.bytes faults is holds.loads) holds.is))
@@ -160,40 +166,40 @@ failed_checked c (inr counted) = inr counted.1
 ran : (text_by : BookView → PlainState → List ℕ) (workers : ℕ) (status : Status) (c : Call) (job : JobParts) → RunEnds (AsReleased text_by) workers status job c.outcome → Ran status ⊎ CountedFault c
 ran text_by workers Done c job says = inl tt
 ran text_by workers Held c job says = inl tt
-ran text_by workers BadWords c job says = elim says.writes.rest [ ]
-ran text_by workers BadText c job says = elim says.writes.rest [ ]
-ran text_by workers NoFile c job says = elim says.writes.rest [ ]
-ran text_by workers TooBig c job says = elim says.writes.rest [ ]
-ran text_by workers FileFault c job says = elim says.writes.rest [ ]
-ran text_by workers SinkFault c job says = inr (inr says.writes.1)
+ran text_by workers BadWords c job says = elim says.ends.writes.rest [ ]
+ran text_by workers BadText c job says = elim says.ends.writes.rest [ ]
+ran text_by workers NoFile c job says = elim says.ends.writes.rest [ ]
+ran text_by workers TooBig c job says = elim says.ends.writes.rest [ ]
+ran text_by workers FileFault c job says = elim says.ends.writes.rest [ ]
+ran text_by workers SinkFault c job says = inr (inr says.ends.writes.1)
 ran text_by workers Spent c job says = inl tt
 ran text_by workers NoMemory c job says = inl tt
-ran text_by workers BadProbes c job says = elim says.writes.rest [ ]
-ran text_by workers BadTrace c job says = elim says.writes.rest [ ]
-ran text_by workers BadScript c job says = elim says.writes.rest [ ]
-ran text_by workers No c job says = elim says.writes.rest [ ]
-ran text_by workers Untyped c job says = elim says.writes.rest [ ]
-ran text_by workers NoCut c job says = elim says.writes.rest [ ]
-ran text_by workers BadImage c job says = elim says.writes.rest [ ]
+ran text_by workers BadProbes c job says = elim says.ends.writes.rest [ ]
+ran text_by workers BadTrace c job says = elim says.ends.writes.rest [ ]
+ran text_by workers BadScript c job says = elim says.ends.writes.rest [ ]
+ran text_by workers No c job says = elim says.ends.writes.rest [ ]
+ran text_by workers Untyped c job says = elim says.ends.writes.rest [ ]
+ran text_by workers NoCut c job says = elim says.ends.writes.rest [ ]
+ran text_by workers BadImage c job says = elim says.ends.writes.rest [ ]
 
 traced : (workers : ℕ) (status : Status) (c : Call) (job : JobParts) → RunEnds AtTheEnd workers status job c.outcome → Ran status ⊎ CountedFault c
 traced workers Done c job says = inl tt
 traced workers Held c job says = inl tt
-traced workers BadWords c job says = elim says.writes.rest [ ]
-traced workers BadText c job says = elim says.writes.rest [ ]
-traced workers NoFile c job says = elim says.writes.rest [ ]
-traced workers TooBig c job says = elim says.writes.rest [ ]
-traced workers FileFault c job says = elim says.writes.rest [ ]
-traced workers SinkFault c job says = inr (inr says.writes.1.1)
+traced workers BadWords c job says = elim says.ends.writes.rest [ ]
+traced workers BadText c job says = elim says.ends.writes.rest [ ]
+traced workers NoFile c job says = elim says.ends.writes.rest [ ]
+traced workers TooBig c job says = elim says.ends.writes.rest [ ]
+traced workers FileFault c job says = elim says.ends.writes.rest [ ]
+traced workers SinkFault c job says = inr (inr says.ends.writes.1.1)
 traced workers Spent c job says = inl tt
 traced workers NoMemory c job says = inl tt
-traced workers BadProbes c job says = elim says.writes.rest [ ]
-traced workers BadTrace c job says = elim says.writes.rest [ ]
-traced workers BadScript c job says = elim says.writes.rest [ ]
-traced workers No c job says = elim says.writes.rest [ ]
-traced workers Untyped c job says = elim says.writes.rest [ ]
-traced workers NoCut c job says = elim says.writes.rest [ ]
-traced workers BadImage c job says = elim says.writes.rest [ ]
+traced workers BadProbes c job says = elim says.ends.writes.rest [ ]
+traced workers BadTrace c job says = elim says.ends.writes.rest [ ]
+traced workers BadScript c job says = elim says.ends.writes.rest [ ]
+traced workers No c job says = elim says.ends.writes.rest [ ]
+traced workers Untyped c job says = elim says.ends.writes.rest [ ]
+traced workers NoCut c job says = elim says.ends.writes.rest [ ]
+traced workers BadImage c job says = elim says.ends.writes.rest [ ]
 
 checked : (status : Status) (c : Call) (program : ProgramParts) → CheckEnds status program c.outcome → Checked status ⊎ CountedFault c
 checked Done c program says = inl tt

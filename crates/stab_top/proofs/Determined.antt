@@ -7,8 +7,8 @@ use Rattle.journal_laws.proofs.Undone.{stands_run}
 use Rattle.lone_worker.specs.Desk.{Desk}
 use Rattle.language.specs.Plain.{end_of}
 use Rattle.language.specs.Shown.{shown}
-use Rattle.schedule_drill.specs.declared.fault.DrillFault.{DrillFault}
-use Rattle.schedule_drill.specs.declared.fault.DrillFault.TheVariants as faults
+use Rattle.drill_text.specs.declared.fault.DrillFault.{DrillFault}
+use Rattle.drill_text.specs.declared.fault.DrillFault.TheVariants as faults
 use Rattle.schedule_drill.specs.Drilled as drills
 use Rattle.schedule_drill.specs.Drilled.{ArePlayed, IsDrilled, IsNew, IsOfScript, StopsAt}
 use Rattle.schedule_drill.specs.Played.{Stand}
@@ -20,14 +20,15 @@ use Rattle.stab_text.specs.Text.{IsTextOf}
 use Rattle.stab_words.specs.Asked.{asked}
 use Rattle.stab_words.specs.declared.request.DrillArgs.{DrillArgs}
 use Rattle.stab_words.specs.declared.request.Request.TheVariants.{Drill}
-use Rattle.stab_top.specs.declared.report.Role.TheVariants as roles
-use Rattle.stab_top.specs.declared.report.Status.{Status}
-use Rattle.stab_top.specs.declared.report.Status.TheVariants.{Done, Held, BadWords, BadText, NoFile, TooBig, FileFault, SinkFault, Spent, NoMemory, BadProbes, BadTrace, BadScript, No, Untyped, NoCut, BadImage}
-use Rattle.stab_top.specs.Call.{Call, Says, status_of}
+use Rattle.call_status.specs.declared.role.Role.TheVariants as roles
+use Rattle.call_status.specs.declared.status.Status.{Status}
+use Rattle.call_status.specs.declared.status.Status.TheVariants.{Done, Held, BadWords, BadText, NoFile, TooBig, FileFault, SinkFault, Spent, NoMemory, BadProbes, BadTrace, BadScript, No, Untyped, NoCut, BadImage}
+use Rattle.call_report.specs.Call.{Call, status_of}
+use Rattle.stab_top.specs.Call.{Says}
 use Rattle.stab_top.specs.Complete.{ComesTo, IsHeld, IsScriptFor, IsTextOfDrill, StopsWith}
-use Rattle.stab_top.specs.Drilling.{IsPlayedOut, PlayEnds, drill_text}
-use Rattle.stab_top.specs.Ending.{Refuses}
-use Rattle.stab_top.specs.Reason.{blames_script}
+use Rattle.file_commands.specs.Drilling.{IsPlayedOut, PlayEnds, drill_text}
+use Rattle.call_report.specs.Report.{Refuses}
+use Rattle.call_report.specs.declared.report.Blame.TheVariants as blame
 use Rattle.stab_top.proofs.Complete.{Failed, drill_said}
 
 module _ (c : Call) (job : JobParts) (script : List Line) where
@@ -105,7 +106,7 @@ module _ (c : Call) (job : JobParts) (script : List Line) where
     stops_with : (status : Status) → PlayEnds status job script c.outcome → StopsWith status c fault
     stops_with Done ends = absurd (not_played ends.0)
     stops_with SinkFault ends = absurd (not_played ends.0)
-    stops_with BadScript ends = subst (λ f. Refuses c.outcome (blames_script f)) (one_stop ends.fault ends.first ends.new ends.stops) ends.refuses
+    stops_with BadScript ends = subst (λ f. Refuses c.outcome (Some (blame.Script f))) (one_stop ends.fault ends.first ends.new ends.stops) ends.refuses
     stops_with NoMemory ends = tt
     stops_with Held ends = elim ends [ ]
     stops_with BadWords ends = elim ends [ ]

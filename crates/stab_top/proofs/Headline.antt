@@ -1,5 +1,6 @@
 -- What a call shows of the program that it runs.
-use Rattle.std.proofs.Common.{◌≡◌, inl, inr, ℕ, ℤ, List, [], Option, Some, None, Ok, refl, sym, subst}
+use Rattle.std.proofs.Common.{◌≡◌, ◌∙◌, inl, inr, ℕ, ℤ, List, [], Option, Some, None, Ok, refl, ap, sym, subst}
+use Rattle.std.specs.Prelude.{option_map}
 use Rattle.drill_text.specs.Script.{script_of}
 use Rattle.drill_text.specs.declared.script.Line.{Line}
 use Rattle.stab_code.specs.JobParts.{JobParts, job_of}
@@ -7,7 +8,7 @@ use Rattle.stab_code.specs.Program.{ProgramParts}
 use Rattle.stab_files.specs.Entry.{Entry}
 use Rattle.stab_words.specs.Asked.{asked}
 use Rattle.stab_words.specs.Command.{most_workers}
-use Rattle.stab_top.specs.Watching.{watched_by}
+use Rattle.book_runs.specs.Watching.{watched_by}
 use Rattle.stab_words.specs.declared.request.DrillArgs.{DrillArgs}
 use Rattle.stab_words.specs.declared.request.MillArgs.{MillArgs}
 use Rattle.stab_words.specs.declared.request.Request.{Request}
@@ -22,17 +23,23 @@ use Rattle.commit_book.proofs.Lawful.LawfulBooks.{final_lasts, granted, has_run,
 use Rattle.lone_worker.specs.Solo.{IsWholeSolo}
 use Rattle.schedule_drill.specs.Solo.{IsDrilledByOne}
 use Rattle.schedule_drill.proofs.OneWorker.{drilled_by_one}
-use Rattle.stab_top.specs.declared.report.Report.{Report}
-use Rattle.stab_top.specs.declared.report.Status.{Status}
-use Rattle.stab_top.specs.declared.report.Status.TheVariants.{Done, Held, BadWords, BadText, NoFile, TooBig, FileFault, SinkFault, Spent, NoMemory, BadProbes, BadTrace, BadScript, No, Untyped, NoCut, BadImage}
-use Rattle.stab_top.specs.Call.{RequestSays, Call, DrillSays, LastSays, MillSays, OrdersSay, ReadSays, RunSaysBy, Says, ScriptSays, status_of}
+use Rattle.call_report.specs.declared.report.Report.{Report}
+use Rattle.call_status.specs.declared.status.Status.{Status}
+use Rattle.call_status.specs.declared.status.Status.TheVariants.{Done, Held, BadWords, BadText, NoFile, TooBig, FileFault, SinkFault, Spent, NoMemory, BadProbes, BadTrace, BadScript, No, Untyped, NoCut, BadImage}
+use Rattle.stab_top.specs.Call.{RequestSays, MillSays, RunSaysBy, Says}
+use Rattle.call_report.specs.Call.{Call, LastSays, ReadSays, ScriptSays, status_of}
+use Rattle.file_commands.specs.Drilling.{DrillSays, IsPlayedOut, OrdersSay, PlayEnds}
 use Rattle.sink_lines.specs.Device.{Device, Gains}
-use Rattle.stab_top.specs.Ending.{AsReleased, AtTheEnd, Ends, IsRunOf, IsWritten, Outcome, RestSays, RunEnds, Writing, milled_by, shown_by}
-use Rattle.stab_top.specs.Drilling.{IsPlayedOut, PlayEnds}
+use Rattle.book_runs.specs.Ending.{AsReleased, AtTheEnd, IsRunOf, IsWritten, RestSays, Writing, milled_by, shown_by}
+use Rattle.call_report.specs.Report.{Leaves, Outcome}
+use Rattle.stab_top.specs.Running.{RunEnds}
+use Rattle.book_runs.specs.Ending as runs
+use Rattle.call_report.specs.declared.report.Made.{Made}
+use Rattle.call_report.specs.declared.report.Made.TheVariants as made
 use Rattle.stab_top.specs.Headline.{AsksForRun, IsDrillOfOne, IsEnd, IsOfTheLanguage, ShowsRunOf}
-use Rattle.stab_top.specs.declared.report.Role.{Role}
-use Rattle.stab_top.specs.Loading.{LoadRefused}
-use Rattle.stab_top.specs.Reading.{AreGiven, AreGivenBy, BytesRefused, Form, Holds, ReadRefused, probes_form, program_form}
+use Rattle.call_status.specs.declared.role.Role.{Role}
+use Rattle.call_report.specs.Loading.{LoadRefused}
+use Rattle.call_report.specs.Reading.{AreGiven, AreGivenBy, BytesRefused, Form, Holds, ReadRefused, probes_form, program_form}
 use Rattle.stab_top.proofs.Complete.{request_said}
 
 -- what a book shows
@@ -66,55 +73,66 @@ ends_in workers job book state r =
 
 -- ---- a call
 
-not_there : {A : Type 0} (o : Option BookView) (b : BookView) → o ≡ None → o ≡ Some b → A
+abbrev book_made : Option BookView → Option Made
+book_made left = option_map made.Book left
+
+not_there : {A : Type 0} (o : Option Made) (b : BookView) → o ≡ None → o ≡ Some (made.Book b) → A
 not_there o b none some = absurd (let wrong : ⊥ = cc in wrong)
 
-same_book : (o : Option BookView) (a b : BookView) → o ≡ Some a → o ≡ Some b → a ≡ b
+same_book : (o : Option Made) (a b : BookView) → o ≡ Some (made.Book a) → o ≡ Some (made.Book b) → a ≡ b
 same_book o a b x y = cc
 
-no_bytes_book : {Content Fault : Type 0} (form : Form Content Fault) (report : Report) (bytes : List ℕ) → BytesRefused form report bytes → report.book ≡ None
-no_bytes_book form report bytes (inl have) = have.blames.no_book
-no_bytes_book form report bytes (inr none) = none.1.no_book
+-- a book that is left is the one that is reported
+left_book : (o : Option Made) (left : Option BookView) (a : BookView) → o ≡ book_made left → left ≡ Some a → o ≡ Some (made.Book a)
+left_book o left a is left_is = is ∙ ap book_made left_is
 
-pub no_read_book : {Content Fault : Type 0} (form : Form Content Fault) (report : Report) (files : Device (List Entry)) (name : List ℕ) (faults : ℕ) → ReadRefused form report files name faults → report.book ≡ None
-no_read_book form report files name faults (inl x) = x.1.no_book
+no_bytes_book : {Content Fault : Type 0} (form : Form Content Fault) (report : Report) (bytes : List ℕ) → BytesRefused form report bytes → report.made ≡ None
+no_bytes_book form report bytes (inl have) = have.blames.nothing
+no_bytes_book form report bytes (inr none) = none.1.nothing
+
+pub no_read_book : {Content Fault : Type 0} (form : Form Content Fault) (report : Report) (files : Device (List Entry)) (name : List ℕ) (faults : ℕ) → ReadRefused form report files name faults → report.made ≡ None
+no_read_book form report files name faults (inl x) = x.1.nothing
 no_read_book form report files name faults (inr x) = no_bytes_book form report x.0 x.2
 
-module _ (o : Outcome) (b : BookView) (there : o.report.book ≡ Some b) where
+module _ (o : Outcome) (b : BookView) (there : o.report.made ≡ Some (made.Book b)) where
   module _ (writes : Writing) (workers : ℕ) (job : JobParts) where
-    ends_book : (status : Status) → Ends writes workers status job o → IsOfTheLanguage b
-    ends_book status e = subst IsOfTheLanguage (same_book o.report.book e.book b e.reported there) (of_language workers job e.book e.state e.run)
+    module _ (left : Option BookView) (is : o.report.made ≡ book_made left) where
+      ends_book : (status : Status) → runs.Ends writes workers status job left o.sink o.sink_after → IsOfTheLanguage b
+      ends_book status e = subst IsOfTheLanguage (same_book o.report.made e.book b (left_book o.report.made left e.book is e.is_left) there) (of_language workers job e.book e.state e.run)
+
+      left_of : (status : Status) → runs.RunEnds writes workers status job left o.sink o.sink_after → IsOfTheLanguage b
+      left_of Done e = ends_book Done e
+      left_of Held e = ends_book Held e
+      left_of BadWords e = ends_book BadWords e
+      left_of BadText e = ends_book BadText e
+      left_of NoFile e = ends_book NoFile e
+      left_of TooBig e = ends_book TooBig e
+      left_of FileFault e = ends_book FileFault e
+      left_of SinkFault e = ends_book SinkFault e
+      left_of Spent e = ends_book Spent e
+      left_of NoMemory (inl none) = not_there o.report.made b (is ∙ ap book_made none.0) there
+      left_of NoMemory (inr e) = ends_book NoMemory e
+      left_of BadProbes e = ends_book BadProbes e
+      left_of BadTrace e = ends_book BadTrace e
+      left_of BadScript e = ends_book BadScript e
+      left_of No e = ends_book No e
+      left_of Untyped e = ends_book Untyped e
+      left_of NoCut e = ends_book NoCut e
+      left_of BadImage e = ends_book BadImage e
 
     run_book : (status : Status) → RunEnds writes workers status job o → IsOfTheLanguage b
-    run_book Done e = ends_book Done e
-    run_book Held e = ends_book Held e
-    run_book BadWords e = ends_book BadWords e
-    run_book BadText e = ends_book BadText e
-    run_book NoFile e = ends_book NoFile e
-    run_book TooBig e = ends_book TooBig e
-    run_book FileFault e = ends_book FileFault e
-    run_book SinkFault e = ends_book SinkFault e
-    run_book Spent e = ends_book Spent e
-    run_book NoMemory (inl none) = not_there o.report.book b none.0.no_book there
-    run_book NoMemory (inr e) = ends_book NoMemory e
-    run_book BadProbes e = ends_book BadProbes e
-    run_book BadTrace e = ends_book BadTrace e
-    run_book BadScript e = ends_book BadScript e
-    run_book No e = ends_book No e
-    run_book Untyped e = ends_book Untyped e
-    run_book NoCut e = ends_book NoCut e
-    run_book BadImage e = ends_book BadImage e
+    run_book status e = left_of e.left e.reported.made status e.ends
 
   -- the book of a script that was played
   module _ (job : JobParts) (script : List Line) where
     drilled_book : IsPlayedOut job script o → IsOfTheLanguage b
-    drilled_book end = subst IsOfTheLanguage (same_book o.report.book end.book b end.reported there) (of_shown end.book end.run end.state end.shown)
+    drilled_book end = subst IsOfTheLanguage (same_book o.report.made end.book b end.reported.made there) (of_shown end.book end.run end.state end.shown)
 
     play_book : (status : Status) → PlayEnds status job script o → IsOfTheLanguage b
     play_book Done e = drilled_book e.0
     play_book SinkFault e = drilled_book e.0
-    play_book BadScript e = not_there o.report.book b e.refuses.0.no_book there
-    play_book NoMemory e = not_there o.report.book b e.0.no_book there
+    play_book BadScript e = not_there o.report.made b e.refuses.0.nothing there
+    play_book NoMemory e = not_there o.report.made b e.0.nothing there
     play_book Held e = elim e [ ]
     play_book BadWords e = elim e [ ]
     play_book BadText e = elim e [ ]
@@ -129,9 +147,9 @@ module _ (o : Outcome) (b : BookView) (there : o.report.book ≡ Some b) where
     play_book NoCut e = elim e [ ]
     play_book BadImage e = elim e [ ]
 
-module _ (c : Call) (b : BookView) (there : c.outcome.report.book ≡ Some b) where
+module _ (c : Call) (b : BookView) (there : c.outcome.report.made ≡ Some (made.Book b)) where
   read_book : {Content Fault : Type 0} (form : Form Content Fault) (file : List ℕ) (faults : ℕ) (Said : Content → Type 0) → ((content : Content) → Said content → IsOfTheLanguage b) → ReadSays form c file faults Said → IsOfTheLanguage b
-  read_book form file faults Said all (inl refused) = not_there c.outcome.report.book b (no_read_book form c.outcome.report c.files file c.files_after refused.0) there
+  read_book form file faults Said all (inl refused) = not_there c.outcome.report.made b (no_read_book form c.outcome.report c.files file c.files_after refused.0) there
   read_book form file faults Said all (inr (content, holds, said)) = all content said
 
   file_book : (writes : Writing) (args : RunArgs) (named : Option (List ℕ)) → RunSaysBy writes c args named → IsOfTheLanguage b
@@ -144,7 +162,7 @@ module _ (c : Call) (b : BookView) (there : c.outcome.report.book ≡ Some b) wh
       (λ script ends. run_book c.outcome b there writes args.workers (job_of p script args.fuel args.quantum) (status_of c) ends) said) says
 
   mill_book : (args : MillArgs) → MillSays c args → IsOfTheLanguage b
-  mill_book args (same, inl refused) = not_there c.outcome.report.book b (no_bytes_book program_form c.outcome.report _ refused.0) there
+  mill_book args (same, inl refused) = not_there c.outcome.report.made b (no_bytes_book program_form c.outcome.report _ refused.0) there
   mill_book args (same, inr (p, is, ends)) = run_book c.outcome b there (AsReleased (milled_by args.size)) args.workers _ (status_of c) ends
 
   -- the program was read, then the probe script, then the drill script
@@ -153,7 +171,7 @@ module _ (c : Call) (b : BookView) (there : c.outcome.report.book ≡ Some b) wh
   behind_probes (Some name) Said all says = read_book probes_form name c.files.faults Said all says
 
   orders_book : (args : DrillArgs) (p : ProgramParts) (script : List ℤ) → OrdersSay c args p script → IsOfTheLanguage b
-  orders_book args p script (inl refused) = not_there c.outcome.report.book b refused.1.0.no_book there
+  orders_book args p script (inl refused) = not_there c.outcome.report.made b refused.1.0.nothing there
   orders_book args p script (inr (bytes, loads, ends)) = play_book c.outcome b there (job_of p script args.fuel args.quantum) (script_of bytes) (status_of c) ends
 
   drill_book : (args : DrillArgs) → DrillSays c args → IsOfTheLanguage b
@@ -174,7 +192,7 @@ module _ (c : Call) (b : BookView) (there : c.outcome.report.book ≡ Some b) wh
   built_book (Watch args) asks says = file_book (AsReleased watched_by) (record args { workers = most_workers }) args.probes says.0
 
 -- each reported book of a run is of the language
-pub book_of_language : (words : List (List ℕ)) (c : Call) (request : Request) (b : BookView) → Says words c → asked words ≡ Ok request → AsksForRun request → c.outcome.report.book ≡ Some b → IsOfTheLanguage b
+pub book_of_language : (words : List (List ℕ)) (c : Call) (request : Request) (b : BookView) → Says words c → asked words ≡ Ok request → AsksForRun request → c.outcome.report.made ≡ Some (made.Book b) → IsOfTheLanguage b
 book_of_language words c request b says is asks there = built_book c b there request asks (request_said words c request says is)
 
 -- ---- a run that is over
@@ -193,8 +211,8 @@ module _ (text_by : BookView → PlainState → List ℕ) (c : Call) (args : Run
   abbrev job : JobParts
   job = job_of program script args.fuel args.quantum
 
-  ended : (book : BookView) (state : PlainState) → IsRunOf args.workers job book state → c.outcome.report.book ≡ Some book
-      → IsWritten args.workers (status_of c) book state (text_by book state) c.outcome → ShowsRunOf text_by c args
+  ended : (book : BookView) (state : PlainState) → IsRunOf args.workers job book state → Leaves c.outcome.report (Some (made.Book book))
+      → IsWritten args.workers (status_of c) book state (text_by book state) c.outcome.sink c.outcome.sink_after → ShowsRunOf text_by c args
   ended book state r reported writes = record {
     program = program;
     script = script;
@@ -208,24 +226,40 @@ module _ (text_by : BookView → PlainState → List ℕ) (c : Call) (args : Run
     written = subst (λ (s : PlainState). Gains c.outcome.sink c.outcome.sink_after (text_by book s)) (sym (ends_in args.workers job book state r)) writes.gains;
   }
 
+  module _ (left : Option BookView) (reported : Leaves c.outcome.report (book_made left)) where
+    abbrev EndsSo : Status → Type 0
+    EndsSo status = runs.RunEnds (AsReleased text_by) args.workers status job left c.outcome.sink c.outcome.sink_after
+
+    -- the book that is left is reported
+    with_book : (book : BookView) → left ≡ Some book → Leaves c.outcome.report (Some (made.Book book))
+    with_book book is = subst (λ o. Leaves c.outcome.report (book_made o)) is reported
+
+    written : (status : Status) → status_of c ≡ status → (book : BookView) (state : PlainState) → IsRunOf args.workers job book state → left ≡ Some book
+        → IsWritten args.workers status book state (text_by book state) c.outcome.sink c.outcome.sink_after → ShowsRunOf text_by c args
+    written status is book state run is_left writes =
+        ended book state run (with_book book is_left) (subst (λ (s : Status). IsWritten args.workers s book state (text_by book state) c.outcome.sink c.outcome.sink_after) (sym is) writes)
+
+    ended_by : (status : Status) → status_of c ≡ status → IsEnd status → EndsSo status → ShowsRunOf text_by c args
+    ended_by Done is over e = written Done is e.book e.state e.run e.is_left e.writes
+    ended_by Held is over e = written Held is e.book e.state e.run e.is_left e.writes
+    ended_by Spent is over e = written Spent is e.book e.state e.run e.is_left e.writes
+    ended_by BadWords is over e = elim over [ ]
+    ended_by BadText is over e = elim over [ ]
+    ended_by NoFile is over e = elim over [ ]
+    ended_by TooBig is over e = elim over [ ]
+    ended_by FileFault is over e = elim over [ ]
+    ended_by SinkFault is over e = elim over [ ]
+    ended_by NoMemory is over e = elim over [ ]
+    ended_by BadProbes is over e = elim over [ ]
+    ended_by BadTrace is over e = elim over [ ]
+    ended_by BadScript is over e = elim over [ ]
+    ended_by No is over e = elim over [ ]
+    ended_by Untyped is over e = elim over [ ]
+    ended_by NoCut is over e = elim over [ ]
+    ended_by BadImage is over e = elim over [ ]
+
   ended_run : (status : Status) → status_of c ≡ status → IsEnd status → RunEnds (AsReleased text_by) args.workers status job c.outcome → ShowsRunOf text_by c args
-  ended_run Done is over e = ended e.book e.state e.run e.reported (subst (λ (s : Status). IsWritten args.workers s e.book e.state (text_by e.book e.state) c.outcome) (sym is) e.writes)
-  ended_run Held is over e = ended e.book e.state e.run e.reported (subst (λ (s : Status). IsWritten args.workers s e.book e.state (text_by e.book e.state) c.outcome) (sym is) e.writes)
-  ended_run Spent is over e = ended e.book e.state e.run e.reported (subst (λ (s : Status). IsWritten args.workers s e.book e.state (text_by e.book e.state) c.outcome) (sym is) e.writes)
-  ended_run BadWords is over e = elim over [ ]
-  ended_run BadText is over e = elim over [ ]
-  ended_run NoFile is over e = elim over [ ]
-  ended_run TooBig is over e = elim over [ ]
-  ended_run FileFault is over e = elim over [ ]
-  ended_run SinkFault is over e = elim over [ ]
-  ended_run NoMemory is over e = elim over [ ]
-  ended_run BadProbes is over e = elim over [ ]
-  ended_run BadTrace is over e = elim over [ ]
-  ended_run BadScript is over e = elim over [ ]
-  ended_run No is over e = elim over [ ]
-  ended_run Untyped is over e = elim over [ ]
-  ended_run NoCut is over e = elim over [ ]
-  ended_run BadImage is over e = elim over [ ]
+  ended_run status is over e = ended_by e.left e.reported status is over e.ends
 
 load_no_end : (role : Role) (status : Status) (files : Device (List Entry)) (name : List ℕ) (faults : ℕ) → LoadRefused status role files name faults → IsEnd status → ⊥
 load_no_end role Done files name faults refused over = refused

@@ -25,11 +25,13 @@ use Rattle.trace_text.proofs.Texts.{trace-read}
 use Rattle.trace_verify.specs.declared.verdict.Verdict.TheVariants.{Yes}
 use Rattle.trace_verify.specs.Verdict.{IsOfRun, passes}
 use Rattle.trace_verify.proofs.OneVerdict.{one_verdict}
-use Rattle.stab_top.specs.declared.report.Role.TheVariants as roles
-use Rattle.stab_top.specs.declared.report.Status.TheVariants.{Done, NoMemory}
-use Rattle.stab_top.specs.Call.{Call, CountedFault, Says, status_of}
+use Rattle.call_status.specs.declared.role.Role.TheVariants as roles
+use Rattle.call_status.specs.declared.status.Status.TheVariants.{Done, NoMemory}
+use Rattle.call_report.specs.Call.{Call, CountedFault, status_of}
+use Rattle.stab_top.specs.Call.{Says}
 use Rattle.stab_top.specs.Complete.{HasVerdict, IsHeld, IsScriptFor, WasJudged}
-use Rattle.stab_top.specs.Ending.{IsRunOf, verdict_status}
+use Rattle.book_runs.specs.Ending.{IsRunOf}
+use Rattle.file_commands.specs.Judging.{verdict_status}
 use Rattle.stab_top.proofs.Complete.{trace_is_judged}
 
 -- ---- a journal by its entries

@@ -7,7 +7,7 @@ use Rattle.image_lines.specs.declared.body.TextFault.{TextFault}
 use Rattle.image_lines.specs.CountsText.{counts_text}
 use Rattle.image_lines.specs.Opening.{program_in}
 use Rattle.image_lines.proofs.OpeningLaws.{program_back}
-use Rattle.stab_image.specs.declared.fault.ImageFault.{ImageFault}
+use Rattle.image_text.specs.declared.image_fault.ImageFault.{ImageFault}
 use Rattle.stab_image.specs.Read.{Answer, IsRead, IsReadBehind, IsReadFrom, counts_read}
 use Rattle.stab_image.specs.Written.{IsImageText}
 use Rattle.stab_image.proofs.ReadLaws.{image_back}
@@ -15,11 +15,12 @@ use Rattle.stab_image.proofs.TextOf.{counts_of_image, text_is}
 use Rattle.stab_words.specs.Asked.{asked}
 use Rattle.stab_words.specs.declared.request.Request.TheVariants.{Resume}
 use Rattle.stab_words.specs.declared.request.ResumeArgs.{ResumeArgs}
-use Rattle.stab_top.specs.declared.report.Role.TheVariants as roles
-use Rattle.stab_top.specs.declared.report.Status.{Status}
-use Rattle.stab_top.specs.declared.report.Status.TheVariants.{Done, Held, BadWords, BadText, NoFile, TooBig, FileFault, SinkFault, Spent, NoMemory, BadProbes, BadTrace, BadScript, No, Untyped, NoCut, BadImage}
-use Rattle.stab_top.specs.Resuming.{IsNoImage, ResumeEnds, image_form}
-use Rattle.stab_top.specs.Call.{Call, CountedFault, ResumeSays, Says, status_of}
+use Rattle.call_status.specs.declared.role.Role.TheVariants as roles
+use Rattle.call_status.specs.declared.status.Status.{Status}
+use Rattle.call_status.specs.declared.status.Status.TheVariants.{Done, Held, BadWords, BadText, NoFile, TooBig, FileFault, SinkFault, Spent, NoMemory, BadProbes, BadTrace, BadScript, No, Untyped, NoCut, BadImage}
+use Rattle.file_commands.specs.Resuming.{image_form, IsNoImage, ResumeEnds, ResumeSays}
+use Rattle.call_report.specs.Call.{Call, CountedFault, status_of}
+use Rattle.stab_top.specs.Call.{Says}
 use Rattle.stab_top.specs.Complete.{HasResumed, IsHeld, IsRefused}
 use Rattle.stab_top.proofs.Complete.{Failed, err_is, fault_refused, ok_is, request_said, said_of}
 

@@ -18,13 +18,14 @@ use Rattle.trace_text.specs.Text.{entries}
 use Rattle.trace_verify.specs.declared.verdict.Verdict.TheVariants.{Yes}
 use Rattle.trace_verify.specs.Verdict.{passes}
 use Rattle.trace_verify.proofs.OneVerdict.{one_verdict}
-use Rattle.stab_top.specs.declared.report.Role.TheVariants as roles
-use Rattle.stab_top.specs.declared.report.Status.{Status}
-use Rattle.stab_top.specs.declared.report.Status.TheVariants.{Done, Held, BadWords, BadText, NoFile, TooBig, FileFault, SinkFault, Spent, NoMemory, BadProbes, BadTrace, BadScript, No, Untyped, NoCut, BadImage}
-use Rattle.stab_top.specs.declared.saving.Source.{Source}
-use Rattle.stab_top.specs.Saving.{SaveEnds, source_form}
-use Rattle.stab_top.specs.Reading.{probes_form, trace_form}
-use Rattle.stab_top.specs.Call.{Call, CountedFault, CutSays, LastSays, SaveSays, Says, ScriptSays, status_of}
+use Rattle.call_status.specs.declared.role.Role.TheVariants as roles
+use Rattle.call_status.specs.declared.status.Status.{Status}
+use Rattle.call_status.specs.declared.status.Status.TheVariants.{Done, Held, BadWords, BadText, NoFile, TooBig, FileFault, SinkFault, Spent, NoMemory, BadProbes, BadTrace, BadScript, No, Untyped, NoCut, BadImage}
+use Rattle.file_commands.specs.declared.saving.Source.{Source}
+use Rattle.file_commands.specs.Saving.{CutSays, SaveEnds, SaveSays, source_form}
+use Rattle.call_report.specs.Reading.{probes_form, trace_form}
+use Rattle.call_report.specs.Call.{Call, CountedFault, LastSays, ScriptSays, status_of}
+use Rattle.stab_top.specs.Call.{Says}
 use Rattle.stab_top.specs.Complete.{IsHeld, IsRefused, IsSavedAs, IsScriptFor}
 use Rattle.stab_top.proofs.Complete.{Failed, behind_program, err_is, failed_refused, fault_refused, not_ok, probes_refused, request_said, said_of}
 use Rattle.stab_top.proofs.OwnTraces.{same_events, same_ok, same_run}

@@ -13,12 +13,13 @@ use Rattle.stab_types.specs.Typed.{IsTyped}
 use Rattle.stab_text.specs.Text.{IsTextOf}
 use Rattle.stab_words.specs.Asked.{asked}
 use Rattle.stab_words.specs.declared.request.Request.TheVariants.{Types}
-use Rattle.stab_top.specs.declared.report.Role.TheVariants as roles
-use Rattle.stab_top.specs.declared.report.Status.{Status}
-use Rattle.stab_top.specs.declared.report.Status.TheVariants.{Done, Held, BadWords, BadText, NoFile, TooBig, FileFault, SinkFault, Spent, NoMemory, BadProbes, BadTrace, BadScript, No, Untyped, NoCut, BadImage}
-use Rattle.stab_top.specs.Call.{Call, CountedFault, Says, TypesSays, status_of}
+use Rattle.call_status.specs.declared.role.Role.TheVariants as roles
+use Rattle.call_status.specs.declared.status.Status.{Status}
+use Rattle.call_status.specs.declared.status.Status.TheVariants.{Done, Held, BadWords, BadText, NoFile, TooBig, FileFault, SinkFault, Spent, NoMemory, BadProbes, BadTrace, BadScript, No, Untyped, NoCut, BadImage}
+use Rattle.call_report.specs.Call.{Call, CountedFault, status_of}
+use Rattle.stab_top.specs.Call.{Says}
+use Rattle.file_commands.specs.Typing.{TypesEnds, TypesSays}
 use Rattle.stab_top.specs.Complete.{IsHeld, TypesFound}
-use Rattle.stab_top.specs.Typing.{TypesEnds}
 use Rattle.stab_top.proofs.Complete.{Failed, program_said, request_said}
 
 types_found : (status : Status) (c : Call) (program : ProgramParts) → TypesEnds status program c.outcome → TypesFound status program ⊎ CountedFault c

@@ -1,40 +1,46 @@
 -- What is said of words if memory ran out.
-use Rattle.std.proofs.Common.{◌≡◌, inl, inr, ℕ, List, [], Option, Some, None, Result, Ok, Err, IfSome, sym, subst}
+use Rattle.std.proofs.Common.{◌≡◌, inl, inr, ℕ, List, [], Option, Some, None, Result, Ok, Err, sym, subst}
 use Rattle.stab_code.specs.JobParts.{job_of}
 use Rattle.stab_words.specs.Asked.{asked}
 use Rattle.stab_words.specs.Command.{most_workers}
 use Rattle.stab_journal.specs.declared.event.Event.{Event}
 use Rattle.commit_book.specs.Book.{BookView}
 use Rattle.turn_floor.specs.Served.{AreOf}
-use Rattle.stab_top.specs.Watching.{watched_by}
+use Rattle.book_runs.specs.Watching.{watched_by}
 use Rattle.stab_words.specs.declared.request.Request.{Request}
 use Rattle.stab_words.specs.declared.request.Request.TheVariants.{Run, Trace, Verify, Drill, Check, Mill, Types, Save, Resume, Watch}
 use Rattle.stab_words.specs.declared.request.RunArgs.{RunArgs}
 use Rattle.stab_words.specs.declared.request.WordFault.{WordFault}
-use Rattle.stab_top.specs.declared.report.Status.TheVariants.{NoMemory}
-use Rattle.stab_top.specs.Reason.{blames_file, no_blame}
-use Rattle.stab_top.specs.Loading.{LoadRefused, blamed}
-use Rattle.stab_top.specs.Reading.{Blames, Form, probes_form, program_form}
-use Rattle.stab_top.specs.Ending.{AsReleased, AtTheEnd, CheckEnds, RunEnds, Writing, shown_by}
-use Rattle.stab_top.specs.Typing.{TypesEnds}
-use Rattle.stab_top.specs.Saving.{source_form}
-use Rattle.stab_top.specs.Resuming.{ResumeEnds, image_form}
-use Rattle.stab_top.specs.Call.{Call, CutSays, FaultSays, LastSays, ReadSays, RequestSays, RunSaysBy, Says, OrdersSay, ScriptSays, TraceSays, Untouched, WordsSay, status_of}
+use Rattle.call_status.specs.declared.status.Status.TheVariants.{NoMemory}
+use Rattle.call_report.specs.Loading.{LoadRefused, blamed}
+use Rattle.call_report.specs.Report.{Blames}
+use Rattle.call_report.specs.Reading.{Form, probes_form, program_form}
+use Rattle.book_runs.specs.Ending.{AsReleased, AtTheEnd, Writing, shown_by}
+use Rattle.file_commands.specs.Checking.{CheckEnds}
+use Rattle.stab_top.specs.Running.{IfBook, RunEnds}
+use Rattle.call_report.specs.declared.report.Made.{Made}
+use Rattle.file_commands.specs.Typing.{TypesEnds}
+use Rattle.file_commands.specs.Saving.{CutSays, source_form}
+use Rattle.file_commands.specs.Resuming.{ResumeEnds, image_form}
+use Rattle.call_report.specs.Call.{Call, LastSays, ReadSays, ScriptSays, Untouched, status_of}
+use Rattle.stab_top.specs.Call.{FaultSays, RequestSays, RunSaysBy, Says, WordsSay}
+use Rattle.file_commands.specs.Drilling.{OrdersSay}
+use Rattle.file_commands.specs.Judging.{TraceSays}
 
 -- no file was loaded, because memory ran out
-unread : {Content Fault : Type 0} (form : Form Content Fault) (c : Call) (file : List ℕ) (faults : ℕ) (Said : Content → Type 0) → status_of c ≡ NoMemory → Untouched c no_blame → ReadSays form c file faults Said
+unread : {Content Fault : Type 0} (form : Form Content Fault) (c : Call) (file : List ℕ) (faults : ℕ) (Said : Content → Type 0) → status_of c ≡ NoMemory → Untouched c None → ReadSays form c file faults Said
 unread form c file faults Said none is =
-    inl (inl (subst (λ s. LoadRefused s form.role c.files file c.files_after) (sym none) is.no_fault, subst (λ s. Blames c.outcome.report (blames_file (blamed s form.role))) (sym none) is.refuses.0), is.refuses.1)
+    inl (inl (subst (λ s. LoadRefused s form.role c.files file c.files_after) (sym none) is.no_fault, subst (λ s. Blames c.outcome.report (blamed s form.role)) (sym none) is.refuses.0), is.refuses.1)
 
-run_says : (writes : Writing) (args : RunArgs) (named : Option (List ℕ)) (c : Call) → status_of c ≡ NoMemory → Untouched c no_blame → RunSaysBy writes c args named
+run_says : (writes : Writing) (args : RunArgs) (named : Option (List ℕ)) (c : Call) → status_of c ≡ NoMemory → Untouched c None → RunSaysBy writes c args named
 run_says writes args None c none is = unread program_form c args.file c.files_after (λ p. RunEnds writes args.workers (status_of c) (job_of p [] args.fuel args.quantum) c.outcome) none is
 run_says writes args (Some name) c none is = unread program_form c args.file c.files.faults (λ p. LastSays probes_form c name (λ s. RunEnds writes args.workers (status_of c) (job_of p s args.fuel args.quantum) c.outcome)) none is
 
 -- no book, no events
-pub no_events : (P : List Event → Type 0) (book : Option BookView) → book ≡ None → IfSome book (λ b. P b.history.events)
-no_events P book is = subst (λ o. IfSome o (λ (b : BookView). P b.history.events)) (sym is) tt
+pub no_events : (P : List Event → Type 0) (made : Option Made) → made ≡ None → IfBook made (λ b. P b.history.events)
+no_events P made is = subst (λ o. IfBook o (λ (b : BookView). P b.history.events)) (sym is) tt
 
-request_says : (request : Request) (c : Call) → status_of c ≡ NoMemory → Untouched c no_blame → RequestSays c request
+request_says : (request : Request) (c : Call) → status_of c ≡ NoMemory → Untouched c None → RequestSays c request
 request_says (Run args) c none is = run_says (AsReleased shown_by) args args.probes c none is
 request_says (Trace args) c none is = run_says AtTheEnd args args.probes c none is
 request_says (Verify args) c none is = unread program_form c args.file c.files.faults (λ p. ScriptSays c args.probes (λ s. TraceSays c args.trace p s)) none is
@@ -43,15 +49,15 @@ request_says (Drill args) c none is = unread program_form c args.file c.files.fa
 request_says (Mill args) c none is = (is.no_fault, inl (inr (none, is.refuses.0), is.refuses.1))
 request_says (Types file) c none is = unread program_form c file c.files_after (λ p. TypesEnds (status_of c) p c.outcome) none is
 request_says (Save args) c none is = unread source_form c args.file c.files.faults (λ s. ScriptSays c args.probes (λ script. CutSays c args s script)) none is
-request_says (Resume args) c none is = unread image_form c args.image c.files_after (λ image. ResumeEnds (status_of c) image args.fuel c.outcome) none is
-request_says (Watch args) c none is = (run_says (AsReleased watched_by) (record args { workers = most_workers }) args.probes c none is, no_events (AreOf args.workers) c.outcome.report.book is.refuses.0.no_book)
+request_says (Resume args) c none is = unread image_form c args.image c.files_after (λ image. ResumeEnds (status_of c) image args.fuel args.quantum c.outcome) none is
+request_says (Watch args) c none is = (run_says (AsReleased watched_by) (record args { workers = most_workers }) args.probes c none is, no_events (AreOf args.workers) c.outcome.report.made is.refuses.0.nothing)
 
-words_say : (meant : Result Request WordFault) (c : Call) → status_of c ≡ NoMemory → Untouched c no_blame → WordsSay meant c
+words_say : (meant : Result Request WordFault) (c : Call) → status_of c ≡ NoMemory → Untouched c None → WordsSay meant c
 words_say (Ok request) c none is = request_says request c none is
 words_say (Err fault) c none is = subst (λ s. FaultSays s c fault) (sym none) is
 
 -- there was no memory for the words, whatever they mean
-pub no_memory_call : (words : List (List ℕ)) (c : Call) → status_of c ≡ NoMemory → Untouched c no_blame → Says words c
+pub no_memory_call : (words : List (List ℕ)) (c : Call) → status_of c ≡ NoMemory → Untouched c None → Says words c
 no_memory_call words c none is = words_say (asked words) c none is
 
 -- what is said of a request by its command

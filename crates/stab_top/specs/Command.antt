@@ -1,16 +1,19 @@
 -- What an execution of the program says, by its exit status.
-use Rattle.std.specs.Prelude.{◌≡◌, ℕ, List, Option, ◌⊎◌}
+use Rattle.std.specs.Prelude.{◌≡◌, ℕ, List, [], Option, ◌⊎◌}
 use Rattle.stab_files.specs.Entry.{Entry}
-use Rattle.stab_top.specs.declared.report.Report.{Report}
-use Rattle.stab_top.specs.declared.report.Status.{Status}
-use Rattle.stab_top.specs.Call.{Call, Says}
+use Rattle.call_report.specs.declared.report.Report.{Report}
+use Rattle.call_status.specs.declared.status.Status.{Status}
+use Rattle.call_report.specs.Call.{Call}
+use Rattle.stab_top.specs.Call.{Says}
 use Rattle.sink_lines.specs.Device.{Device, Rests, Writes, device}
-use Rattle.stab_top.specs.Reason.{Blame, blame_of, no_blame, reason_text, status_number}
+use Rattle.call_report.specs.Reason.{cause_words, reason_text}
+use Rattle.call_status.specs.Status.{status_number}
 
--- the exit status is the status's number; the reason line was written to standard error, or a prefix up to a fault, or nothing
-abbrev pub EndsWith : Status → Blame → ℕ → Device (List ℕ) → Device (List ℕ) → Type 0
-EndsWith status blame number errors after =
-    (number ≡ status_number status) × (Writes errors after (reason_text status blame) ⊎ Rests errors after)
+-- the exit status is the status's number; the reason line with this cause was written to standard error, or a prefix up to a
+-- fault, or nothing
+abbrev pub EndsWith : Status → List ℕ → ℕ → Device (List ℕ) → Device (List ℕ) → Type 0
+EndsWith status cause number errors after =
+    (number ≡ status_number status) × (Writes errors after (reason_text status cause) ⊎ Rests errors after)
 
 -- the files, the output and standard error before and after an execution of the program, and its exit status
 pub record Execution : Type 0 where
@@ -46,10 +49,10 @@ call_with e report = record {
 -- there were no words: the files counted no fault, and nothing was written except the reason line of this status
 abbrev pub EndsWithoutWords : Status → Execution → Type 0
 EndsWithoutWords status e =
-    EndsWith status no_blame e.number e.errors e.errors_after × Rests e.sink e.sink_after × (e.files_after ≡ e.files.faults)
+    EndsWith status [] e.number e.errors e.errors_after × Rests e.sink e.sink_after × (e.files_after ≡ e.files.faults)
 
 -- there is a report that says what it must of these words, and the program ended with its status and cause
 abbrev pub Executes : List (List ℕ) → Execution → Type 0
 Executes words e =
-    (report : Report) × EndsWith report.status (blame_of report) e.number e.errors e.errors_after
+    (report : Report) × EndsWith report.status (cause_words report) e.number e.errors e.errors_after
     × Says words (call_with e report)

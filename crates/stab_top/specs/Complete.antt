@@ -2,12 +2,9 @@
 use Rattle.std.specs.Prelude.{◌≡◌, ℕ, ℤ, ◌<◌, ◌≤◌, List, [], ◌++◌, length, Option, Some, None, ◌⊎◌}
 use Rattle.commit_book.specs.Book.{BookView}
 use Rattle.drill_text.specs.declared.script.Line.{Line}
-use Rattle.image_commands.specs.Cuts.{cuts_in}
-use Rattle.image_commands.specs.Saved.{IsImageOf}
-use Rattle.image_laws.specs.Image.{Image}
 use Rattle.lone_worker.specs.Desk.{desk_of}
 use Rattle.language.specs.Plain.{PlainState, end_of}
-use Rattle.schedule_drill.specs.declared.fault.DrillFault.{DrillFault}
+use Rattle.drill_text.specs.declared.fault.DrillFault.{DrillFault}
 use Rattle.stab_base.specs.declared.numbers.FnId.{FnId}
 use Rattle.stab_code.specs.JobParts.{JobParts}
 use Rattle.stab_code.specs.Program.{ProgramParts}
@@ -19,18 +16,24 @@ use Rattle.stab_words.specs.declared.request.Request.{Request}
 use Rattle.stab_words.specs.declared.request.Request.TheVariants.{Check, Drill, Run, Save, Trace as WritesTrace, Types, Verify, Watch}
 use Rattle.trace_verify.specs.declared.verdict.Verdict.{Verdict}
 use Rattle.trace_verify.specs.Verdict.{IsOfRun, IsVerdict}
-use Rattle.stab_top.specs.declared.report.Status.{Status}
-use Rattle.stab_top.specs.declared.report.Status.TheVariants.{BadScript, Done, FileFault, Held, NoCut, NoMemory, No, SinkFault, Spent, Untyped}
-use Rattle.stab_top.specs.declared.report.Role.{Role}
-use Rattle.stab_top.specs.declared.report.Role.TheVariants.{Program, Probes}
-use Rattle.stab_top.specs.Call.{Call, CountedFault, status_of}
-use Rattle.stab_top.specs.Drilling.{IsPlayedOut, IsStuck, drill_text}
+use Rattle.image_commands.specs.Cuts.{cuts_in}
+use Rattle.image_commands.specs.Saved.{IsImageOf}
+use Rattle.image_laws.specs.Image.{Image}
+use Rattle.call_status.specs.declared.status.Status.{Status}
+use Rattle.call_status.specs.declared.status.Status.TheVariants.{BadScript, Done, FileFault, Held, NoCut, NoMemory, No, SinkFault, Spent, Untyped}
+use Rattle.call_status.specs.declared.role.Role.{Role}
+use Rattle.call_status.specs.declared.role.Role.TheVariants.{Program, Probes}
+use Rattle.call_report.specs.Call.{Call, CountedFault, status_of}
+use Rattle.file_commands.specs.Drilling.{IsPlayedOut, IsStuck, drill_text}
+use Rattle.call_report.specs.declared.report.Blame.TheVariants as blame
+use Rattle.call_report.specs.declared.report.Made.TheVariants as made
 use Rattle.sink_lines.specs.Device.{Gains, GainsPrefix}
-use Rattle.stab_top.specs.Ending.{Outcome, Refuses, shown_by, verdict_status}
-use Rattle.stab_top.specs.Loading.{max_bytes}
-use Rattle.stab_top.specs.Reading.{Blames, Form, probes_form, trace_form}
-use Rattle.stab_top.specs.Reason.{blames_script}
-use Rattle.stab_top.specs.Resuming.{HasWritten}
+use Rattle.call_report.specs.Report.{Blames, Leaves, Outcome, Refuses}
+use Rattle.book_runs.specs.Ending.{shown_by}
+use Rattle.file_commands.specs.Judging.{verdict_status}
+use Rattle.file_commands.specs.Resuming.{HasWritten}
+use Rattle.call_status.specs.Role.{max_bytes}
+use Rattle.call_report.specs.Reading.{Form, probes_form, trace_form}
 
 -- the files say that they hold the bytes under the name, and the bytes are within the limit for their role
 pub record IsHeld (role : Role) (c : Call) (name bytes : List ℕ) : Type 0 where
@@ -79,7 +82,7 @@ TypesFound _ program = ⊥
 
 -- the bytes were refused for this fault, or memory ran out
 abbrev pub IsRefused : {Content Fault : Type 0} → Form Content Fault → Call → Fault → Type 0
-IsRefused form c fault = ((status_of c ≡ form.bad) × Blames c.outcome.report (form.blames fault)) ⊎ (status_of c ≡ NoMemory)
+IsRefused form c fault = ((status_of c ≡ form.bad) × Blames c.outcome.report (Some (form.blames fault))) ⊎ (status_of c ≡ NoMemory)
 
 -- the bytes are the trace of a history, and the status is that of its verdict
 pub record HasVerdict (c : Call) (program : ProgramParts) (script : List ℤ) (bytes : List ℕ) : Type 0 where
@@ -112,7 +115,7 @@ WasDrilled c job script = WasPlayed c job script ⊎ (WasStuck c job script ⊎ 
 -- this book end that no undo took back
 pub record IsTextOfDrill (c : Call) (lines : List ℕ) (book : BookView) (text : List ℕ) : Type 0 where
   pub last : BookView
-  pub reported : c.outcome.report.book ≡ Some last
+  pub reported : Leaves c.outcome.report (Some (made.Book last))
   pub desk : desk_of last ≡ desk_of book
   pub state : PlainState
   pub ends : end_of book.job.program (run_of book.history.events) ≡ Some state
@@ -130,7 +133,7 @@ ComesTo _ c lines book = ⊥
 
 -- the same if a script can't be played for this fault: the fault is blamed, and nothing was written
 abbrev pub StopsWith : Status → Call → DrillFault → Type 0
-StopsWith BadScript c fault = Refuses c.outcome (blames_script fault)
+StopsWith BadScript c fault = Refuses c.outcome (Some (blame.Script fault))
 StopsWith FileFault c fault = CountedFault c
 StopsWith NoMemory c fault = Unit {0}
 StopsWith _ c fault = ⊥

@@ -19,12 +19,14 @@ use Rattle.language.specs.Standing.{event}
 use Rattle.commit_book.specs.Book.{BookView}
 use Rattle.commit_book.specs.Headline.{HasRun, IsGranted, StandsIn}
 use Rattle.schedule_drill.specs.Solo.{IsDrilledByOne}
-use Rattle.stab_top.specs.declared.report.Status.{Status}
-use Rattle.stab_top.specs.declared.report.Status.TheVariants.{Done, Held, Spent}
-use Rattle.stab_top.specs.Call.{Call, status_of}
+use Rattle.call_status.specs.declared.status.Status.{Status}
+use Rattle.call_status.specs.declared.status.Status.TheVariants.{Done, Held, Spent}
+use Rattle.call_report.specs.Call.{Call, status_of}
+use Rattle.call_report.specs.declared.report.Made.TheVariants as made
+use Rattle.call_report.specs.Report.{Leaves}
 use Rattle.sink_lines.specs.Device.{Gains}
-use Rattle.stab_top.specs.Ending.{RestSays}
-use Rattle.stab_top.specs.Reading.{AreGiven}
+use Rattle.book_runs.specs.Ending.{RestSays}
+use Rattle.call_report.specs.Reading.{AreGiven}
 
 -- The journal without its undone steps is, in order, a run of the plain language from the start state that ends in exactly the
 -- book's threads, channels, references and output;
@@ -70,7 +72,7 @@ pub record ShowsRunOf (text_by : BookView → PlainState → List ℕ) (c : Call
   pub script : List ℤ
   pub given : AreGiven c.files c.files_after args program script
   pub book : BookView
-  pub reported : c.outcome.report.book ≡ Some book
+  pub reported : Leaves c.outcome.report (Some (made.Book book))
   pub of_job : book.job ≡ job_of program script args.fuel args.quantum
   pub says : IsOfTheLanguage book
   pub rest : RestSays (status_of c) book says.run.end

@@ -1,15 +1,5 @@
-pub mod Reason
-pub mod Watching
-pub mod Loading
-pub mod Reading
-pub mod Ending
-pub mod Rounds
-pub mod Playing
+pub mod Running
 pub mod Milling
-pub mod Drilling
-pub mod Typing
-pub mod Saving
-pub mod Resuming
 pub mod Call
 pub mod Command
 pub mod Complete

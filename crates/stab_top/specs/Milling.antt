@@ -5,10 +5,12 @@ use Rattle.stab_code.specs.Program.{ProgramParts}
 use Rattle.stab_text.specs.Text.{IsTextOf}
 use Rattle.stab_words.specs.declared.request.MillArgs.{MillArgs}
 use Rattle.mill_text.specs.Mill.{mill_script, mill_text}
-use Rattle.stab_top.specs.declared.report.Status.{Status}
+use Rattle.call_status.specs.declared.status.Status.{Status}
 use Rattle.sink_lines.specs.Device.{Rests}
-use Rattle.stab_top.specs.Ending.{AsReleased, Outcome, RunEnds, milled_by}
-use Rattle.stab_top.specs.Reading.{BytesRefused, program_form}
+use Rattle.book_runs.specs.Ending.{AsReleased, milled_by}
+use Rattle.call_report.specs.Report.{Outcome}
+use Rattle.stab_top.specs.Running.{RunEnds}
+use Rattle.call_report.specs.Reading.{BytesRefused, program_form}
 
 -- the mill's text of this size was refused and nothing written; or it is a program, which was run with the mill's script
 abbrev pub MillEnds : Status → MillArgs → Outcome → Type 0

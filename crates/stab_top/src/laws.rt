@@ -10,15 +10,15 @@ ghost use Rattle.mill_text.specs.Mill.{mill_text};
 ghost use Rattle.language.specs.Plain.{PlainState};
 ghost use Rattle.language.specs.Standing.{event};
 ghost use Rattle.schedule_drill.specs.Drilled.{IsDrilled, IsOfScript, IsRefused as IsUnplayed};
-ghost use Rattle.schedule_drill.specs.declared.fault.DrillFault.{DrillFault};
+ghost use Rattle.drill_text.specs.declared.fault.DrillFault.{DrillFault};
 ghost use Rattle.image_laws.specs.Image.{Image};
+ghost use Rattle.image_text.specs.declared.image_fault.ImageFault.{ImageFault};
 ghost use Rattle.stab_base.specs.declared.fault.Fault.TheVariants.{WrongKind};
 ghost use Rattle.stab_base.specs.declared.numbers.Seq.{Seq};
 ghost use Rattle.stab_base.specs.declared.numbers.ThreadId.{ThreadId};
 ghost use Rattle.probe_text.specs.declared.fault.ProbesFault.{ProbesFault};
 ghost use Rattle.stab_code.specs.JobParts.{JobParts, job_of};
 ghost use Rattle.stab_code.specs.Program.{ProgramParts};
-ghost use Rattle.stab_image.specs.declared.fault.ImageFault.{ImageFault};
 ghost use Rattle.stab_journal.specs.declared.event.Event.{Event};
 ghost use Rattle.stab_journal.specs.declared.event.Numbered.{Numbered};
 ghost use Rattle.stab_journal.specs.declared.event.What.TheVariants.{Undo};
@@ -36,21 +36,23 @@ ghost use Rattle.stab_words.specs.declared.request.DrillArgs.{DrillArgs};
 ghost use Rattle.stab_words.specs.declared.request.MillArgs.{MillArgs};
 ghost use Rattle.stab_words.specs.declared.request.Request.TheVariants.{Check, Drill, Mill, Resume, Run, Save, Trace, Types, Verify, Watch};
 ghost use Rattle.stab_words.specs.declared.request.ResumeArgs.{ResumeArgs};
-ghost use Rattle.stab_words.specs.declared.request.RunArgs.{RunArgs as Args};
 ghost use Rattle.stab_words.specs.declared.request.SaveArgs.{SaveArgs};
+ghost use Rattle.stab_words.specs.declared.request.RunArgs.{RunArgs as Args};
 ghost use Rattle.stab_words.specs.declared.request.VerifyArgs.{VerifyArgs};
 ghost use Rattle.trace_text.specs.declared.fault.TraceFault.{TraceFault};
 ghost use Rattle.trace_text.specs.Text.{trace};
-ghost use Rattle.stab_top.specs.Call.{Call, CountedFault, Says, status_of};
+ghost use Rattle.call_report.specs.Call.{Call, CountedFault, status_of};
+ghost use Rattle.stab_top.specs.Call.{Says};
 ghost use Rattle.stab_top.specs.Complete.{Checked, ComesTo, HasResumed, IsHeld, IsHeldFor, IsRefused, IsSavedAs, IsScriptFor, Ran, StopsWith, TypesFound, WasDrilled, WasJudged, WasStuck};
-ghost use Rattle.stab_top.specs.Ending.{IsRunOf, shown_by};
-ghost use Rattle.stab_top.specs.Watching.{watched_by};
+ghost use Rattle.book_runs.specs.Ending.{IsRunOf, shown_by};
+ghost use Rattle.book_runs.specs.Watching.{watched_by};
 ghost use Rattle.stab_words.specs.Command.{most_workers};
 ghost use Rattle.stab_top.specs.Headline.{AsksForRun, IsEnd, IsOfTheLanguage, ShowsRunOf};
-ghost use Rattle.stab_top.specs.Reading.{probes_form, program_form, trace_form};
-ghost use Rattle.stab_top.specs.Resuming.{image_form};
-ghost use Rattle.stab_top.specs.declared.report.Role.TheVariants.{Image as ImageFile, Probes as ProbesFile, Program as ProgramFile, Script as ScriptFile, Trace as TraceFile};
-ghost use Rattle.stab_top.specs.declared.report.Status.TheVariants.{Done as DoneStatus, NoMemory as NoMemoryStatus};
+ghost use Rattle.call_report.specs.Reading.{probes_form, program_form, trace_form};
+ghost use Rattle.file_commands.specs.Resuming.{image_form};
+ghost use Rattle.call_report.specs.declared.report.Made.TheVariants as made;
+ghost use Rattle.call_status.specs.declared.role.Role.TheVariants.{Image as ImageFile, Probes as ProbesFile, Program as ProgramFile, Script as ScriptFile, Trace as TraceFile};
+ghost use Rattle.call_status.specs.declared.status.Status.TheVariants.{Done as DoneStatus, NoMemory as NoMemoryStatus};
 
 use scope_check::programs_are_valid;
 use stab_types::typed_programs_never_go_wrong;
@@ -77,7 +79,7 @@ pub fn watched_runs_are_of_the_language()
 /// whatever the status.
 pub fn books_are_of_the_language()
     ensures { (words : List (List ℕ)) (c : Call) (request : Request) (book : BookView) → Says words c →
-        asked words ≡ Ok request → AsksForRun request → c.outcome.report.book ≡ Some book → IsOfTheLanguage book }
+        asked words ≡ Ok request → AsksForRun request → c.outcome.report.made ≡ Some (made.Book book) → IsOfTheLanguage book }
 {}
 
 /// Two consequences for such a book: an undo takes back only steps that depend on its section's entry; and the book has printed

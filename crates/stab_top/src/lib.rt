@@ -1,25 +1,11 @@
 //! The program's one call: it takes the words, the files and a sink, and returns a report.
 #![tactic(auto)]
 
-mod checking;
-mod drilling;
-mod judging;
 mod laws;
-mod loading;
 mod milling;
-mod playing;
 mod program;
-mod reading;
-mod reason_line;
-mod report;
-mod resuming;
-mod rounds;
 mod running;
-mod saving;
-mod sharing;
-mod silent;
 mod top;
-mod typing;
 mod watching;
 
 pub use laws::{
@@ -32,7 +18,5 @@ pub use laws::{
     undos_and_output, watched_runs_are_of_the_language,
 };
 pub use program::command;
-pub use reason_line::reason;
-pub use report::{Report, Role, Status};
 pub use top::stab;
 pub use worker_lease::Gate;

@@ -1,18 +1,19 @@
 //! The program, from its arguments to its exit status.
-ghost use Rattle.std.specs.Prelude.{◌≡◌, ◌≢◌, drop, map as each, string_bytes, IfOk, IfErr};
+ghost use Rattle.std.specs.Prelude.{◌≡◌, ◌≢◌, drop, map as each, string_bytes, IfOk, IfErr, None};
 ghost use Rattle.std.specs.IoError.{error_kind};
 ghost use Rattle.std.specs.Vec.Iter.{into_iter_items};
-ghost use Rattle.stab_top.specs.Call.{Says, call_of};
+ghost use Rattle.stab_top.specs.Call.{Says};
+ghost use Rattle.call_report.specs.Call.{call_of};
 ghost use Rattle.stab_top.specs.Command.{EndsWith, EndsWithoutWords, Executes, execution_of};
 ghost use Rattle.sink_lines.specs.Device.{Rests, Writes, device};
-ghost use Rattle.stab_top.specs.Ending.{outcome_of};
-ghost use Rattle.stab_top.specs.Reading.{Blames};
-ghost use Rattle.stab_top.specs.Reason.{blame_of, no_blame, reason_text, status_number};
-ghost use Rattle.stab_top.specs.declared.report.Status.TheVariants.{BadWords, NoMemory as OutOfMemory};
+ghost use Rattle.call_report.specs.Report.{Blames, outcome_of};
+ghost use Rattle.call_report.specs.Reason.{cause_words, reason_text};
+ghost use Rattle.call_status.specs.Status.{status_number};
+ghost use Rattle.call_status.specs.declared.status.Status.TheVariants.{BadWords, NoMemory as OutOfMemory};
 
-use crate::reason_line::reason;
-use crate::report::{Report, Status};
 use crate::top::stab;
+use call_report::{Report, reason};
+use call_status::Status;
 use stab_base::NoMemory;
 use stab_files::{Files, Sink};
 use std::alloc::Global;
@@ -98,7 +99,7 @@ fn all(alloc: Global, mut args: Args) -> Result<Vec<String>, NoMemory>
 fn refused_words(error: &io::Error) -> Report
     ensures no_memory { error_kind error.now ≡ ErrorKind.OutOfMemory → result.status ≡ OutOfMemory }
     ensures no_text { error_kind error.now ≢ ErrorKind.OutOfMemory → result.status ≡ BadWords }
-    ensures blames { Blames result no_blame }
+    ensures blames { Blames result None }
 {
     if error.kind() == ErrorKind::OutOfMemory {
         Report::bare(Status::NoMemory)
@@ -108,7 +109,7 @@ fn refused_words(error: &io::Error) -> Report
 }
 
 fn reason_line(alloc: Global, report: &Report) -> Result<Vec<u8>, NoMemory>
-    ensures { IfOk result (λ line. line.items ≡ reason_text report.now.status (blame_of report.now)) }
+    ensures { IfOk result (λ line. line.items ≡ reason_text report.now.status (cause_words report.now)) }
 {
     let mut line = Vec::new(alloc);
     reason(alloc, report, &mut line)?;
@@ -117,7 +118,7 @@ fn reason_line(alloc: Global, report: &Report) -> Result<Vec<u8>, NoMemory>
 
 /// Writes the reason line if there is memory for it, and returns the exit status.
 fn finish<E: Sink>(alloc: Global, report: &Report, errors: &mut E) -> u8
-    ensures { EndsWith report.now.status (blame_of report.now) result (device E.told E.faults errors.old)
+    ensures { EndsWith report.now.status (cause_words report.now) result (device E.told E.faults errors.old)
         (device E.told E.faults errors.new) }
 {
     end(report, reason_line(alloc, report), errors)
@@ -125,10 +126,10 @@ fn finish<E: Sink>(alloc: Global, report: &Report, errors: &mut E) -> u8
 
 /// Writes the reason line if there was memory for it, and returns the exit status, which is the same if the write fails.
 fn end<E: Sink>(report: &Report, line: Result<Vec<u8>, NoMemory>, errors: &mut E) -> u8
-    requires { IfOk line (λ line. line.items ≡ reason_text report.now.status (blame_of report.now)) }
+    requires { IfOk line (λ line. line.items ≡ reason_text report.now.status (cause_words report.now)) }
     ensures number { result ≡ status_number report.now.status }
     ensures written { IfOk line (λ _. Writes (device E.told E.faults errors.old) (device E.told E.faults errors.new)
-        (reason_text report.now.status (blame_of report.now))) }
+        (reason_text report.now.status (cause_words report.now))) }
     ensures silent { IfErr line (λ _. Rests (device E.told E.faults errors.old) (device E.told E.faults errors.new)) }
 {
     match line {

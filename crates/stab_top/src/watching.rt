@@ -1,30 +1,19 @@
-//! A run whose history a board shows.
-ghost use Rattle.std.specs.Prelude.{◌≡◌, IfErr, IfOk, OnOk};
-ghost use Rattle.book_text.specs.Written.{released_lines};
-ghost use Rattle.commit_book.specs.Book.{IsAtStart};
-ghost use Rattle.sink_lines.specs.Device.{Gains, device};
-ghost use Rattle.stab_journal.specs.Event.{IsWorker};
-ghost use Rattle.stab_words.specs.Command.{most_workers};
+//! Runs what was read while a board shows the run's history.
+ghost use Rattle.std.specs.Prelude.{◌≡◌};
 ghost use Rattle.stab_words.specs.Within.{IsRunWithin};
-ghost use Rattle.turn_floor.specs.Served.{AreOf};
-ghost use Rattle.stab_top.specs.Call.{WatchSays, call_of};
-ghost use Rattle.stab_top.specs.Ending.{outcome_of};
-ghost use Rattle.stab_top.specs.Playing.{HasRun, HasStopped};
+ghost use Rattle.call_report.specs.Call.{call_of};
+ghost use Rattle.call_report.specs.Report.{outcome_of};
+ghost use Rattle.stab_top.specs.Call.{WatchSays};
 
-use crate::reading::read_run;
-use crate::report::Report;
-use crate::running::{LastLine, run_program};
-use crate::sharing::{Played, play_on};
-use crate::top::means_of;
-use commit_book::Book;
+use crate::running::{means_of, run_given};
+use book_runs::LastLine;
+use call_report::{Report, read_run};
 use stab_files::{Files, Sink};
 use stab_words::RunArgs;
 use std::alloc::Global;
 use std::sync::Wait;
 use std::thread::Threads;
-use watched_rounds::run_watched;
 use worker_lease::Gate;
-use worker_rounds::Shared;
 
 /// Runs the program of a file with a script while a board shows its history, and writes what it shows, and what the board shows at
 /// its end.
@@ -42,7 +31,7 @@ pub fn watch_file<R: Threads + Wait + Sync, F: Files, K: Sink, G: Gate + Sync>(
     ensures kept { F.held files.new ≡ F.held files.old }
 {
     match read_run(alloc, args, files) {
-        Ok(given) => run_program(
+        Ok(given) => run_given(
             rt,
             alloc,
             given,
@@ -52,34 +41,5 @@ pub fn watch_file<R: Threads + Wait + Sync, F: Files, K: Sink, G: Gate + Sync>(
             sink,
         ),
         Err(report) => report,
-    }
-}
-
-/// Runs the book as several workers do, also where there is one, while a board shows its history. Each worker reads the board before
-/// it calls the gate.
-pub fn watch_book<R: Threads + Wait + Sync, K: Sink, G: Gate + Sync>(
-    rt: &R,
-    alloc: Global,
-    book: Book,
-    workers: u32,
-    gate: &G,
-    sink: &mut K,
-) -> Played
-    requires workers { IsWorker workers }
-    requires starts { IsAtStart book }
-    ensures over { IfOk result.end (λ status. HasRun most_workers status book.job result.book) }
-    ensures written { OnOk result.end (Gains (device K.told K.faults sink.old) (device K.told K.faults sink.new)
-        (released_lines result.book)) }
-    ensures stopped { IfErr result.end (λ stop. HasStopped most_workers stop book.job result.book
-        (device K.told K.faults sink.old) (device K.told K.faults sink.new)) }
-    ensures named { AreOf workers result.book.history.events }
-{
-    let Shared { book, stop } = run_watched(rt, alloc, book, workers, gate, sink);
-    match stop {
-        None => play_on(alloc, book, sink),
-        Some(stop) => Played {
-            book,
-            end: Err(stop),
-        },
     }
 }

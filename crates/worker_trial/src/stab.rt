@@ -2,9 +2,10 @@
 
 use crate::gates::{GateStab, GateThree};
 use crate::two::ENDLESS;
+use call_status::Status;
 use stab_base::NoMemory;
 use stab_files::{MemFiles, MemSink};
-use stab_top::{Status, stab};
+use stab_top::stab;
 use std::alloc::Global;
 use std::sync::Wait;
 use std::test::Fail;

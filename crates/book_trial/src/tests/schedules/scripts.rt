@@ -3,7 +3,8 @@
 use super::program_of;
 use super::texts::TEXTS;
 use commit_book::Book;
-use schedule_drill::{DrillEnd, DrillFault, drill};
+use drill_text::DrillFault;
+use schedule_drill::{DrillEnd, drill};
 use stab_base::NoMemory;
 use stab_code::{Job, Program};
 use std::alloc::{AllocGlobal, Global};

@@ -1,7 +1,7 @@
 use Rattle.std.proofs.Common.{refl, drop, string_bytes, map as each}
 use Rattle.std.specs.Vec.Iter.{into_iter_items}
-use Rattle.stab_top.specs.Call.{call_of}
-use Rattle.stab_top.specs.Ending.{outcome_of}
+use Rattle.call_report.specs.Call.{call_of}
+use Rattle.call_report.specs.Report.{outcome_of}
 use Rattle.stab_top.proofs.Wording.{no_memory_call}
 use Rattle.stab_top.proofs.program.called.Goals as goal
 

@@ -1,6 +1,5 @@
 use Rattle.std.proofs.Common.{refl}
-use Rattle.stab_top.specs.declared.report.Status.TheVariants.{BadWords, NoMemory}
-use Rattle.stab_top.specs.Reason.{blame_of}
+use Rattle.call_status.specs.declared.status.Status.TheVariants.{BadWords, NoMemory}
 use Rattle.stab_top.proofs.Executing.{ends_as, executed, refused}
 use Rattle.stab_top.proofs.program.command.Goals as goal
 
@@ -12,10 +11,10 @@ pub returns-in-Err-clause-no_memory : goal.returns-in-Err-clause-no_memory
 returns-in-Err-clause-no_memory g c =
     let report = c.refused_words-report.result in
     refused c.args.args c.in-Err.error _ c.in-Err.is
-    (λ kind. (ends_as report.status NoMemory (blame_of report) _ _ _ (c.refused_words-report.ensures.no_memory kind) c.refused_words-report.ensures.blames.blame c.finish-in-Err.ensures, (refl, refl), refl))
+    (λ kind. (ends_as report NoMemory _ _ _ (c.refused_words-report.ensures.no_memory kind) c.refused_words-report.ensures.blames c.finish-in-Err.ensures, (refl, refl), refl))
 
 pub returns-in-Err-clause-no_text : goal.returns-in-Err-clause-no_text
 returns-in-Err-clause-no_text g c =
     let report = c.refused_words-report.result in
     refused c.args.args c.in-Err.error _ c.in-Err.is
-    (λ kind. (ends_as report.status BadWords (blame_of report) _ _ _ (c.refused_words-report.ensures.no_text kind) c.refused_words-report.ensures.blames.blame c.finish-in-Err.ensures, (refl, refl), refl))
+    (λ kind. (ends_as report BadWords _ _ _ (c.refused_words-report.ensures.no_text kind) c.refused_words-report.ensures.blames c.finish-in-Err.ensures, (refl, refl), refl))

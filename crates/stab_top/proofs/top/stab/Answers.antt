@@ -1,6 +1,6 @@
 use Rattle.std.proofs.Common.{refl, string_bytes, map as each}
-use Rattle.stab_top.specs.Call.{call_of}
-use Rattle.stab_top.specs.Ending.{outcome_of}
+use Rattle.call_report.specs.Call.{call_of}
+use Rattle.call_report.specs.Report.{outcome_of}
 use Rattle.stab_top.proofs.Wording.{no_memory_call}
 use Rattle.stab_top.proofs.top.stab.Goals as goal
 

@@ -1,13 +1,14 @@
 use Rattle.std.proofs.Common.{refl}
 use Rattle.sink_lines.specs.Device.{device}
-use Rattle.stab_top.specs.Ending.{AtTheEnd, outcome_of}
-use Rattle.stab_top.proofs.Given.{given_means, refused_says}
+use Rattle.book_runs.specs.Ending.{AtTheEnd}
+use Rattle.call_report.specs.Report.{outcome_of}
+use Rattle.stab_top.proofs.GivenRuns.{given_means, refused_says}
 use Rattle.stab_top.proofs.top.trace_file.Goals as goal
 
 pub returns-in-Ok-clause-says : goal.returns-in-Ok-clause-says
 returns-in-Ok-clause-says g c =
-    given_means AtTheEnd (outcome_of g.K.Sink.told g.K.Sink.faults c.args.sink.now c.trace_program.new.sink c.trace_program.result) (g.F.Files.faults c.read_run.new.files) (device g.F.Files.held g.F.Files.faults c.args.files.now) c.args.args.now
-    c.args.args.now.probes c.in-Ok.given.program c.in-Ok.given.script.items c.means_of.result.workers c.means_of.result.fuel c.means_of.result.quantum c.means_of.ensures c.in-Ok.ensures.ok c.trace_program.ensures
+    given_means AtTheEnd (outcome_of g.K.Sink.told g.K.Sink.faults c.args.sink.now c.trace_given.new.sink c.trace_given.result) (g.F.Files.faults c.read_run.new.files) (device g.F.Files.held g.F.Files.faults c.args.files.now) c.args.args.now
+    c.args.args.now.probes c.in-Ok.given.program c.in-Ok.given.script.items c.means_of.result.workers c.means_of.result.fuel c.means_of.result.quantum c.means_of.ensures c.in-Ok.ensures.ok c.trace_given.ensures
 
 pub returns-in-Err-clause-says : goal.returns-in-Err-clause-says
 returns-in-Err-clause-says g c =

@@ -1,0 +1,4 @@
+pub mod Watching
+pub mod Ending
+pub mod Rounds
+pub mod Playing

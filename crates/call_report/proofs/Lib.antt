@@ -1,0 +1,3 @@
+pub mod ReadFirst
+pub mod RunRead
+pub mod MillFits

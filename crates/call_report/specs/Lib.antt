@@ -1,0 +1,5 @@
+pub mod Report
+pub mod Reason
+pub mod Loading
+pub mod Reading
+pub mod Call

@@ -1,0 +1,4 @@
+pub mod Drilled
+pub mod SourceRead
+pub mod ImageRead
+pub mod GoneOn

@@ -1,9 +1,0 @@
-use Rattle.std.proofs.Common.{inr, subst}
-use Rattle.sink_lines.specs.Device.{device}
-use Rattle.stab_top.specs.Reading.{Holds, trace_form}
-use Rattle.stab_top.proofs.top.judge_file.Goals as goal
-
-pub returns-in-Ok-clause-says : goal.returns-in-Ok-clause-says
-returns-in-Ok-clause-says g c =
-    let held = subst (λ name. Holds trace_form (device g.F.Files.held g.F.Files.faults c.args.files.now) name (g.F.Files.faults c.read_trace_file.new.files) c.in-Ok.history) c.as_str.ensures c.in-Ok.ensures.ok in
-    inr (c.in-Ok.history, held, c.judge.ensures)
