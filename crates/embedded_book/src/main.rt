@@ -11,11 +11,13 @@ use std::alloc::Global;
 use std::io::{self, ErrorKind, Write};
 use std::sync::Arc;
 
-const PROGRAM: &[u8; 103] = b"fn ask(): unit { let n = probe(); print(n); if n < 0 { stabilize() } } \
+const PROGRAM: &[u8; 103] =
+    b"fn ask(): unit { let n = probe(); print(n); if n < 0 { stabilize() } } \
     fn main(): unit { stable ask() }";
 
 /// The fuel of the run, and the most pure steps of one event.
 const FUEL: u64 = 10_000;
+
 const QUANTUM: u32 = 1_000;
 
 fn main(rt: HostRuntime) -> io::Result<()> {
