@@ -41,14 +41,14 @@ pub fn refusals_are_due()
         → b.history.events ≡ first ++ event worker (Step (Refuse t)) ∷ after → IsRefused b.job.program first t }
 {}
 
-/// No step before a cut is ever undone, nor is the cut: whatever came after the first events, a step of their run
-/// that isn't after its last cut is among the steps that aren't struck.
+/// Once a cut is made, no step before it that is left by then is undone, nor is the cut: whatever came after the first events, a step
+/// of their run that isn't after its last cut is among the steps that aren't struck.
 pub fn final_steps_stay()
     ensures { (b : BookView) → IsShown b → (first after : List Event) → b.history.events ≡ first ++ after
         → (n : Numbered) → StandsIn (run_of first) n → n.seq.0 ≤ floor (run_of first) → StandsIn (survivors b.history) n }
 {}
 
-/// No step on which a pin depends is ever undone, nor is the pin: whatever came after the first events, a step of their run
+/// Once a pin is made, no step on which it depends is undone, nor is the pin: whatever came after the first events, a step of their run
 /// from which a chain of direct dependences leads to a pin is among the steps that aren't struck.
 pub fn pinned_steps_stay()
     ensures { (b : BookView) → IsShown b → (first after : List Event) → b.history.events ≡ first ++ after
