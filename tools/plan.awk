@@ -1,8 +1,9 @@
-# How the crates below the program are best proved, and how long it takes:
-#   awk -v seconds=S -v proved="CRATE .." -v lanes=N -f tools/plan.awk docs/gate.md crates.txt
-# where S seconds have gone and these crates are proved, on N processors. It prints how many crates there are and about how many
-# minutes are left. As soon as it is faster to prove those that are left one after the other, each on all processors, or where
-# stopped=1, they follow, lowest first. docs/gate.md has the minutes of each crate; the seconds say how fast this machine is.
+# How long it takes yet to prove the crates of the program:
+#   awk -v now=S -v lanes=N -v pace=P -f tools/plan.awk docs/gate.md crates.txt [EVENTS]
+# where S seconds have gone, N crates are proved side by side, and a minute of docs/gate.md is taken for P minutes before anything is
+# measured. EVENTS has a line `begun CRATE SECOND`, `ended CRATE SECOND` or `kept CRATE SECOND` for each that happened. It prints how
+# many crates there are, how many of them have ended, and about how many minutes are left: docs/gate.md says how crates compare, and
+# what a minute of it takes is measured, by the crates that ended and by those that run for longer than they should.
 
 # A row of the table: crate | proofs | tests | edits.
 FILENAME ~ /gate\.md$/ {
@@ -13,6 +14,10 @@ FILENAME ~ /gate\.md$/ {
     next
 }
 
+$1 == "begun" { begun[$2] = $3; next }
+$1 == "ended" { ended[$2] = $3; next }
+$1 == "kept" { kept[$2] = 1; next }
+
 { sub(/#.*/, "") }
 
 /:/ {
@@ -21,9 +26,9 @@ FILENAME ~ /gate\.md$/ {
     needs[word[1]] = side[2]
 }
 
-# In the gate the libraries below a crate take less than here.
+# A crate without a row is as long as most are.
 function cost(name) {
-    return minutes[name] + 0.3
+    return (name in minutes) ? minutes[name] : 1
 }
 
 # Lists the crate after all that it needs.
@@ -35,68 +40,100 @@ function list(name,    dep, n, i) {
     crate[++crates] = name
 }
 
-# How many crates are below the name that weren't met below the crate `of`.
-function below(name, of,    dep, n, i, found) {
-    n = split(needs[name], dep, " ")
-    for (i = 1; i <= n; i++) {
-        if ((dep[i] in needs) && !((of, dep[i]) in met)) {
-            met[of, dep[i]] = 1
-            found += 1 + below(dep[i], of)
+# What a minute of the table takes here. Two such minutes as they were guessed are counted in, so that the first crates don't decide
+# alone, and they count the less the more was measured.
+function measure(    i, name, took, stood) {
+    took = 2 * pace
+    stood = 2
+    for (i = 1; i <= crates; i++) {
+        name = crate[i]
+        if ((name in ended) && (name in begun)) {
+            took += (ended[name] - begun[name]) / 60
+            stood += cost(name)
         }
     }
-    return found + 0
+    for (i = 1; i <= crates; i++) {
+        name = crate[i]
+        if ((name in begun) && !(name in done) && now - begun[name] > 60 * cost(name) * took / stood) {
+            took += (now - begun[name]) / 60
+            stood += cost(name)
+        }
+    }
+    return took / stood
 }
 
-# Side by side `rt all` takes the crates in this order, those with the fewest crates below them first. The lane that is free
-# first takes the next one, which begins when the crates that it needs have ended.
-function take(name,    dep, n, i, lane, start) {
-    order[++taken] = name
-    lane = 1
-    for (i = 2; i <= lanes; i++) if (free[i] + 0 < free[lane] + 0) lane = i
-    # The sources of all are read first.
-    start = free[lane] ? free[lane] : 1
+# The minutes from the crate's beginning to that of the end of all, if nothing waits but for what it needs.
+function find_chains(    dep, n, i, j) {
+    for (i = crates; i >= 1; i--) {
+        behind[crate[i]] += cost(crate[i])
+        n = split(needs[crate[i]], dep, " ")
+        for (j = 1; j <= n; j++) if (behind[dep[j]] + 0 < behind[crate[i]]) behind[dep[j]] = behind[crate[i]]
+    }
+}
+
+function is_ready(name,    dep, n, i) {
+    if ((name in done) || (name in left)) return 0
     n = split(needs[name], dep, " ")
-    for (i = 1; i <= n; i++) if (end[dep[i]] + 0 > start) start = end[dep[i]]
-    free[lane] = end[name] = start + cost(name)
-    if (end[name] > whole) whole = end[name]
+    for (i = 1; i <= n; i++) if ((dep[i] in needs) && !(dep[i] in done)) return 0
+    return 1
 }
 
-# Minutes of the crates that haven't ended by the minute.
-function left_at(minute,    i, sum) {
-    for (i = 1; i <= crates; i++) if (end[order[i]] > minute) sum += cost(order[i])
-    return sum
+# Begins those that are ready, the longest chain first, as `rt ci` does: where fewer are ready than there are lanes, one gets several,
+# which brings little.
+function fill(    i, name, best, ready, lanes_of) {
+    for (;;) {
+        best = ""
+        ready = 0
+        for (i = 1; i <= crates; i++) {
+            name = crate[i]
+            if (!is_ready(name)) continue
+            ready++
+            if (best == "" || behind[name] > behind[best]) best = name
+        }
+        if (best == "" || idle < 1) return
+        lanes_of = int(idle / ready)
+        if (lanes_of > 4) lanes_of = 4
+        if (lanes_of < 1) lanes_of = 1
+        held[best] = lanes_of
+        left[best] = cost(best) * speed / (1 + (lanes_of - 1) / 18)
+        idle -= lanes_of
+    }
+}
+
+# Goes on to the next end of a crate, and gives the minutes up to it, or -1 where none runs.
+function go_on(    name, first, step) {
+    first = ""
+    for (name in left) if (first == "" || left[name] < left[first]) first = name
+    if (first == "") return -1
+    step = left[first]
+    for (name in left) left[name] -= step
+    idle += held[first]
+    delete left[first]
+    done[first] = 1
+    return step
 }
 
 END {
-    # How much faster a crate is proved on all processors than on one.
-    faster = 1 + (lanes - 1) / 18
+    if (!pace) pace = 1
     list("stab_cli")
-    for (i = 1; i <= crates; i++) under[i] = below(crate[i], i)
-    for (few = 0; few < crates; few++) for (i = 1; i <= crates; i++) if (under[i] == few) take(crate[i])
-    # Side by side up to the minute from which on all is done first if the rest comes one after the other.
-    change = least = whole
-    for (at = 1; at < whole; at += 0.1) {
-        if (at + left_at(at) / faster < least - 0.1) {
-            least = at + left_at(at) / faster
-            change = at
-        }
-    }
-    n = split(proved, word, " ")
-    for (i = 1; i <= n; i++) done[word[i]] = 1
-    one_by_one = 1
     for (i = 1; i <= crates; i++) {
-        if (order[i] in done) continue
-        rest = rest " " order[i]
-        left += cost(order[i])
-        if (end[order[i]] <= change) one_by_one = 0
+        name = crate[i]
+        if ((name in ended) || (name in kept)) done[name] = 1
+        if (name in done) count++
     }
-    # The minute by which as much has ended as was proved so far.
-    if (one_by_one) {
-        far = least - left / faster
-    } else {
-        while (far < change && left_at(far) > left) far += 0.1
+    speed = measure()
+    find_chains()
+    idle = lanes
+    for (i = 1; i <= crates; i++) {
+        name = crate[i]
+        if (!(name in begun) || (name in done)) continue
+        left[name] = cost(name) * speed - (now - begun[name]) / 60
+        if (left[name] < cost(name) * speed / 10) left[name] = cost(name) * speed / 10
+        held[name] = 1
+        idle--
     }
-    # At first two minutes that took as long as in docs/gate.md are added, so that the first crates don't decide alone.
-    pace = (seconds / 60 + 2) / (far + 2)
-    print crates, int((least - far) * pace + 1) (one_by_one || stopped ? rest : "")
+    # At first the sources of all are read, and at the end the program runs once.
+    whole = count < crates ? 0.3 : 0
+    for (fill(); (step = go_on()) >= 0; fill()) whole += step
+    print crates, count + 0, int(whole + 1)
 }
