@@ -148,7 +148,7 @@ tell_work() {
 
 # Follows the log until rt ci has ended or has refused a crate, but for one whose check was killed.
 follow() {
-    begun=' ' failed='' found=0 told=0 last=$(seconds) line=''
+    begun=' ' failed='' found=0 before=0 told=0 last=$(seconds) line=''
     exec 4<"$room/log"
     while :; do
         if kill -0 "$child" 2>/dev/null; then runs=yes; else runs=''; fi
@@ -157,7 +157,9 @@ follow() {
             note_line "$line$more"
             line=''
         done
-        tell_found
+        # Once no more of them come.
+        if [ -z "$runs" ] || [ "$found" -eq "$before" ]; then tell_found; fi
+        before=$found
         tell_work
         if [ -z "$runs" ] || { [ -n "$failed" ] && ! was_killed; }; then break; fi
         sleep 1
@@ -221,7 +223,7 @@ put_program() {
     [ -x "$made" ] || { say "rt ci left no program"; return 1; }
     mkdir -p "$top/crates/stab_cli/out" && cp -- "$made" "$program.new" && touch -r "$room/begun" "$program.new" &&
         mv -f -- "$program.new" "$program" &&
-        printf '%s\n' "text $text" "kit $(rt version)" "from proved and built on this machine" >"$program.of" &&
+        printf '%s\n' "text $text" "kit $(rt version)" "origin proved and built on this machine" >"$program.of" &&
         touch -r "$room/begun" "$program" "$program.of"
 }
 

@@ -32,7 +32,7 @@ kit_line() {
     kit=$(command -v rt) && kit=$(readlink -f -- "$kit") && cat "${kit%/*/*}/KIT-ID" 2>/dev/null
 }
 
-# What the launcher noted when it built the program: `text SUM`, `kit LINE`, and where from. It doesn't count where the program is
+# What the launcher noted when it built the program: `text SUM`, `kit LINE` and `origin WHERE`. It doesn't count where the program is
 # newer, as rt ci leaves it.
 noted() {
     [ -e "$program.of" ] && [ -z "$(find "$program" -newer "$program.of" -print)" ] && sed -n "s/^$1 //p" "$program.of"
@@ -51,4 +51,12 @@ is_built() {
     is_touched || return 0
     of_text=$(noted text) && [ "$of_text" = "$(text_sum "$top")" ] || return 1
     touch "$program" "$program.of" 2>/dev/null || :
+}
+
+# The commit of the text, with a word where the text isn't as committed; nothing where it is in no repository of its own.
+commit_of_text() {
+    [ -z "$(git -C "$top" rev-parse --show-prefix 2>/dev/null)" ] || return
+    commit=$(git -C "$top" rev-parse --short HEAD 2>/dev/null) || return
+    [ -z "$(git -C "$top" status --porcelain -- crates crates.txt HANDLES)" ] || commit="$commit and changes"
+    echo "$commit"
 }
