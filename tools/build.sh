@@ -1,7 +1,8 @@
 # Read by other scripts, behind tools/built.sh: proves the crates of the program and builds it, of the clone in $top. It does it in a
 # copy of their sources outside of the clone, by `rt ci` there, so it proves as the gate does: from nothing, the longest chain first,
 # the libraries as statements. The copy has neither the other crates nor the edits. What rt ci proved it keeps, and it isn't proved
-# again by the next build or gate on this machine.
+# again by the next build or gate on this machine. Where $statements is a folder of statements that were handed on, it is tools/apart
+# that proves, each crate over these; where $keep is a folder, the statements that were made come there.
 
 say() { echo "stab: $*" >&2; }
 
@@ -24,7 +25,7 @@ guess() {
 # Sets how many crates there are, how many have ended, and how many minutes are left.
 plan() {
     # shellcheck disable=SC2046 # three numbers
-    set -- $(LC_ALL=C awk -v now="$(seconds)" -v lanes="$lanes" -v pace="$pace" \
+    set -- $(LC_ALL=C awk -v now="$(seconds)" -v lanes="$lanes" -v pace="$pace" -v apart="${statements:+1}" \
         -f "$top/tools/plan.awk" "$top/docs/gate.md" "$top/crates.txt" "$room/events")
     crates=$1 done=$2 left=$3
 }
@@ -34,7 +35,11 @@ seconds() { echo $(($(date +%s) - start)); }
 # Says what will take how long.
 announce() {
     plan
-    if [ -e "$program" ]; then
+    if [ -n "${statements-}" ]; then
+        say "$crates crates are proved over these statements, $lanes at a time, which takes about $(minutes "$left")"
+    elif [ -n "${keep-}" ]; then
+        say "the statements of $crates crates are made, $lanes at a time: what wasn't proved on this machine before is proved"
+    elif [ -e "$program" ]; then
         say "the program isn't of this text and kit: what changed in its $crates crates is proved again, and what stands on it"
     else
         say "the program isn't built yet: $crates crates are proved first, $lanes at a time, which takes about $(minutes "$left"), once"
@@ -47,7 +52,7 @@ take_turn() {
     flock -n 9 && return
     say "another call proves and builds the program: waiting for it to end"
     flock 9
-    ! is_built
+    [ -n "${keep-}${statements-}" ] || ! is_built
 }
 
 # A folder for the build, which is removed as it ends. One that a killed call left is removed first.
@@ -79,22 +84,27 @@ copy_sources() {
     text=$(text_sum "$copy")
 }
 
-# Starts rt ci over the copy, with what it says in the log.
+# Starts rt ci over the copy, or tools/apart, with what it says in the log.
 start_proving() {
+    if [ -n "${statements-}" ]; then
+        set -- "$top/tools/apart" "$statements"
+    else
+        set -- rt ci
+    fi
     : >"$room/log"
-    (cd "$copy" && exec rt ci) >"$room/log" 2>&1 </dev/null &
+    (cd "$copy" && exec "$@") >"$room/log" 2>&1 </dev/null &
     child=$!
 }
 
 # Notes which crates have begun: rt ci makes their out/ then.
 note_begun() {
-    for folder in "$copy"/crates/*/out; do
-        name=${folder%/out}
+    for made in "$copy"/crates/*/out; do
+        name=${made%/out}
         name=${name##*/}
         case $begun in
         *" $name "*) ;;
         *)
-            [ -e "$folder" ] || continue
+            [ -e "$made" ] || continue
             begun="$begun$name "
             echo "begun $name $(seconds)" >>"$room/events"
             ;;
@@ -223,9 +233,20 @@ put_program() {
     [ -x "$made" ] || { say "rt ci left no program"; return 1; }
     mkdir -p "$top/crates/stab_cli/out" && cp -- "$made" "$program.new" && touch -r "$room/begun" "$program.new" &&
         mv -f -- "$program.new" "$program" &&
-        printf '%s\n' "text $text" "kit $(rt version)" "origin proved and built on this machine" >"$program.of" &&
+        printf '%s\n' "text $text" "kit $(rt version)" "origin proved and built on this machine${statements:+, over statements that were handed on and came out the same}" >"$program.of" &&
         touch -r "$room/begun" "$program" "$program.of"
 }
+
+# Keeps the statements of the libraries.
+keep_statements() {
+    [ -n "${keep-}" ] || return 0
+    mkdir -p "$keep" && for library in "$copy"/crates/*/out/rlib/*.rlib; do
+        cp -R -- "$library" "$keep" || return 1
+    done
+}
+
+# Removes the folder of the build, and that of another script.
+clean() { rm -rf -- "$room" "$top/out/room" ${place:+"$place"}; }
 
 stop() {
     for process in ${child-} ${trying-}; do kill "$process" 2>/dev/null; done
@@ -240,14 +261,14 @@ build() {
     pace=$(guess)
     take_turn || { exec 9>&-; return 0; }
     make_room
-    trap 'rm -rf -- "$room" "$top/out/room"' EXIT
+    trap clean EXIT
     trap 'stop 129' HUP
     trap 'stop 130' INT
     trap 'stop 143' TERM
     announce
     copy_sources
     [ "$lanes" -gt 1 ] || first_look "$@"
-    if ! { prove "$@" && put_program; }; then stop 125; fi
+    if ! { prove "$@" && put_program && keep_statements; }; then stop 125; fi
     rm -rf -- "$room" "$top/out/room"
     trap - EXIT HUP INT TERM
     exec 9>&-

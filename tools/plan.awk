@@ -1,6 +1,6 @@
 # How long it takes yet to prove the crates of the program:
 #   awk -v now=S -v lanes=N -v pace=P -f tools/plan.awk docs/gate.md crates.txt [EVENTS]
-# where S seconds have gone, N crates are proved side by side, and a minute of docs/gate.md is taken for P minutes before anything is
+# (-v apart=1 where no crate waits for another) where S seconds have gone, N crates are proved side by side, and a minute of docs/gate.md is taken for P minutes before anything is
 # measured. EVENTS has a line `begun CRATE SECOND`, `ended CRATE SECOND` or `kept CRATE SECOND` for each that happened. It prints how
 # many crates there are, how many of them have ended, and about how many minutes are left: docs/gate.md says how crates compare, and
 # what a minute of it takes is measured, by the crates that ended and by those that run for longer than they should.
@@ -73,6 +73,7 @@ function find_chains(    dep, n, i, j) {
 
 function is_ready(name,    dep, n, i) {
     if ((name in done) || (name in left)) return 0
+    if (apart) return 1
     n = split(needs[name], dep, " ")
     for (i = 1; i <= n; i++) if ((dep[i] in needs) && !(dep[i] in done)) return 0
     return 1
