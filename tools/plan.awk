@@ -40,16 +40,22 @@ function list(name,    dep, n, i) {
     crate[++crates] = name
 }
 
+# How much is made of what was measured at a second: half as much for each quarter of the time that went since.
+function weight(second) {
+    return exp(-log(2) * (now - second) / (now / 4 + 60))
+}
+
 # What a minute of the table takes here. Two such minutes as they were guessed are counted in, so that the first crates don't decide
-# alone, and they count the less the more was measured.
-function measure(    i, name, took, stood) {
-    took = 2 * pace
-    stood = 2
+# alone.
+function measure(    i, name, part, took, stood) {
+    stood = 2 * weight(0)
+    took = stood * pace
     for (i = 1; i <= crates; i++) {
         name = crate[i]
         if ((name in ended) && (name in begun)) {
-            took += (ended[name] - begun[name]) / 60
-            stood += cost(name)
+            part = weight(ended[name])
+            took += part * (ended[name] - begun[name]) / 60
+            stood += part * cost(name)
         }
     }
     for (i = 1; i <= crates; i++) {
@@ -66,6 +72,7 @@ function measure(    i, name, took, stood) {
 function find_chains(    dep, n, i, j) {
     for (i = crates; i >= 1; i--) {
         behind[crate[i]] += cost(crate[i])
+        if (apart) continue
         n = split(needs[crate[i]], dep, " ")
         for (j = 1; j <= n; j++) if (behind[dep[j]] + 0 < behind[crate[i]]) behind[dep[j]] = behind[crate[i]]
     }
