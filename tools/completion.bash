@@ -28,7 +28,7 @@ _stab() {
     esac
     COMPREPLY=()
     if [[ $COMP_CWORD -eq 1 ]]; then
-        COMPREPLY=($(compgen -W $'run\ncheck\ntypes\ntrace\nwatch\nverify\ndrill\nsave\nresume\nmill' -- "$word"))
+        COMPREPLY=($(compgen -W $'run\ncheck\ntypes\ntrace\nwatch\nverify\ndrill\nsave\nresume\nmill\n--help\n--version' -- "$word"))
     elif [[ $before == --probes ]]; then
         COMPREPLY=($(compgen -f -- "$word"))
     elif [[ $word == -* ]]; then
