@@ -40,7 +40,7 @@ announce() {
     elif [ -n "${keep-}" ]; then
         say "the statements of $crates crates are made, $lanes at a time: what wasn't proved on this machine before is proved"
     elif [ -e "$program" ]; then
-        say "the program isn't of this text and kit: what changed in its $crates crates is proved again, and what stands on it"
+        say "the program isn't of this text and kit: what changed in its $crates crates is proved again"
     else
         say "the program isn't built yet: $crates crates are proved first, $lanes at a time, which takes about $(minutes "$left"), once"
     fi
@@ -152,7 +152,10 @@ tell_work() {
     [ $(($(seconds) - last)) -ge 180 ] || return
     last=$(seconds)
     plan
-    work=$(awk '$1 == "begun" { at[$2] = 1; next } { delete at[$2] } END { for (name in at) printf "%s%s", (n++ ? ", " : ""), name }' "$room/events")
+    work=$(awk '
+        $1 == "begun" { at[$2] = 1; next }
+        { delete at[$2] }
+        END { for (name in at) printf "%s%s", (n++ ? ", " : ""), name }' "$room/events")
     [ -z "$work" ] || say "at work on $work; about $(minutes "$left") left"
 }
 
@@ -230,10 +233,11 @@ prove() {
 # Puts the program in its place, with what it is of. It is as old as the sources that were copied.
 put_program() {
     made=$copy/crates/stab_cli/out/stab_cli
+    how="proved and built on this machine${statements:+, over statements that were handed on and came out the same}"
     [ -x "$made" ] || { say "rt ci left no program"; return 1; }
     mkdir -p "$top/crates/stab_cli/out" && cp -- "$made" "$program.new" && touch -r "$room/begun" "$program.new" &&
         mv -f -- "$program.new" "$program" &&
-        printf '%s\n' "text $text" "kit $(rt version)" "origin proved and built on this machine${statements:+, over statements that were handed on and came out the same}" >"$program.of" &&
+        printf '%s\n' "text $text" "kit $(rt version)" "origin $how" >"$program.of" &&
         touch -r "$room/begun" "$program" "$program.of"
 }
 

@@ -1,9 +1,10 @@
 # How long it takes yet to prove the crates of the program:
 #   awk -v now=S -v lanes=N -v pace=P -f tools/plan.awk docs/gate.md crates.txt [EVENTS]
-# (-v apart=1 where no crate waits for another) where S seconds have gone, N crates are proved side by side, and a minute of docs/gate.md is taken for P minutes before anything is
-# measured. EVENTS has a line `begun CRATE SECOND`, `ended CRATE SECOND` or `kept CRATE SECOND` for each that happened. It prints how
-# many crates there are, how many of them have ended, and about how many minutes are left: docs/gate.md says how crates compare, and
-# what a minute of it takes is measured, by the crates that ended and by those that run for longer than they should.
+# where S seconds have gone, N crates are proved side by side, and a minute of docs/gate.md is taken for P minutes before anything is
+# measured; with -v apart=1 no crate waits for another. EVENTS has a line `begun CRATE SECOND`, `ended CRATE SECOND` or `kept CRATE
+# SECOND` for each that happened. It prints how many crates there are, how many of them have ended, and about how many minutes are
+# left: docs/gate.md says how crates compare, and what a minute of it takes is measured, by the crates that ended and by those that run
+# for longer than they should.
 
 # A row of the table: crate | proofs | tests | edits.
 FILENAME ~ /gate\.md$/ {
