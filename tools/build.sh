@@ -219,8 +219,8 @@ prove() {
         lanes=1
         RT_JOBS=1
         export RT_JOBS
-        grep '^ended\|^kept' "$room/events" | sed 's/^ended/kept/' >"$room/before"
-        mv "$room/before" "$room/events"
+        : >"$room/events"
+        rm -rf -- "$copy"/crates/*/out
         start_proving
         follow
         [ -z "$failed" ] || kill "$child" 2>/dev/null
@@ -249,8 +249,8 @@ keep_statements() {
     done
 }
 
-# Removes the folder of the build, and that of another script.
-clean() { rm -rf -- "$room" "$top/out/room" ${place:+"$place"}; }
+# Removes the folder of the build, and that of another script. What rt left running may still write there as it ends.
+clean() { rm -rf -- "$room" 2>/dev/null || { sleep 1 && rm -rf -- "$room"; } && rm -rf -- "$top/out/room" ${place:+"$place"}; }
 
 stop() {
     for process in ${child-} ${trying-}; do kill "$process" 2>/dev/null; done
