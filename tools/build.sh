@@ -1,8 +1,8 @@
 # Read by other scripts, behind tools/built.sh: proves the crates of the program and builds it, of the clone in $top. It does it in a
 # copy of their sources outside of the clone, by `rt ci` there, so it proves as the gate does: from nothing, the longest chain first,
 # the libraries as statements. The copy has neither the other crates nor the edits. What rt ci proved it keeps, and it isn't proved
-# again by the next build or gate on this machine. Where $statements is a folder of statements that were handed on, it is tools/apart
-# that proves, each crate over these; where $keep is a folder, the statements that were made come there.
+# again by the next build or gate on this machine; with STAB_ANEW=1 all is. Where $statements is a folder of statements that were
+# handed on, it is tools/apart that proves, each crate over these; where $keep is a folder, the statements that were made come there.
 
 say() { echo "stab: $*" >&2; }
 
@@ -89,7 +89,7 @@ start_proving() {
     if [ -n "${statements-}" ]; then
         set -- "$top/tools/apart" "$statements"
     else
-        set -- rt ci
+        set -- rt ci ${STAB_ANEW:+--anew}
     fi
     : >"$room/log"
     (cd "$copy" && exec "$@") >"$room/log" 2>&1 </dev/null &
