@@ -5,6 +5,8 @@ use Rattle.stab_words.specs.declared.command.Setting.TheVariants.{Probes, Worker
 use Rattle.stab_words.specs.declared.command.Place.{Place}
 use Rattle.stab_words.specs.declared.command.Place.TheVariants.{File, Second, Number}
 use Rattle.stab_words.specs.declared.given.Given.{Given}
+use Rattle.stab_words.specs.declared.given.Value.{Value}
+use Rattle.stab_words.specs.declared.given.Value.TheVariants as value
 use Rattle.stab_words.specs.Command.{most_workers, most_fuel, most_quantum, most_size}
 use Rattle.stab_words.specs.Number.{number_in}
 
@@ -42,3 +44,13 @@ abbrev pub fill : Place → List ℕ → Given → Option Given
 fill File word given = option_map (λ name. record given { file = Some name }) (name_in word)
 fill Second word given = option_map (λ name. record given { second = Some name }) (name_in word)
 fill Number word given = option_map (λ n. record given { number = Some n }) (number_in most_size word)
+
+-- with this value
+abbrev pub with : Value → Given → Given
+with (value.File name) given = record given { file = Some name }
+with (value.Second name) given = record given { second = Some name }
+with (value.Number n) given = record given { number = Some n }
+with (value.Probes name) given = record given { probes = Some name }
+with (value.Workers n) given = record given { workers = Some n }
+with (value.Fuel n) given = record given { fuel = Some n }
+with (value.Quantum n) given = record given { quantum = Some n }

@@ -1,6 +1,8 @@
 -- The bounds of the numbers in a request.
 use Rattle.std.specs.Prelude.{ℕ, ◌≤◌, IfSome}
 use Rattle.stab_words.specs.declared.given.Given.{Given}
+use Rattle.stab_words.specs.declared.given.Value.{Value}
+use Rattle.stab_words.specs.declared.given.Value.TheVariants as value
 use Rattle.stab_words.specs.declared.request.Request.{Request}
 use Rattle.stab_words.specs.declared.request.Request.TheVariants.{Run, Trace, Verify, Drill, Check, Mill, Types, Save, Resume, Watch}
 use Rattle.stab_words.specs.Command.{most_workers, most_fuel, most_quantum, most_size}
@@ -15,6 +17,14 @@ pub record IsGiven (given : Given) : Type 0 where
   pub workers : IfSome given.workers (IsUpTo most_workers)
   pub fuel : IfSome given.fuel (IsUpTo most_fuel)
   pub quantum : IfSome given.quantum (IsUpTo most_quantum)
+
+-- a number that a value is, is within its bounds
+abbrev pub IsValue : Value → Type 0
+IsValue (value.Number n) = IsUpTo most_size n
+IsValue (value.Workers n) = IsUpTo most_workers n
+IsValue (value.Fuel n) = IsUpTo most_fuel n
+IsValue (value.Quantum n) = IsUpTo most_quantum n
+IsValue _ = Unit {0}
 
 -- the workers, the fuel and the quantum of a run are within the bounds
 pub record IsRunWithin (workers fuel quantum : ℕ) : Type 0 where

@@ -1,8 +1,10 @@
 //! What the words read so far have given.
 ghost use Rattle.std.specs.Prelude.{◌≡◌, IfOk, OnOk, IsNone, None, Some, Ok};
-ghost use Rattle.stab_words.specs.Given.{fill, is_filled, is_given, name_in, nothing, set};
+ghost use Rattle.stab_words.specs.Given.{fill, is_filled, is_given, name_in, nothing, set, with};
+ghost use Rattle.stab_words.specs.declared.given.Given.{Given as GivenParts};
 ghost use Rattle.stab_words.specs.Asked.{Gives, or_fault};
-ghost use Rattle.stab_words.specs.Within.{IsGiven};
+ghost use Rattle.stab_words.specs.Number.{number_in};
+ghost use Rattle.stab_words.specs.Within.{IsGiven, IsUpTo, IsValue};
 ghost use Rattle.stab_words.specs.declared.request.WordFault.TheVariants.{BadValue};
 
 use crate::command::{Place, Setting};
@@ -30,6 +32,18 @@ pub struct Given {
     pub workers: Option<u32>,
     pub fuel: Option<u64>,
     pub quantum: Option<u32>,
+}
+
+/// The value of one of them.
+#[derive(Drop)]
+enum Value {
+    File(Name),
+    Second(Name),
+    Number(u32),
+    Probes(Name),
+    Workers(u32),
+    Fuel(u64),
+    Quantum(u32),
 }
 
 impl Given {
@@ -78,31 +92,14 @@ impl Given {
         alloc: Global,
         setting: Setting,
         at: usize,
-        value: &str,
+        text: &str,
     ) -> Result<Given, WordFault>
         requires { IsGiven self }
-        ensures given { Gives (λ g. g) result (or_fault (set setting value.now self) (BadValue at)) }
+        ensures given { Gives (λ g. g) result (or_fault (set setting text.now self) (BadValue at)) }
         ensures within { IfOk result IsGiven }
     {
-        let bad = WordFault::BadValue(at);
-        Ok(match setting {
-            Setting::Probes => Given {
-                probes: Some(file_name(alloc, at, value)?),
-                ..self
-            },
-            Setting::Workers => Given {
-                workers: Some(number_in(MAX_WORKERS, value).ok_or(bad)? as u32),
-                ..self
-            },
-            Setting::Fuel => Given {
-                fuel: Some(number_in(MAX_FUEL, value).ok_or(bad)?),
-                ..self
-            },
-            Setting::Quantum => Given {
-                quantum: Some(number_in(MAX_QUANTUM, value).ok_or(bad)? as u32),
-                ..self
-            },
-        })
+        let value = value_of(alloc, setting, at, text)?;
+        Ok(self.with(value))
     }
 
     /// Puts the word `at` into the place. A word that isn't allowed there is a BadValue.
@@ -117,24 +114,61 @@ impl Given {
         ensures given { Gives (λ g. g) result (or_fault (fill place word.now self) (BadValue at)) }
         ensures within { IfOk result IsGiven }
     {
-        Ok(match place {
-            Place::File => Given {
-                file: Some(file_name(alloc, at, word)?),
-                ..self
-            },
-            Place::Second => Given {
-                second: Some(file_name(alloc, at, word)?),
-                ..self
-            },
-            Place::Number => {
-                let number = number_in(MAX_SIZE, word).ok_or(WordFault::BadValue(at))?;
-                Given {
-                    number: Some(number as u32),
-                    ..self
-                }
-            }
-        })
+        let value = word_of(alloc, place, at, word)?;
+        Ok(self.with(value))
     }
+
+    fn with(self, value: Value) -> Given
+        requires given { IsGiven self }
+        requires value { IsValue value }
+        ensures with { result ≡ with value self }
+        ensures within { IsGiven result }
+    {
+        let mut given = self;
+        match value {
+            Value::File(name) => given.file = Some(name),
+            Value::Second(name) => given.second = Some(name),
+            Value::Number(number) => given.number = Some(number),
+            Value::Probes(name) => given.probes = Some(name),
+            Value::Workers(number) => given.workers = Some(number),
+            Value::Fuel(number) => given.fuel = Some(number),
+            Value::Quantum(number) => given.quantum = Some(number),
+        }
+        given
+    }
+}
+
+// The value of the option in the word `at`.
+fn value_of(alloc: Global, setting: Setting, at: usize, text: &str) -> Result<Value, WordFault>
+    ensures given { (given : GivenParts) → Gives (λ value. with value given) result (or_fault (set setting text.now given) (BadValue at)) }
+    ensures within { IfOk result IsValue }
+{
+    Ok(match setting {
+        Setting::Probes => Value::Probes(file_name(alloc, at, text)?),
+        Setting::Workers => Value::Workers(number(MAX_WORKERS, at, text)? as u32),
+        Setting::Fuel => Value::Fuel(number(MAX_FUEL, at, text)?),
+        Setting::Quantum => Value::Quantum(number(MAX_QUANTUM, at, text)? as u32),
+    })
+}
+
+// The value of the place in the word `at`.
+fn word_of(alloc: Global, place: Place, at: usize, text: &str) -> Result<Value, WordFault>
+    ensures given { (given : GivenParts) → Gives (λ value. with value given) result (or_fault (fill place text.now given) (BadValue at)) }
+    ensures within { IfOk result IsValue }
+{
+    Ok(match place {
+        Place::File => Value::File(file_name(alloc, at, text)?),
+        Place::Second => Value::Second(file_name(alloc, at, text)?),
+        Place::Number => Value::Number(number(MAX_SIZE, at, text)? as u32),
+    })
+}
+
+// The number in the word `at`, from 1 to `most`.
+fn number(most: u64, at: usize, text: &str) -> Result<u64, WordFault>
+    ensures number { result ≡ or_fault (number_in most text.now) (BadValue at) }
+    ensures within { IfOk result (IsUpTo most) }
+{
+    number_in(most, text).ok_or(WordFault::BadValue(at))
 }
 
 // The file name in the word `at`, which mustn't be empty.
