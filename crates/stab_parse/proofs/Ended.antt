@@ -2,17 +2,20 @@
 use Rattle.std.proofs.Common.{◌≡◌, ℕ, ◌+◌, ◌<◌, ◌≤◌, arith, suc, length, get_or, take, drop, drop-cons, add-one, List, [], ◌∷◌, ◌++◌, Some, None, Ok, Err, Bool, true, false, cond, refl, sym, ap, subst, ◌∙◌, ◌⊎◌, inl, inr}
 use Rattle.std.proofs.Math.Seq.{take-suc, take-length}
 use Rattle.std.proofs.lemmas.List.{take-append-drop}
-use Rattle.std.specs.Prelude.{Result, reverse, nat_lt}
+use Rattle.std.specs.Prelude.{IfErr, IfOk, Result, reverse, nat_lt}
 use Rattle.stab_lex.specs.declared.token.Token.{Token}
 use Rattle.stab_parse.specs.declared.fault.ParseFault.{ParseFault}
-use Rattle.stab_parse.specs.declared.fault.ParseFault.TheVariants.{EarlyEnd, TooNested, NoMemory}
+use Rattle.stab_parse.specs.declared.fault.ParseFault.TheVariants.{EarlyEnd, TooNested, NoMemory, Unexpected}
 use Rattle.stab_parse.specs.declared.frame.Phase.{Phase}
 use Rattle.stab_parse.specs.declared.frame.Phase.TheVariants as phase
 use Rattle.stab_parse.specs.declared.reader.Reader.{Reader}
 use Rattle.stab_parse.specs.Faults.{max_open, HasFault, IsParsed, EndsEarly}
-use Rattle.stab_parse.specs.FormList.{deep_in_program, least_of, nodes_of_program, functions_of}
+use Rattle.stab_parse.specs.FormList.{IsTreeOf, deep_in_program, least_of, nodes_of_program, functions_of}
 use Rattle.stab_parse.specs.Grammar.{Program}
+use Rattle.stab_parse.specs.Whole.{EndsWrong, IsWhole}
 use Rattle.stab_parse.specs.Moves.{reached, advance}
+use Rattle.stab_parse.specs.declared.parser.Parser.{Parser}
+use Rattle.stab_parse.specs.declared.tree.Tree.{Tree}
 use Rattle.stab_parse.proofs.FormsKept.{reverse_program, functions_kept, deep_program}
 use Rattle.stab_parse.proofs.Keeping.{advances, kept_of}
 use Rattle.stab_parse.proofs.Kept.{phase_of, reader_of, in_program}
@@ -95,6 +98,20 @@ pub end_deep : (ts : List Token) (r : Reader) (at : ℕ) → Reaches ts phase.Be
 end_deep ts r at w e =
     let b = end_of_program ts r w in
     inr (record { program = b.0; is_program = program_walked ts b.0 b.1; least = sym (deep_kept r b.0 b.2) ∙ e })
+
+-- the tree of what was read, and the fault where there is none
+pub tree_parsed : (ts : List Token) (p : Parser) (result : Result Tree ParseFault) → Reaches ts p.phase p.reader → IfOk result (IsWhole p) → IfOk result (λ tree. (q : Program) × IsParsed ts q × IsTreeOf tree q)
+tree_parsed ts p (Err fault) w e = tt
+tree_parsed ts p (Ok tree) w e =
+    let b = end_parsed ts p.reader (subst (λ ph. Reaches ts ph p.reader) e.0 w) e.1 in
+    (b.0, b.1, (e.2 ∙ b.2, ap reverse e.3 ∙ b.3))
+
+pub tree_fault : (ts : List Token) (p : Parser) (result : Result Tree ParseFault) → Reaches ts p.phase p.reader → IfErr result (EndsWrong p) → IfErr result (λ fault. (fault ≡ NoMemory) ⊎ HasFault ts fault)
+tree_fault ts p (Ok tree) w e = tt
+tree_fault ts p (Err EarlyEnd) w e = inr (end_early ts p.phase p.reader w e)
+tree_fault ts p (Err (TooNested at)) w e = inr (end_deep ts p.reader at (subst (λ ph. Reaches ts ph p.reader) e.0 w) e.1)
+tree_fault ts p (Err (Unexpected at)) w e = absurd e
+tree_fault ts p (Err NoMemory) w e = absurd e
 
 pub reaches_new : (r : Reader) → r.frames ≡ [] → r.forms ≡ [] → r.functions ≡ [] → r.too_deep ≡ None → Reaches [] phase.Between r
 reaches_new r a b c d = record {

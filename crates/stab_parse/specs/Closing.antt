@@ -1,6 +1,6 @@
 -- The frame that a `)` ends.
-use Rattle.stab_parse.specs.declared.behind.Closing.{Closing}
-use Rattle.stab_parse.specs.declared.behind.Closing.TheVariants as closing
+use Rattle.stab_parse.specs.declared.popped.Closing.{Closing}
+use Rattle.stab_parse.specs.declared.popped.Closing.TheVariants as closing
 use Rattle.stab_parse.specs.declared.frame.Frame.{Frame}
 use Rattle.stab_parse.specs.declared.frame.Frame.TheVariants as frame
 

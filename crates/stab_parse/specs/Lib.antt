@@ -9,3 +9,4 @@ pub mod Moves
 pub mod Seen
 pub mod Symbols
 pub mod Takes
+pub mod Whole

@@ -1,16 +1,15 @@
 //! What a token does after an expression. Rare cases aren't inlined, so that the common path keeps a small stack
 //! frame.
-ghost use Rattle.std.specs.Prelude.{◌≡◌, ◌++◌, ◌∷◌, [], Option, Some, IfOk, IfSome, IsNone};
-ghost use Rattle.stab_parse.specs.declared.reader.Reader.{Reader as ReaderParts};
+ghost use Rattle.std.specs.Prelude.{◌≡◌, ◌++◌, ◌∷◌, [], Option, Some, IfOk};
 ghost use Rattle.stab_parse.specs.Closing.{frame_of};
 ghost use Rattle.stab_parse.specs.Frames.{top_of};
-ghost use Rattle.stab_parse.specs.Seen.{Seen as SeenParts};
-ghost use Rattle.stab_parse.specs.Moves.{Goes, Refused, behind_top, block_done, block_in, call_done, close_brace, close_paren, closes, comma, did, end_items, ends, first_of_call, head_of_call, in_top, item, open_brace, operator, outcome, owed_in, popped, pushed, relation, relation_top, semicolon, settled, settled_outcome, whole_and, whole_expr, whole_sum};
+ghost use Rattle.stab_parse.specs.Moves.{Goes, behind_top, block_done, block_in, call_done, close_brace, close_paren, closes, comma, did, end_items, ends, first_of_call, head_of_call, in_top, item, open_brace, operator, outcome, owed_in, popped, pushed, relation, relation_top, semicolon, settled, settled_outcome, whole_and, whole_expr, whole_sum};
 
 use crate::frame::{BlockPlace, Callee, Frame, Level, Phase, Seen, SignatureParts};
 use crate::parser::{Admission, Parser};
+use crate::popped::{Block, Closing, behind_comma, block_of, closing_of, condition_of, let_of};
 use crate::reader::{Reader, deepest, is_operator, one_more, only, takes_right};
-use crate::symbol::{ActWord, Span, Symbol};
+use crate::symbol::{Span, Symbol};
 use crate::tree::{Function, Head, ItemNames};
 use stab_code::Op;
 use std::alloc::{AllocError, Global};
@@ -30,30 +29,6 @@ fn call_place(callee: Callee) -> u32
     match callee {
         Callee::Called(name) => name.start,
         Callee::Started(_, at, _) => at,
-    }
-}
-
-/// What a `)` ends.
-#[derive(Clone, Copy)]
-pub(crate) enum Closing {
-    Group(u32),
-    Second(u32, u8),
-    Args(Callee, u8, usize),
-    One(ActWord, u32),
-    TwoRight(ActWord, u32, u8),
-}
-
-fn closing_of(top: Option<Frame>) -> Option<Closing>
-    ensures some { IfSome result (λ closing. top ≡ Some (frame_of closing)) }
-    ensures none { IsNone result → (seen : SeenParts) (r : ReaderParts) → in_top close_paren top seen r ≡ outcome Refused r }
-{
-    match top? {
-        Frame::Group(at) => Some(Closing::Group(at)),
-        Frame::Second(at, left) => Some(Closing::Second(at, left)),
-        Frame::Args(callee, depth, before) => Some(Closing::Args(callee, depth, before)),
-        Frame::One(word, at) => Some(Closing::One(word, at)),
-        Frame::TwoRight(word, at, left) => Some(Closing::TwoRight(word, at, left)),
-        _ => None,
     }
 }
 
@@ -141,48 +116,45 @@ impl Parser {
         ensures ok { IfOk result (λ admission. did admission self.new
             ≡ in_top comma (top_of self.old.reader.frames) seen (popped self.old.reader)) }
     {
-        match self.reader.frames.pop() {
-            Some(Frame::Group(at)) => self.owed_in(Frame::Second(at, seen.depth())),
-            Some(Frame::Args(callee, depth, before)) => {
-                self.owed_in(Frame::Args(callee, depth.max(seen.depth()), one_more(before)))
-            }
-            Some(Frame::TwoLeft(word, at)) => self.owed_in(Frame::TwoRight(word, at, seen.depth())),
-            _ => Ok(Admission::Refused),
+        match behind_comma(self.reader.frames.pop(), seen) {
+            Some(frame) => self.owed_in(frame),
+            None => Ok(Admission::Refused),
         }
     }
 
-    /// An item is complete, in a block with these items before it.
+    /// An item of a block is complete.
     fn item(
         &mut self,
         alloc: Global,
         name: Option<Span>,
         depth: u8,
-        at: u32,
-        before: ItemNames,
-        place: BlockPlace,
+        block: Block,
     ) -> Result<Admission, AllocError>
         ensures ok { IfOk result (λ admission. did admission self.new
-            ≡ outcome (Goes Phase.InItems) (pushed (Frame.Items depth at (before ++ name ∷ []) place) self.old.reader)) }
+            ≡ outcome (Goes Phase.InItems) (pushed (Frame.Items depth block.at (block.names ++ name ∷ []) block.place) self.old.reader)) }
     {
-        let mut names = before;
+        let mut names = block.names;
         names.push(alloc, name)?;
         self.reader
             .frames
-            .push(Frame::Items(depth, at, names, place))?;
+            .push(Frame::Items(depth, block.at, names, block.place))?;
         Ok(self.goes(Phase::InItems))
     }
 
-    /// A let is complete.
+    /// An item is complete, in the block that stands next.
     #[inline(never)]
-    fn let_item(&mut self, alloc: Global, name: Span, seen: Seen) -> Result<Admission, AllocError>
+    fn item_done(
+        &mut self,
+        alloc: Global,
+        name: Option<Span>,
+        seen: Seen,
+    ) -> Result<Admission, AllocError>
         ensures ok { IfOk result (λ admission. did admission self.new
-            ≡ in_top (item (Some name)) (top_of self.old.reader.frames) seen (popped self.old.reader)) }
+            ≡ in_top (item name) (top_of self.old.reader.frames) seen (popped self.old.reader)) }
     {
-        match self.reader.frames.pop() {
-            Some(Frame::Items(depth, at, names, place)) => {
-                self.item(alloc, Some(name), depth.max(seen.depth()), at, names, place)
-            }
-            _ => Ok(Admission::Refused),
+        match block_of(self.reader.frames.pop()) {
+            Some(block) => self.item(alloc, name, block.depth.max(seen.depth()), block),
+            None => Ok(Admission::Refused),
         }
     }
 
@@ -192,12 +164,12 @@ impl Parser {
         ensures ok { IfOk result (λ admission. did admission self.new
             ≡ in_top semicolon (top_of self.old.reader.frames) seen (popped self.old.reader)) }
     {
-        match self.reader.frames.pop() {
-            Some(Frame::Items(depth, at, names, place)) => {
-                self.item(alloc, None, depth.max(seen.depth()), at, names, place)
+        match let_of(self.reader.frames.top()) {
+            Some(name) => {
+                self.reader.frames.let_go();
+                self.item_done(alloc, Some(name), seen)
             }
-            Some(Frame::Let(name)) => self.let_item(alloc, name, seen),
-            _ => Ok(Admission::Refused),
+            None => self.item_done(alloc, None, seen),
         }
     }
 
@@ -236,26 +208,19 @@ impl Parser {
         }
     }
 
-    fn block_done(
-        &mut self,
-        at: u32,
-        names: ItemNames,
-        depth: u8,
-        place: BlockPlace,
-        last: Seen,
-    ) -> Result<Admission, AllocError>
+    fn block_done(&mut self, block: Block, last: Seen) -> Result<Admission, AllocError>
         ensures ok { IfOk result (λ admission. did admission self.new
-            ≡ block_done at names depth place last self.old.reader) }
+            ≡ block_done block.at block.names block.depth block.place last self.old.reader) }
     {
-        let items = names.len();
+        let items = block.names.len();
         if items == 0 {
-            let seen = Seen::new(at, last.depth());
-            return self.block_in(place, seen);
+            let seen = Seen::new(block.at, last.depth());
+            return self.block_in(block.place, seen);
         }
-        let depth = depth.max(last.depth());
-        let head = names.into_head();
-        let seen = self.reader.form(head, one_more(items), at, depth)?;
-        self.block_in(place, seen)
+        let depth = block.depth.max(last.depth());
+        let head = block.names.into_head();
+        let seen = self.reader.form(head, one_more(items), block.at, depth)?;
+        self.block_in(block.place, seen)
     }
 
     #[inline(never)]
@@ -263,11 +228,9 @@ impl Parser {
         ensures ok { IfOk result (λ admission. did admission self.new
             ≡ in_top close_brace (top_of self.old.reader.frames) seen (popped self.old.reader)) }
     {
-        match self.reader.frames.pop() {
-            Some(Frame::Items(depth, at, names, place)) => {
-                self.block_done(at, names, depth, place, seen)
-            }
-            _ => Ok(Admission::Refused),
+        match block_of(self.reader.frames.pop()) {
+            Some(block) => self.block_done(block, seen),
+            None => Ok(Admission::Refused),
         }
     }
 
@@ -276,12 +239,12 @@ impl Parser {
         ensures ok { IfOk result (λ admission. did admission self.new
             ≡ end_items (top_of self.old.reader.frames) (popped self.old.reader)) }
     {
-        match self.reader.frames.pop() {
-            Some(Frame::Items(depth, at, names, place)) => {
-                let unit = self.reader.form(Head::Unit, 0, at, 0)?;
-                self.block_done(at, names, depth, place, unit)
+        match block_of(self.reader.frames.pop()) {
+            Some(block) => {
+                let unit = self.reader.form(Head::Unit, 0, block.at, 0)?;
+                self.block_done(block, unit)
             }
-            _ => Ok(Admission::Refused),
+            None => Ok(Admission::Refused),
         }
     }
 
@@ -290,15 +253,15 @@ impl Parser {
         ensures ok { IfOk result (λ admission. did admission self.new
             ≡ in_top (open_brace at) (top_of self.old.reader.frames) seen (popped self.old.reader)) }
     {
-        match self.reader.frames.pop() {
-            Some(Frame::Condition(first)) => {
+        match condition_of(self.reader.frames.pop()) {
+            Some(first) => {
                 let place = BlockPlace::Then(first, seen.depth());
                 self.reader
                     .frames
                     .push(Frame::Items(0, at, ItemNames::new(), place))?;
                 Ok(self.opens(Phase::InItems))
             }
-            _ => Ok(Admission::Refused),
+            None => Ok(Admission::Refused),
         }
     }
 
@@ -319,7 +282,7 @@ impl Parser {
             Symbol::CloseBrace => self.close_brace(seen),
             Symbol::OpenBrace => self.open_brace(span.start, seen),
             _ => {
-                let _top = self.reader.frames.pop();
+                self.reader.frames.let_go();
                 Ok(Admission::Refused)
             }
         }

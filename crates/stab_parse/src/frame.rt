@@ -281,6 +281,14 @@ impl Stack {
         self.depth -= opens(&frame);
         Some(frame)
     }
+
+    /// Lets the innermost frame go, if there is one.
+    #[inline(always)]
+    pub(crate) fn let_go(&mut self)
+        ensures { self.new ≡ below_top self.old }
+    {
+        let _top = self.pop();
+    }
 }
 
 fn opens(frame: &Frame) -> usize

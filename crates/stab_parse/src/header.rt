@@ -1,5 +1,6 @@
 //! What a token does in the words of a function before its body, and in a written type.
 ghost use Rattle.std.specs.Prelude.{◌≡◌, IfOk};
+ghost use Rattle.stab_code.specs.Written.{chan_type, pair_type, ref_type};
 ghost use Rattle.stab_parse.specs.Forms.{basic_of};
 ghost use Rattle.stab_parse.specs.Frames.{top_of};
 ghost use Rattle.stab_parse.specs.Moves.{between, did, fn_named, fn_read, owes_type, param_named, param_owed, params_closed, params_open, popped, param_typed, result_typed, bracket_typed, left_typed, right_typed, chan_typed, typed, typed_top};
@@ -248,6 +249,45 @@ impl Parser {
         }
     }
 
+    fn chan_closed(
+        &mut self,
+        alloc: Global,
+        ty: ParsedType,
+        symbol: Symbol,
+    ) -> Result<Admission, AllocError>
+        ensures ok { IfOk result (λ admission. did admission self.new ≡ bracket_typed (chan_type ty) symbol self.old.reader) }
+    {
+        let outer = ty.chan(alloc)?;
+        self.bracket_typed(outer, symbol)
+    }
+
+    fn reference_closed(
+        &mut self,
+        alloc: Global,
+        ty: ParsedType,
+        symbol: Symbol,
+    ) -> Result<Admission, AllocError>
+        ensures ok { IfOk result (λ admission. did admission self.new ≡ bracket_typed (ref_type ty) symbol self.old.reader) }
+    {
+        let outer = ty.reference(alloc)?;
+        self.bracket_typed(outer, symbol)
+    }
+
+    fn pair_closed(
+        &mut self,
+        alloc: Global,
+        left: ParsedType,
+        right: ParsedType,
+        symbol: Symbol,
+    ) -> Result<Admission, AllocError>
+        ensures ok { IfOk result (λ admission. did admission self.new
+            ≡ right_typed (pair_type left right) symbol self.old.reader) }
+    {
+        let outer = left.pair(alloc, right)?;
+        self.right_typed(outer, symbol)
+    }
+
+    /// A token after a type in this frame, which was popped.
     fn typed(
         &mut self,
         alloc: Global,
@@ -265,10 +305,10 @@ impl Parser {
             Frame::ResultType(function, params) => {
                 self.result_typed(alloc, function, params, ty, symbol, at)
             }
-            Frame::ChanType => self.bracket_typed(ty.chan(alloc)?, symbol),
-            Frame::RefType => self.bracket_typed(ty.reference(alloc)?, symbol),
+            Frame::ChanType => self.chan_closed(alloc, ty, symbol),
+            Frame::RefType => self.reference_closed(alloc, ty, symbol),
             Frame::PairLeft => self.left_typed(ty, symbol),
-            Frame::PairRight(left) => self.right_typed(left.pair(alloc, ty)?, symbol),
+            Frame::PairRight(left) => self.pair_closed(alloc, left, ty, symbol),
             Frame::NewChan(first) => self.chan_typed(first, ty, symbol),
             _ => Ok(Admission::Refused),
         }

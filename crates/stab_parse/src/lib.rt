@@ -8,6 +8,7 @@ mod frame;
 mod header;
 mod laws;
 mod parser;
+mod popped;
 mod reader;
 mod step;
 mod symbol;

@@ -1,6 +1,7 @@
 //! Reading the tokens of a program.
 ghost use Rattle.std.specs.Prelude.{◌≡◌, ◌⊎◌, IfOk, IfErr};
 ghost use Rattle.stab_parse.specs.Faults.{HasFault, IsParsed};
+ghost use Rattle.stab_parse.specs.Whole.{EndsWrong, IsWhole};
 ghost use Rattle.stab_parse.specs.FormList.{IsTreeOf};
 ghost use Rattle.stab_parse.specs.Grammar.{Program};
 ghost use Rattle.stab_parse.specs.Moves.{Goes, Opens, did, outcome};
@@ -67,6 +68,14 @@ pub fn parse(alloc: Global, tokens: &[Token], _bytes: &[u8]) -> Result<Tree, Par
     for token in tokens {
         parser.advance(alloc, token)?;
     }
+    tree_of(parser)
+}
+
+/// What was read, where the tokens end.
+fn tree_of(parser: Parser) -> Result<Tree, ParseFault>
+    ensures tree { IfOk result (IsWhole parser) }
+    ensures fault { IfErr result (EndsWrong parser) }
+{
     let Parser { reader, phase } = parser;
     let Phase::Between = phase else {
         return Err(ParseFault::EarlyEnd);

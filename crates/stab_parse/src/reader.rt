@@ -201,7 +201,7 @@ impl Reader {
         let Some(taker) = taker_of(self.frames.top()) else {
             return Ok(None);
         };
-        let _taker = self.frames.pop();
+        self.frames.let_go();
         let operand = self.take(taker, seen)?;
         Ok(Some(operand))
     }
@@ -243,7 +243,7 @@ impl Reader {
         let Some(left) = left_side(level, self.frames.top()) else {
             return Ok(seen);
         };
-        let _operator = self.frames.pop();
+        self.frames.let_go();
         let whole = self.two(left.op, left.seen, seen)?;
         Ok(whole)
     }

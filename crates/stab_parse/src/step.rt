@@ -1,6 +1,6 @@
 //! What a token does in each phase.
 ghost use Rattle.std.specs.Prelude.{◌≡◌, ◌≤◌, ◌⊎◌, IfOk, IfErr, OnOk, Ok, Err};
-ghost use Rattle.stab_parse.specs.Moves.{advance, did, form_read, move, move_typed, open_at};
+ghost use Rattle.stab_parse.specs.Moves.{advance, after_step, did, form_read, move, move_typed, open_at, step_to};
 ghost use Rattle.stab_parse.specs.Symbols.{IsSmall};
 
 use crate::fault::ParseFault;
@@ -115,12 +115,22 @@ impl Parser {
             ⊎ (advance self.old.phase token.now self.old.reader ≡ Err fault)) }
     {
         let symbol = kind_symbol(token.kind);
-        match self.step(alloc, symbol, token_span(token))? {
-            Admission::Refused => Err(ParseFault::Unexpected(token.start)),
+        let admission = self.step(alloc, symbol, token_span(token))?;
+        self.admitted(admission, token.start)
+    }
+
+    /// The fault at a token that begins there, by what its step said.
+    #[inline(always)]
+    fn admitted(&self, admission: Admission, at: u32) -> Result<(), ParseFault>
+        ensures ok { OnOk result (after_step (step_to admission self.now.phase) self.now.reader at ≡ Ok self.now) }
+        ensures fault { IfErr result (λ fault. after_step (step_to admission self.now.phase) self.now.reader at ≡ Err fault) }
+    {
+        match admission {
+            Admission::Refused => Err(ParseFault::Unexpected(at)),
             Admission::Goes => Ok(()),
             Admission::Opens => {
                 if self.reader.frames.open() > MAX_OPEN - self.phase.open() {
-                    return Err(ParseFault::TooNested(token.start));
+                    return Err(ParseFault::TooNested(at));
                 }
                 Ok(())
             }

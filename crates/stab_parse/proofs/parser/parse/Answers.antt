@@ -1,6 +1,6 @@
-use Rattle.std.proofs.Common.{None, refl, inr}
+use Rattle.std.proofs.Common.{None, refl}
 use Rattle.std.proofs.lemmas.Result.{err_from_is_err_and}
-use Rattle.stab_parse.proofs.Ended.{reaches_new, reaches_more, fault_or_memory, reaches_end, end_early, end_parsed, end_deep}
+use Rattle.stab_parse.proofs.Ended.{reaches_new, reaches_more, fault_or_memory, reaches_end, tree_fault, tree_parsed}
 use Rattle.stab_parse.proofs.parser.parse.Goals as goal
 
 pub loop-token-init : goal.loop-token-init
@@ -18,21 +18,10 @@ returns-in_err-advance-clause-fault c =
     rw (p.1, p.2) (fault_or_memory c.args.tokens.now c.loop-token.token-index _ c.loop-token.parser.phase c.loop-token.parser.reader c.in_err-advance.field-0.0
     c.loop-token-test.true c.loop-token.invariant c.in_err-advance.ensures.fault)
 
-pub returns-in_default : goal.returns-in_default
-returns-in_default c = record {
-  parsed = tt;
-  fault = inr (end_early c.args.tokens.now c.loop-token.parser.phase c.loop-token.parser.reader
-      (reaches_end c.args.tokens.now c.loop-token.token-index c.loop-token.parser.phase c.loop-token.parser.reader c.loop-token-test.false c.loop-token.auto.token-index-end c.loop-token.invariant)
-      c.in_default.not-Between);
-}
-
-pub returns-in-Some-clause-fault : goal.returns-in-Some-clause-fault
-returns-in-Some-clause-fault c =
+pub returns : goal.returns
+returns c =
     let whole = reaches_end c.args.tokens.now c.loop-token.token-index c.loop-token.parser.phase c.loop-token.parser.reader c.loop-token-test.false c.loop-token.auto.token-index-end c.loop-token.invariant in
-    inr (end_deep c.args.tokens.now c.loop-token.parser.reader c.in-Some.at (rw c.in-Between.is at whole) c.in-Some.is)
-
-pub returns-clause-parsed : goal.returns-clause-parsed
-returns-clause-parsed c =
-    let whole = reaches_end c.args.tokens.now c.loop-token.token-index c.loop-token.parser.phase c.loop-token.parser.reader c.loop-token-test.false c.loop-token.auto.token-index-end c.loop-token.invariant in
-    let e = end_parsed c.args.tokens.now c.loop-token.parser.reader (rw c.in-Between.is at whole) c.in_default-too_deep.is in
-    (e.0, e.1, (e.2, e.3))
+    record {
+      parsed = tree_parsed c.args.tokens.now c.loop-token.parser c.tree_of.result whole c.tree_of.ensures.tree;
+      fault = tree_fault c.args.tokens.now c.loop-token.parser c.tree_of.result whole c.tree_of.ensures.fault;
+    }

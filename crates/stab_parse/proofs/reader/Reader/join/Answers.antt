@@ -8,5 +8,5 @@ pub returns : goal.returns
 returns c = record {
   ok = joins c.args.level c.in-Some.left c.args.seen c.in_ok-whole.whole c.args.self.now c.two.new.self
       (sym (c.in-Some.ensures ∙ ap (λ o. left_side c.args.level o) c.top.ensures))
-      (c.in_ok-whole.ensures.ok ∙ ap (λ fs. joined c.in-Some.left.op c.in-Some.left.seen c.args.seen (record c.args.self.now { frames = fs })) c.pop-operator.ensures.below);
+      (c.in_ok-whole.ensures.ok ∙ ap (λ fs. joined c.in-Some.left.op c.in-Some.left.seen c.args.seen (record c.args.self.now { frames = fs })) c.let_go.ensures);
 }
