@@ -149,6 +149,13 @@ module _ (bytes : List ℕ) where
       else if list_any (λ y. is_same bytes x.name y.name) before then Some (twice x.name)
       else param_fault (before ++ x ∷ []) xs
 
+  -- the fault of a function with so many before it, by whether its name is new
+  abbrev pub own_fault : ℕ → Bool → Function → Option ScopeFault
+  own_fault n is_new f =
+      if nat_le max_functions n then Some (TooMany f.name.start)
+      else if not is_new then Some (twice f.name)
+      else param_fault [] f.params
+
   -- the first fault among functions behind others
   abbrev pub function_fault : List Function → List Function → Option ScopeFault
   function_fault before [] = None

@@ -3,7 +3,7 @@ ghost use Rattle.std.specs.Prelude.{◌≡◌, [], None, map, IfOk, IfErr};
 ghost use Rattle.std.specs.List.{list_any};
 ghost use Rattle.scope_check.specs.Names.{is_same as same_names};
 ghost use Rattle.scope_check.specs.Progress.{IsFirstFault};
-ghost use Rattle.scope_check.specs.Scope.{function_fault, names_of, param_fault};
+ghost use Rattle.scope_check.specs.Scope.{function_fault, names_of, own_fault, param_fault};
 
 use crate::fault::ScopeFault;
 use crate::names::{twice, written};
@@ -29,17 +29,26 @@ pub(crate) fn function_names<'a>(
 {
     let mut names = IndexSet::new(alloc);
     for function in functions {
-        if names.len() >= MAX_FUNCTIONS {
-            return Err(ScopeFault::TooMany(function.name.start));
-        }
-        if !names.insert(written(bytes, function.name))? {
-            return Err(twice(function.name));
-        }
-        if let Some(fault) = first_fault(bytes, function.params.all()) {
+        let before = names.len();
+        let is_new = names.insert(written(bytes, function.name))?;
+        if let Some(fault) = own_fault(bytes, before, is_new, function) {
             return Err(fault);
         }
     }
     Ok(names)
+}
+
+/// The fault of a function with so many before it.
+fn own_fault(bytes: &[u8], before: usize, is_new: bool, function: &Function) -> Option<ScopeFault>
+    ensures { result ≡ own_fault bytes.now before is_new function.now }
+{
+    if before >= MAX_FUNCTIONS {
+        return Some(ScopeFault::TooMany(function.name.start));
+    }
+    if !is_new {
+        return Some(twice(function.name));
+    }
+    first_fault(bytes, function.params.all())
 }
 
 /// The first fault of a function's parameters.
