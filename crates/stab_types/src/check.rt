@@ -1,11 +1,11 @@
 //! The check of a program's types.
-ghost use Rattle.std.specs.Prelude.{◌≡◌, ◌<◌, Some, length, slice_get, IfOk, IfErr, OnOk};
+ghost use Rattle.std.specs.Prelude.{◌≡◌, ◌<◌, Some, length, slice_get, IfOk, IfErr, IfSome, IsNone, OnOk};
 ghost use Rattle.std.specs.Arc.{arc_value};
 ghost use Rattle.stab_code.specs.Program.{FunctionParts};
 ghost use Rattle.type_table.specs.Table.{IsLonger};
 ghost use Rattle.stab_types.specs.Checked.{IsFaultOf, IsVerdictOn};
 ghost use Rattle.stab_types.specs.Given.{AreSignatures, is_given_as};
-ghost use Rattle.stab_types.specs.Typed.{IsTyped};
+ghost use Rattle.stab_types.specs.Typed.{IsFirstUntyped, IsTyped};
 
 use crate::given::{Given, Signature};
 use crate::infer::infer;
@@ -64,6 +64,36 @@ fn is_typed(
     Ok(is_given(given, signature.gives))
 }
 
+/// The first function whose body isn't typed.
+fn untyped(
+    alloc: Global,
+    program: &Program,
+    signatures: &[Signature],
+    types: &mut TypeTable,
+) -> Result<Option<FnId>, NoMemory>
+    requires { AreSignatures types.old signatures.now program.now.functions }
+    ensures none { IfOk result (λ found. IsNone found → IsTyped program.now) }
+    ensures some { IfOk result (λ found. IfSome found (IsFirstUntyped program.now)) }
+{
+    let functions = program.functions();
+    for k in 0..functions {
+        let f = FnId(k);
+        if !is_typed(alloc, program, signatures, types, f)? {
+            return Ok(Some(f));
+        }
+    }
+    Ok(None)
+}
+
+fn untyped_in(alloc: Global, program: &Program) -> Result<Option<FnId>, NoMemory>
+    ensures none { IfOk result (λ found. IsNone found → IsTyped program.now) }
+    ensures some { IfOk result (λ found. IfSome found (IsFirstUntyped program.now)) }
+{
+    let mut types = TypeTable::new(alloc);
+    let signatures = signatures_of(alloc, &mut types, program)?;
+    untyped(alloc, program, &signatures, &mut types)
+}
+
 /// Checks the written types of a program: the body of each of its functions has the written type that the function gives, or
 /// never gives a value. A program that isn't so is refused at its first such function.
 pub fn check_types(alloc: Global, program: &Arc<Program>) -> Result<Typed, TypeFault>
@@ -71,14 +101,8 @@ pub fn check_types(alloc: Global, program: &Arc<Program>) -> Result<Typed, TypeF
     ensures typed { OnOk result (IsTyped (arc_value program.now)) }
     ensures refused { IfErr result (IsFaultOf (arc_value program.now)) }
 {
-    let mut types = TypeTable::new(alloc);
-    let signatures = signatures_of(alloc, &mut types, program)?;
-    let functions = program.functions();
-    for k in 0..functions {
-        let f = FnId(k);
-        if !is_typed(alloc, program, &signatures, &mut types, f)? {
-            return Err(TypeFault::Untyped(f));
-        }
+    if let Some(f) = untyped_in(alloc, program)? {
+        return Err(TypeFault::Untyped(f));
     }
     let Ok(program) = Arc::try_clone(program) else {
         return Err(TypeFault::NoMemory);
