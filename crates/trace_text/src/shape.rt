@@ -1,5 +1,5 @@
 //! The shape of a line of an event.
-ghost use Rattle.std.specs.Prelude.{◌≡◌, option_map, option_copied, length, IfSome, IfNone};
+ghost use Rattle.std.specs.Prelude.{◌≡◌, ◌∷◌, option_map, option_copied, length, IfSome, IfNone};
 ghost use Rattle.trace_text.specs.Shape.{IsNoArity, after_w, are_words, is_shape, shape_of};
 ghost use Rattle.trace_text.specs.Seen.{seen_args, seen_shape};
 ghost use Rattle.text_lines.specs.Lines.{split};
@@ -37,6 +37,20 @@ pub fn shape_of(header: Header, line: &[u8]) -> Option<Parts<'_>>
     let Some(args) = args_of(rest) else {
         return None;
     };
+    shape_with(header, sign, seq, worker, verb, args)
+}
+
+// The parts that are named so, if they have the shape of an event.
+fn shape_with<'a>(
+    header: Header,
+    sign: &[u8],
+    seq: &'a [u8],
+    worker: &'a [u8],
+    verb: &[u8],
+    args: Args<'a>,
+) -> Option<Parts<'a>>
+    ensures { option_map seen_shape result ≡ shape_of header (sign.now ∷ seq.now ∷ worker.now ∷ verb.now ∷ seen_args args) }
+{
     let parts = Parts {
         sign: sign_named(sign)?,
         seq,
