@@ -1,4 +1,4 @@
-//! What texts are read as.
+//! What texts are read as, where they are to be images.
 
 use image_text::ImageFault;
 use stab_image::{Image, put_image, read_image};

@@ -1,6 +1,22 @@
-//! Goes over rows.
+//! Reads texts as images, and prints whether they are what rows say.
+//!
+//! A line is empty, or it begins with one of these words, the first of which, up to `times`, are no rows. In a text `@` stands for a
+//! line feed, `$` for the last piece, and `^` for nothing: it marks a place.
+//!
+//! | line | what it says |
+//! |---|---|
+//! | `# ..` | something to the reader |
+//! | `== NAME` | a name for the rows that follow, which is printed |
+//! | `head TEXT` | what stands before the text of each row that follows |
+//! | `times N TEXT` | the piece: this text so many times, each behind a blank |
+//! | `image TEXT` | it is an image, and is written as it was |
+//! | `BadLine TEXT`, `BadNumber TEXT`, `BadState TEXT` | its fault, and where the line begins that fails |
+//! | `BadProgram TEXT`, `NoEnd TEXT` | its fault |
+//! | `fronts TEXT` | none of its parts from its start that are shorter is an image |
+//!
+//! Of each row it is printed that the text is so, or else what it is.
 
-use crate::reading::{Found, front, told};
+use crate::image_reading::{Found, front, told};
 use std::alloc::{AllocError, Global};
 use std::io;
 use std::thread::{Builder, Threads};
@@ -10,15 +26,27 @@ const STACK: usize = 0x100_0000;
 
 /// What texts of rows are made of besides their own bytes.
 #[derive(Drop)]
-pub struct Pieces {
+struct Pieces {
     /// What stands before a text.
-    pub head: Vec<u8>,
+    head: Vec<u8>,
     /// What `$` stands for.
-    pub piece: Vec<u8>,
+    piece: Vec<u8>,
 }
 
-/// Prints of a row whether the text is so.
-pub fn take<R: AllocGlobal + Print + Threads>(
+/// Prints of each row whether the text is so.
+pub fn play<R: AllocGlobal + Print + Threads>(rt: &R, table: &str) -> io::Result<()> {
+    let mut pieces = Pieces {
+        head: Vec::new(rt.alloc()),
+        piece: Vec::new(rt.alloc()),
+    };
+    for line in table.lines() {
+        take(rt, &mut pieces, line)?;
+    }
+    Ok(())
+}
+
+// Prints of a row whether the text is so.
+fn take<R: AllocGlobal + Print + Threads>(
     rt: &R,
     pieces: &mut Pieces,
     line: &str,

@@ -1,7 +1,8 @@
 //! Reads texts, and prints what they are.
 //!
-//! The arguments are the names of tables. A table has texts, and what each is to be. A line of it is empty, or it begins with one of
-//! these words, the first of which, up to `put`, are no rows:
+//! The arguments are the names of tables. A table has texts, and what each is to be. Each row of `types.rows` is the text of a
+//! program, and `images.rows` has words of its own (`image_rows`). A line of another is empty, or it begins with one of these words,
+//! the first of which, up to `put`, are no rows:
 //!
 //! | line | what it says |
 //! |---|---|
@@ -28,11 +29,14 @@
 #![tactic(auto)]
 
 mod form_words;
+mod image_reading;
+mod image_rows;
 mod meaning;
 mod node_words;
 mod reading;
 mod rows;
 mod syntax;
+mod typing;
 
 use crate::rows::play;
 use std::{env, fs, io};
@@ -40,7 +44,11 @@ use std::{env, fs, io};
 fn main(rt: HostRuntime) -> io::Result<()> {
     for name in env::args(&rt)?.skip(1) {
         let table = fs::read_to_string(&rt, name.as_str())?;
-        play(&rt, &mut Vec::new(rt.alloc()), table.as_str())?;
+        match name.as_str() {
+            "types.rows" => typing::play(&rt, table.as_str())?,
+            "images.rows" => image_rows::play(&rt, table.as_str())?,
+            _ => play(&rt, &mut Vec::new(rt.alloc()), table.as_str())?,
+        }
     }
     Ok(())
 }

@@ -1,5 +1,4 @@
-//! Reads rows, each the text of a program, and prints whether it is typed, or the number of the first function that isn't.
-#![tactic(auto)]
+//! Prints of the text of each row whether it is a typed program, or the number of the first function that isn't.
 
 use stab_base::FnId;
 use stab_text::read_program;
@@ -8,10 +7,10 @@ use std::alloc::Global;
 use std::io::{self, Error, ErrorKind};
 use std::sync::Arc;
 
-fn main(rt: HostRuntime) -> io::Result<()> {
-    for line in rt.lines(rt.alloc()) {
-        let line = line?;
-        let told = told(rt.alloc(), line.as_str())?;
+/// Prints of each row, which is a text, what it is.
+pub fn play<R: AllocGlobal + Print>(rt: &R, table: &str) -> io::Result<()> {
+    for line in table.lines() {
+        let told = told(rt.alloc(), line)?;
         println!(rt; "{told} <- {line}")?;
     }
     Ok(())
