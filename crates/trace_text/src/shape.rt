@@ -49,7 +49,7 @@ fn shape_with<'a>(
     verb: &[u8],
     args: Args<'a>,
 ) -> Option<Parts<'a>>
-    ensures { option_map seen_shape result ≡ shape_of header (sign.now ∷ seq.now ∷ worker.now ∷ verb.now ∷ seen_args args) }
+    ensures { option_map seen_shape result ≡ shape_of header (sign.now ∷ seq.now ∷ worker.now ∷ verb.now ∷ seen_args args.entry) }
 {
     let parts = Parts {
         sign: sign_named(sign)?,
