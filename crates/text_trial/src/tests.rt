@@ -12,6 +12,7 @@ mod traces;
 mod words;
 
 use std::alloc::Global;
+use std::fmt::Debug;
 use std::process::Abort;
 use std::test::Fail;
 
@@ -23,5 +24,10 @@ fn parts(alloc: Global, row: &str) -> Result<(String, &str), Fail> {
 
 // What was read of a row is what is wanted.
 fn expect(rt: &impl Abort, row: &str, found: &str, wanted: &str) {
-    assert_eq!(rt; found, wanted, "{row:?}");
+    is(rt, &(row, found), &(row, wanted));
+}
+
+// What was found is what is wanted. Each `assert_eq!` is proved with all of its words, so the tests have one.
+fn is<T: PartialEq + Debug>(rt: &impl Abort, found: &T, wanted: &T) {
+    assert_eq!(rt; found, wanted);
 }

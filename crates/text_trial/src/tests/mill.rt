@@ -1,5 +1,6 @@
 //! The program of the mill, and its probes.
 
+use super::is;
 use mill_text::{mill_script, mill_text};
 use stab_text::read_program;
 use std::alloc::Global;
@@ -19,7 +20,7 @@ fn main(): unit { let o = chan[int](); start(10, o); print(sum(10, o, 0)) }
 fn the_text_of_ten_sections(rt: HostRuntime) -> Result<(), Fail> {
     let mut out = Vec::new(rt.alloc());
     mill_text(10, &mut out)?;
-    assert_eq!(rt; out.as_slice(), TEN.as_bytes());
+    is(&rt, &out.as_slice(), &TEN.as_bytes());
     Ok(())
 }
 
@@ -27,14 +28,17 @@ fn the_text_of_ten_sections(rt: HostRuntime) -> Result<(), Fail> {
 fn is_program(rt: &impl Abort, alloc: Global, size: u32) -> Result<(), Fail> {
     let mut out = Vec::new(alloc);
     mill_text(size, &mut out)?;
-    assert!(rt; out.len() <= 1_048_576);
-    let program = read_program(alloc, &out);
-    assert!(rt; program.is_ok(), "{size}");
-    if let Ok(program) = program {
-        assert_eq!(rt; program.functions(), 6);
-        assert_eq!(rt; program.texts().len(), 0);
-    }
+    is(rt, &(size, counted(alloc, &out)), &(size, Some((6, 0))));
     Ok(())
+}
+
+// How many functions and texts a program has.
+fn counted(alloc: Global, text: &[u8]) -> Option<(u32, usize)> {
+    if text.len() > 1_048_576 {
+        return None;
+    }
+    let program = read_program(alloc, text).ok()?;
+    Some((program.functions(), program.texts().len()))
 }
 
 #[test]
@@ -44,16 +48,32 @@ fn texts_are_programs(rt: HostRuntime) -> Result<(), Fail> {
     is_program(&rt, rt.alloc(), 10_000)
 }
 
+const TEN_NUMBERS: [i64; 10] = [0, 0, 0, 0, 0, 0, 0, 0, 0, -1];
+
+fn expect_script(rt: &impl Abort, alloc: Global, size: u32, wanted: &[i64]) -> Result<(), Fail> {
+    let script = mill_script(alloc, size)?;
+    is(rt, &script.as_slice(), &wanted);
+    Ok(())
+}
+
 #[test]
-fn scripts(rt: HostRuntime) -> Result<(), Fail> {
-    let nine = mill_script(rt.alloc(), 9)?;
-    assert_eq!(rt; nine.as_slice(), [0, 0, 0, 0, 0, 0, 0, 0, 0].as_slice());
-    let ten = mill_script(rt.alloc(), 10)?;
-    assert_eq!(rt; ten.as_slice(), [0, 0, 0, 0, 0, 0, 0, 0, 0, -1].as_slice());
-    let many = mill_script(rt.alloc(), 10_000)?;
-    assert_eq!(rt; many.len(), 10_000);
-    for piece in many.chunks(10) {
-        assert_eq!(rt; piece, [0, 0, 0, 0, 0, 0, 0, 0, 0, -1].as_slice());
+fn short_scripts(rt: HostRuntime) -> Result<(), Fail> {
+    expect_script(&rt, rt.alloc(), 9, &[0, 0, 0, 0, 0, 0, 0, 0, 0])?;
+    expect_script(&rt, rt.alloc(), 10, &TEN_NUMBERS)
+}
+
+fn are_tens(script: &[i64]) -> bool {
+    for piece in script.chunks(10) {
+        if piece != TEN_NUMBERS.as_slice() {
+            return false;
+        }
     }
+    true
+}
+
+#[test]
+fn a_long_script(rt: HostRuntime) -> Result<(), Fail> {
+    let script = mill_script(rt.alloc(), 10_000)?;
+    is(&rt, &(script.len(), are_tens(&script)), &(10_000, true));
     Ok(())
 }

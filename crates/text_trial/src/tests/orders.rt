@@ -1,6 +1,6 @@
 //! Scripts of drills.
 
-use super::{expect, parts};
+use super::{expect, is, parts};
 use drill_text::{Order, Verb, read_script};
 use std::alloc::Global;
 use std::process::Abort;
@@ -74,12 +74,27 @@ fn order_words(alloc: Global, order: Option<Order>) -> Result<String, Fail> {
     Ok(format!(in alloc; "{verb} {lease}")?)
 }
 
+fn expect_answer(
+    rt: &impl Abort,
+    alloc: Global,
+    row: &str,
+    script: &[u8],
+    wanted: &str,
+) -> Result<(), Fail> {
+    let found = answer(alloc, script)?;
+    expect(rt, row, found.as_str(), wanted);
+    Ok(())
+}
+
+fn expect_row(rt: &impl Abort, alloc: Global, row: &str) -> Result<(), Fail> {
+    let (script, wanted) = parts(alloc, row)?;
+    expect_answer(rt, alloc, row, script.as_bytes(), wanted)
+}
+
 #[test]
 fn scripts(rt: HostRuntime) -> Result<(), Fail> {
     for row in SCRIPTS.lines() {
-        let (script, wanted) = parts(rt.alloc(), row)?;
-        let found = answer(rt.alloc(), script.as_bytes())?;
-        expect(&rt, row, found.as_str(), wanted);
+        expect_row(&rt, rt.alloc(), row)?;
     }
     Ok(())
 }
@@ -87,28 +102,28 @@ fn scripts(rt: HostRuntime) -> Result<(), Fail> {
 #[test]
 fn lines_that_are_no_orders(rt: HostRuntime) -> Result<(), Fail> {
     for line in OTHERS.lines() {
-        let found = answer(rt.alloc(), line.as_bytes())?;
-        expect(&rt, line, found.as_str(), "0 no order");
+        expect_answer(&rt, rt.alloc(), line, line.as_bytes(), "0 no order")?;
     }
-    let found = answer(rt.alloc(), b"lease 1\n\xFF")?;
-    expect(&rt, "no text", found.as_str(), "0 lease 1, 8 no order");
-    Ok(())
+    let wanted = "0 lease 1, 8 no order";
+    expect_answer(&rt, rt.alloc(), "no text", b"lease 1\n\xFF", wanted)
 }
 
-fn lines(rt: &impl Abort, alloc: Global, line: &str, times: usize) -> Result<usize, Fail> {
+fn lines(alloc: Global, line: &str, times: usize) -> Result<usize, Fail> {
     let mut text = String::new(alloc);
     for _ in 0..times {
         text.push_str(line)?;
     }
-    let read = read_script(alloc, text.as_bytes());
-    assert!(rt; read.is_ok());
-    Ok(read.unwrap_or(Vec::new(alloc)).len())
+    Ok(read_script(alloc, text.as_bytes())?.len())
 }
 
 #[test]
 fn long_scripts(rt: HostRuntime) -> Result<(), Fail> {
     for (line, count) in [("step 1\n", 20_000), ("x\n", 20_000), (" \r\n", 0)] {
-        assert_eq!(rt; lines(&rt, rt.alloc(), line, 20_000)?, count, "{line:?}");
+        is(
+            &rt,
+            &(line, lines(rt.alloc(), line, 20_000)?),
+            &(line, count),
+        );
     }
     Ok(())
 }

@@ -1,6 +1,6 @@
 //! Probe files.
 
-use super::{expect, parts};
+use super::{expect, is, parts};
 use probe_text::read_probes;
 use std::alloc::Global;
 use std::process::Abort;
@@ -53,12 +53,27 @@ fn joined(alloc: Global, numbers: &[i64]) -> Result<String, Fail> {
     Ok(out)
 }
 
+fn expect_answer(
+    rt: &impl Abort,
+    alloc: Global,
+    row: &str,
+    file: &[u8],
+    wanted: &str,
+) -> Result<(), Fail> {
+    let found = answer(alloc, file)?;
+    expect(rt, row, found.as_str(), wanted);
+    Ok(())
+}
+
+fn expect_row(rt: &impl Abort, alloc: Global, row: &str) -> Result<(), Fail> {
+    let (file, wanted) = parts(alloc, row)?;
+    expect_answer(rt, alloc, row, file.as_bytes(), wanted)
+}
+
 #[test]
 fn files(rt: HostRuntime) -> Result<(), Fail> {
     for row in FILES.lines() {
-        let (file, wanted) = parts(rt.alloc(), row)?;
-        let found = answer(rt.alloc(), file.as_bytes())?;
-        expect(&rt, row, found.as_str(), wanted);
+        expect_row(&rt, rt.alloc(), row)?;
     }
     Ok(())
 }
@@ -71,29 +86,29 @@ fn bytes_that_are_no_text(rt: HostRuntime) -> Result<(), Fail> {
         (b"\0", "Line(0)"),
     ];
     for (file, wanted) in table {
-        let found = answer(rt.alloc(), file)?;
-        expect(&rt, wanted, found.as_str(), wanted);
+        expect_answer(&rt, rt.alloc(), wanted, file, wanted)?;
     }
     Ok(())
 }
 
 // A file of a line that is written so often, and of an end: how many numbers it has, and the first one.
 fn answer_to_long(
-    rt: &impl Abort,
     alloc: Global,
     line: &str,
     times: usize,
     end: &str,
-) -> Result<(usize, Option<i64>), Fail> {
+) -> Result<Option<(usize, Option<i64>)>, Fail> {
     let mut text = String::new(alloc);
     for _ in 0..times {
         text.push_str(line)?;
     }
     text.push_str(end)?;
-    let read = read_probes(alloc, text.as_bytes());
-    assert!(rt; read.is_ok(), "{line:?}");
-    let numbers = read.unwrap_or(Vec::new(alloc));
-    Ok((numbers.len(), numbers.first().copied()))
+    Ok(first_of(alloc, text.as_bytes()))
+}
+
+fn first_of(alloc: Global, file: &[u8]) -> Option<(usize, Option<i64>)> {
+    let numbers = read_probes(alloc, file).ok()?;
+    Some((numbers.len(), numbers.first().copied()))
 }
 
 #[test]
@@ -105,8 +120,8 @@ fn long_files(rt: HostRuntime) -> Result<(), Fail> {
         ("\r\n", 500_000, "", (0, None)),
     ];
     for (line, times, end, wanted) in table {
-        let found = answer_to_long(&rt, rt.alloc(), line, times, end)?;
-        assert_eq!(rt; found, wanted, "{line:?}");
+        let found = answer_to_long(rt.alloc(), line, times, end)?;
+        is(&rt, &(line, found), &(line, Some(wanted)));
     }
     Ok(())
 }

@@ -1,9 +1,11 @@
 //! Long texts, and forms that stand as deep as they may, read on a small stack.
 
+use super::is;
 use stab_lex::{Kind, Token, lex};
 use stab_parse::{ParseFault, parse};
 use stab_text::{TextFault, read_program};
 use std::alloc::{AllocError, Global};
+use std::process::Abort;
 use std::test::Fail;
 use std::thread::{Builder, Threads};
 
@@ -88,14 +90,29 @@ fn without_end(rt: HostRuntime) -> Result<(), Fail> {
         ("if ", 300_000, ParseFault::EarlyEnd),
     ];
     for (piece, times, fault) in table {
-        let text = repeated(rt.alloc(), MAIN, piece, times, "")?;
-        let found = read_there(&rt, rt.alloc(), text)?;
+        let found = fault_of_many(&rt, rt.alloc(), piece, times)?;
         let expected = Some(TextFault::Parse(fault));
-        assert_eq!(rt; found, expected, "{times} times {piece}");
+        expect_fault(&rt, piece, found, expected);
     }
+    Ok(())
+}
+
+// The fault of a text that has one piece many times in `main`, and no end.
+fn fault_of_many<R: Threads>(
+    rt: &R,
+    alloc: Global,
+    piece: &str,
+    times: u32,
+) -> Result<Option<TextFault>, Fail> {
+    let text = repeated(alloc, MAIN, piece, times, "")?;
+    read_there(rt, alloc, text)
+}
+
+#[test]
+fn more_tokens_than_a_text_has(rt: HostRuntime) -> Result<(), Fail> {
     let tokens = many_ifs(rt.alloc(), 1_000_000)?;
     let fault = parse_there(&rt, rt.alloc(), tokens)?;
-    assert_eq!(rt; fault, Some(ParseFault::EarlyEnd));
+    is(&rt, &fault, &Some(ParseFault::EarlyEnd));
     Ok(())
 }
 
@@ -113,10 +130,27 @@ fn in_each_other(rt: HostRuntime) -> Result<(), Fail> {
         ("if ", "true", " {}", 100_000, Some(299_418)),
     ];
     for (opening, within, closing, times, place) in table {
-        let text = nested(rt.alloc(), opening, within, closing, times)?;
-        let found = read_there(&rt, rt.alloc(), text)?;
-        let expected = place.map(|at| TextFault::Parse(ParseFault::TooNested(at)));
-        assert_eq!(rt; found, expected, "{times} times {opening}");
+        let found = fault_of_nested(&rt, rt.alloc(), (opening, within, closing), times)?;
+        expect_fault(&rt, opening, found, too_nested(place));
     }
     Ok(())
+}
+
+fn expect_fault(rt: &impl Abort, piece: &str, found: Option<TextFault>, wanted: Option<TextFault>) {
+    is(rt, &(piece, found), &(piece, wanted));
+}
+
+fn too_nested(place: Option<u32>) -> Option<TextFault> {
+    Some(TextFault::Parse(ParseFault::TooNested(place?)))
+}
+
+// The fault of a text with forms in each other.
+fn fault_of_nested<R: Threads>(
+    rt: &R,
+    alloc: Global,
+    (opening, within, closing): (&str, &str, &str),
+    times: u32,
+) -> Result<Option<TextFault>, Fail> {
+    let text = nested(alloc, opening, within, closing, times)?;
+    read_there(rt, alloc, text)
 }

@@ -2,7 +2,7 @@
 
 ghost use Rattle.std.specs.Prelude.{◌≤◌, length};
 
-use super::expect;
+use super::{expect, is};
 use stab_lex::{Kind, LexFault, Token, characters, lex, texts_are_quoted};
 use std::alloc::{AllocError, Global};
 use std::process::Abort;
@@ -33,10 +33,21 @@ fn written(alloc: Global, tokens: &[Token]) -> Result<String, Fail> {
     Ok(out)
 }
 
+fn expect_answer(
+    rt: &impl Abort,
+    alloc: Global,
+    row: &str,
+    text: &[u8],
+    wanted: &str,
+) -> Result<(), Fail> {
+    let found = answer(rt, alloc, text)?;
+    expect(rt, row, found.as_str(), wanted);
+    Ok(())
+}
+
 fn expect_answers(rt: &impl Abort, alloc: Global, table: &[(&[u8], &str)]) -> Result<(), Fail> {
     for (text, wanted) in table {
-        let found = answer(rt, alloc, text)?;
-        expect(rt, wanted, found.as_str(), wanted);
+        expect_answer(rt, alloc, wanted, text, wanted)?;
     }
     Ok(())
 }
@@ -99,32 +110,33 @@ const MARKS: &str = "\
 ! Not
 ";
 
-#[test]
-fn reserved_names_and_marks(rt: HostRuntime) -> Result<(), Fail> {
-    for table in [RESERVED, MARKS] {
-        for row in table.lines() {
-            let (spelling, kind) = row.split_once(' ').ok_or("no kind")?;
-            let end = spelling.len();
-            let wanted = format!(in rt.alloc(); "{kind} 0 {end}")?;
-            let found = answer(&rt, rt.alloc(), spelling.as_bytes())?;
-            expect(&rt, row, found.as_str(), wanted.as_str());
-        }
+fn expect_kind(rt: &impl Abort, alloc: Global, row: &str) -> Result<(), Fail> {
+    let (spelling, kind) = row.split_once(' ').ok_or("no kind")?;
+    let end = spelling.len();
+    let wanted = format!(in alloc; "{kind} 0 {end}")?;
+    expect_answer(rt, alloc, row, spelling.as_bytes(), wanted.as_str())
+}
+
+fn expect_kinds(rt: &impl Abort, alloc: Global, table: &str) -> Result<(), Fail> {
+    for row in table.lines() {
+        expect_kind(rt, alloc, row)?;
     }
     Ok(())
 }
 
 #[test]
+fn reserved_names_and_marks(rt: HostRuntime) -> Result<(), Fail> {
+    expect_kinds(&rt, rt.alloc(), RESERVED)?;
+    expect_kinds(&rt, rt.alloc(), MARKS)
+}
+
+#[test]
 fn a_program(rt: HostRuntime) -> Result<(), Fail> {
-    let found = answer(
-        &rt,
-        rt.alloc(),
-        b"fn main(): unit { print(1 + 2) } // the sum",
-    )?;
+    let text = b"fn main(): unit { print(1 + 2) } // the sum";
     let wanted =
         "KeywordFn 0 2, Name 3 7, OpenParen 7 8, CloseParen 8 9, Colon 9 10, KeywordUnit 11 15, OpenBrace 16 17, \
         KeywordPrint 18 23, OpenParen 23 24, Number(1) 24 25, Plus 26 27, Number(2) 28 29, CloseParen 29 30, CloseBrace 31 32";
-    expect(&rt, "program", found.as_str(), wanted);
-    Ok(())
+    expect_answer(&rt, rt.alloc(), "program", text, wanted)
 }
 
 #[test]
@@ -166,28 +178,40 @@ fn token(kind: Kind, start: u32, end: u32) -> Token {
     Token { kind, start, end }
 }
 
+const GREATEST: u32 = 1_048_576;
+
+// How many tokens such a program has, and whether the last one is this.
+fn lexed_greatest(
+    rt: &impl Abort,
+    alloc: Global,
+    (first, between, last): (u8, u8, u8),
+    last_token: Option<Token>,
+) -> Result<(usize, bool), Fail> {
+    let text = greatest_program(alloc, first, between, last)?;
+    let tokens = lexed(rt, alloc, &text)?;
+    Ok((tokens.len(), tokens.last().copied() == last_token))
+}
+
 #[test]
 fn programs_of_the_greatest_length(rt: HostRuntime) -> Result<(), Fail> {
-    let greatest = 1_048_576;
     let table = [
         (
             (b'(', b'(', b'('),
             1_048_576,
-            Some(token(Kind::OpenParen, greatest - 1, greatest)),
+            Some(token(Kind::OpenParen, GREATEST - 1, GREATEST)),
         ),
-        ((b'a', b'a', b'a'), 1, Some(token(Kind::Name, 0, greatest))),
-        ((b'"', b'a', b'"'), 1, Some(token(Kind::Text, 0, greatest))),
+        ((b'a', b'a', b'a'), 1, Some(token(Kind::Name, 0, GREATEST))),
+        ((b'"', b'a', b'"'), 1, Some(token(Kind::Text, 0, GREATEST))),
         ((b'/', b'/', b'a'), 0, None),
         (
             (b'0', b'0', b'7'),
             1,
-            Some(token(Kind::Number(7), 0, greatest)),
+            Some(token(Kind::Number(7), 0, GREATEST)),
         ),
     ];
-    for ((first, between, last), count, last_token) in table {
-        let text = greatest_program(rt.alloc(), first, between, last)?;
-        let tokens = lexed(&rt, rt.alloc(), &text)?;
-        assert!(rt; (tokens.len(), tokens.last().copied()) == (count, last_token));
+    for (bytes, count, last_token) in table {
+        let found = lexed_greatest(&rt, rt.alloc(), bytes, last_token)?;
+        is(&rt, &(bytes, found), &(bytes, (count, true)));
     }
     Ok(())
 }
@@ -223,11 +247,14 @@ fn faults(rt: HostRuntime) -> Result<(), Fail> {
             "BigNumber(2)",
         ),
     ];
-    expect_answers(&rt, rt.alloc(), &table)?;
+    expect_answers(&rt, rt.alloc(), &table)
+}
+
+#[test]
+fn a_million_digits(rt: HostRuntime) -> Result<(), Fail> {
     let million = vec![in rt.alloc(); b'9'; 1_000_000]?;
-    let found = answer(&rt, rt.alloc(), &million)?;
-    expect(&rt, "a million digits", found.as_str(), "BigNumber(0)");
-    Ok(())
+    let wanted = "BigNumber(0)";
+    expect_answer(&rt, rt.alloc(), "a million digits", &million, wanted)
 }
 
 // The characters of the first text of a program.
@@ -245,17 +272,24 @@ fn first_text(alloc: Global, program: &[u8]) -> Result<Option<String>, LexFault>
     Ok(None)
 }
 
+// The first text of a program is this one.
+fn expect_first(rt: &impl Abort, alloc: Global, program: &[u8], wanted: &str) -> Result<(), Fail> {
+    assert!(rt; program.len() <= 1_048_576);
+    let found = first_text(alloc, program)?.ok_or("no text")?;
+    expect(rt, wanted, found.as_str(), wanted);
+    Ok(())
+}
+
 #[test]
 fn characters_of_texts(rt: HostRuntime) -> Result<(), Fail> {
+    expect_first(&rt, rt.alloc(), b"\"\" \"a\"", "")?;
+    let text = "é(\"é\\\\n\\\"//\t\");".as_bytes();
+    expect_first(&rt, rt.alloc(), text, "é\\n\"//\t")
+}
+
+#[test]
+fn a_program_without_texts(rt: HostRuntime) -> Result<(), Fail> {
     let none = first_text(rt.alloc(), b"text // \"a\"")?;
     assert!(rt; none.is_none());
-    let table: [(&[u8], &str); 2] = [
-        (b"\"\" \"a\"", ""),
-        ("é(\"é\\\\n\\\"//\t\");".as_bytes(), "é\\n\"//\t"),
-    ];
-    for (program, wanted) in table {
-        let found = first_text(rt.alloc(), program)?.ok_or("no text")?;
-        expect(&rt, wanted, found.as_str(), wanted);
-    }
     Ok(())
 }

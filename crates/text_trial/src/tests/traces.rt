@@ -1,5 +1,6 @@
 //! Traces that are read and written again.
 
+use super::is;
 use stab_base::Seq;
 use stab_files::MemSink;
 use stab_journal::History;
@@ -78,22 +79,44 @@ fn events_of(alloc: Global, history: &History) -> Result<String, Fail> {
     Ok(text)
 }
 
-// The history has the events of each word, and is written with its words.
-fn has_every_word(rt: &impl Abort, alloc: Global, history: &History) -> Result<(), Fail> {
+fn has_every_event(rt: &impl Abort, alloc: Global, history: &History) -> Result<(), Fail> {
     let events = events_of(alloc, history)?;
-    assert_eq!(rt; events.as_str(), EVERY_EVENT);
-    assert_eq!(rt; history.is_live(Seq(2)), false);
-    assert_eq!(rt; history.is_live(Seq(8)), false);
-    assert_eq!(rt; history.is_live(Seq(9)), true);
-    let again = written(alloc, history)?;
-    assert_eq!(rt; again.as_slice(), EVERY_WORD.as_bytes());
+    is(rt, &events.as_str(), &EVERY_EVENT);
+    Ok(())
+}
+
+// Whether the events 2, 8 and 9 are live.
+fn live(history: &History) -> [bool; 3] {
+    [
+        history.is_live(Seq(2)),
+        history.is_live(Seq(8)),
+        history.is_live(Seq(9)),
+    ]
+}
+
+fn is_written(
+    rt: &impl Abort,
+    alloc: Global,
+    history: &History,
+    wanted: &[u8],
+) -> Result<(), Fail> {
+    let found = written(alloc, history)?;
+    is(rt, &found.as_slice(), &wanted);
     Ok(())
 }
 
 #[test]
 fn every_word_is_read_and_written(rt: HostRuntime) -> Result<(), Fail> {
     let history = read(rt.alloc(), EVERY_WORD.as_bytes())?;
-    has_every_word(&rt, rt.alloc(), &history)
+    is(&rt, &live(&history), &[false, false, true]);
+    has_every_event(&rt, rt.alloc(), &history)?;
+    is_written(&rt, rt.alloc(), &history, EVERY_WORD.as_bytes())
+}
+
+// The trace that is written of one that was read.
+fn expect_again(rt: &impl Abort, alloc: Global, trace: &[u8], wanted: &[u8]) -> Result<(), Fail> {
+    let history = read(alloc, trace)?;
+    is_written(rt, alloc, &history, wanted)
 }
 
 // A trace without releases may have the first header, and is written with the second.
@@ -107,9 +130,7 @@ fn the_first_header(rt: HostRuntime) -> Result<(), Fail> {
         ),
     ];
     for (first, second) in table {
-        let history = read(rt.alloc(), first)?;
-        let again = written(rt.alloc(), &history)?;
-        assert_eq!(rt; again.as_slice(), second);
+        expect_again(&rt, rt.alloc(), first, second)?;
     }
     Ok(())
 }

@@ -1,6 +1,7 @@
 //! Tables of words with what they ask for, or their fault.
 //! The words of a line stand between single spaces, so two in a row have an empty word between them.
 
+use super::is;
 use stab_words::{Name, Request, RunArgs, WordFault, read_words};
 use std::alloc::{AllocError, Global};
 use std::test::Fail;
@@ -87,11 +88,16 @@ fn request_text(alloc: Global, request: &Request) -> Result<String, AllocError> 
 // Each line of the table is words, ` -> ` and their answer.
 fn answers(alloc: Global, table: &str) -> Result<(), Fail> {
     for row in table.lines() {
-        let (line, expected) = row.split_once(" -> ").ok_or("no arrow")?;
-        let answer = answer(alloc, line)?;
-        if answer.as_str() != expected {
-            return Err(Fail::from(format!(in alloc; "{row}, and not {answer}")?));
-        }
+        is_answered(alloc, row)?;
+    }
+    Ok(())
+}
+
+fn is_answered(alloc: Global, row: &str) -> Result<(), Fail> {
+    let (line, expected) = row.split_once(" -> ").ok_or("no arrow")?;
+    let answer = answer(alloc, line)?;
+    if answer.as_str() != expected {
+        return Err(Fail::from(format!(in alloc; "{row}, and not {answer}")?));
     }
     Ok(())
 }
@@ -99,7 +105,7 @@ fn answers(alloc: Global, table: &str) -> Result<(), Fail> {
 #[test]
 fn without_words(rt: HostRuntime) -> Result<(), Fail> {
     let none = read_words(rt.alloc(), &Vec::new(rt.alloc()));
-    assert_eq!(rt; none.err(), Some(WordFault::NoCommand));
+    is(&rt, &none.err(), &Some(WordFault::NoCommand));
     Ok(())
 }
 
@@ -386,17 +392,19 @@ fn words_of_save_and_resume(rt: HostRuntime) -> Result<(), Fail> {
 // The name of a file is as long as a system takes it.
 #[test]
 fn long_names(rt: HostRuntime) -> Result<(), Fail> {
-    let mut name = String::new(rt.alloc());
-    for _ in 0..2_048 {
-        name.push_str("é")?;
-    }
-    let name = name.as_str();
-    let run = format!(in rt.alloc();
-        "run {name} --probes={name} -> run {name} {name} 4 1000000 1000"
-    )?;
-    answers(rt.alloc(), run.as_str())?;
-    let save = format!(in rt.alloc(); "save {name} {name} 1 -> save {name} {name} 1 .")?;
-    answers(rt.alloc(), save.as_str())
+    let name = "é".repeat(rt.alloc(), 2_048)?;
+    long_name_of_run(rt.alloc(), name.as_str())?;
+    long_name_of_save(rt.alloc(), name.as_str())
+}
+
+fn long_name_of_run(alloc: Global, name: &str) -> Result<(), Fail> {
+    let row = format!(in alloc; "run {name} --probes={name} -> run {name} {name} 4 1000000 1000")?;
+    answers(alloc, row.as_str())
+}
+
+fn long_name_of_save(alloc: Global, name: &str) -> Result<(), Fail> {
+    let row = format!(in alloc; "save {name} {name} 1 -> save {name} {name} 1 .")?;
+    answers(alloc, row.as_str())
 }
 
 const UNKNOWN: &str = "\
