@@ -2,6 +2,7 @@
 ghost use Rattle.std.specs.Prelude.{◌≡◌, ◌≤◌};
 ghost use Rattle.stab_journal.specs.Event.{IsWorker};
 
+use super::is;
 use stab_base::NoMemory;
 use stab_code::MAX_FUEL;
 use std::alloc::Global;
@@ -124,13 +125,33 @@ fn threads_count_together(rt: HostRuntime) -> Result<(), Fail> {
         (8, 100_000, 400_000, 160_000, 799_992),
         (64, 3_000, 96_000, 38_400, 192_000),
     ] {
-        let closed = trial(&rt, rt.alloc(), plan(workers, turns), MAX_FUEL)?;
-        assert_eq!(rt; closed.tally, Tally { commits, stale });
-        assert_eq!(rt; closed.state.history.len(), events);
-        assert_eq!(rt; closed.heard.len(), workers as usize);
-        assert!(rt; agree(rt.alloc(), &closed)?);
+        let found = counted(&rt, rt.alloc(), plan(workers, turns), MAX_FUEL)?;
+        let wanted = (commits, stale, events, workers as usize, true);
+        is(&rt, &found, &wanted);
     }
     Ok(())
+}
+
+// The commits, the late calls, the events and the workers of a trial, and whether they agree.
+fn counted<R: Threads + Wait + Sync>(
+    rt: &R,
+    alloc: Global,
+    plan: Plan,
+    fuel: u64,
+) -> Result<(u64, u64, u64, usize, bool), NoMemory>
+    requires workers { IsWorker plan.workers }
+    requires fuel { (1 ≤ fuel) × (fuel ≤ MAX_FUEL) }
+{
+    let closed = trial(rt, alloc, plan, fuel)?;
+    let agree = agree(alloc, &closed)?;
+    let (commits, stale) = (closed.tally.commits, closed.tally.stale);
+    Ok((
+        commits,
+        stale,
+        closed.state.history.len(),
+        closed.heard.len(),
+        agree,
+    ))
 }
 
 // Three workers add 19,999 events each in 20,000 turns, the last of them in the last turn.
@@ -141,21 +162,20 @@ fn a_pass_rests_while_others_work(rt: HostRuntime) -> Result<(), Fail> {
         ..plan(4, 20_000)
     };
     let closed = trial(&rt, rt.alloc(), plan, 59_997)?;
-    assert_eq!(rt;
-        closed.tally,
-        Tally {
-            commits: 30_000,
-            stale: 12_000
-        }
-    );
-    assert_eq!(rt; closed.state.history.len(), 59_997);
-    assert!(rt; agree(rt.alloc(), &closed)?);
-    let last = closed
-        .heard
-        .last()
-        .map(|heard| (heard.numbers.len(), heard.spent));
-    assert_eq!(rt; last, Some((0, true)));
+    let agree = agree(rt.alloc(), &closed)?;
+    let (commits, stale) = (closed.tally.commits, closed.tally.stale);
+    let found = (commits, stale, closed.state.history.len(), agree);
+    is(&rt, &found, &(30_000, 12_000, 59_997, true));
+    assert!(rt; is_last_at_rest(&closed.heard));
     Ok(())
+}
+
+// Whether the last worker was told of no events, and that the counter is spent.
+fn is_last_at_rest(heard: &[Heard]) -> bool {
+    match heard.last() {
+        Some(last) => last.numbers.is_empty() && last.spent,
+        None => false,
+    }
 }
 
 // A counter that isn't spent adds two events at most, and one that is spent none.
@@ -166,14 +186,30 @@ fn a_floor_is_closed_early(rt: HostRuntime) -> Result<(), Fail> {
         (1, 1, 0, 0),
         (1_000, 0, 0, 0),
     ] {
-        let closed = trial(&rt, rt.alloc(), plan(4, turns), fuel)?;
-        let events = closed.state.history.len();
-        assert!(rt; least <= events && events <= greatest, "{events} events");
-        let spent = closed.heard.iter().all(|heard| heard.spent);
-        assert_eq!(rt; spent, events >= fuel);
-        assert!(rt; agree(rt.alloc(), &closed)?);
+        let (events, spent, agree) = spent(&rt, rt.alloc(), plan(4, turns), fuel)?;
+        let within = least <= events && events <= greatest;
+        assert!(rt;
+            within && spent == (events >= fuel) && agree,
+            "{events} events"
+        );
     }
     Ok(())
+}
+
+// The events of a trial, whether each worker was told that the counter is spent, and whether what is left agrees.
+fn spent<R: Threads + Wait + Sync>(
+    rt: &R,
+    alloc: Global,
+    plan: Plan,
+    fuel: u64,
+) -> Result<(u64, bool, bool), NoMemory>
+    requires workers { IsWorker plan.workers }
+    requires fuel { (1 ≤ fuel) × (fuel ≤ MAX_FUEL) }
+{
+    let closed = trial(rt, alloc, plan, fuel)?;
+    let agree = agree(alloc, &closed)?;
+    let spent = closed.heard.iter().all(|heard| heard.spent);
+    Ok((closed.state.history.len(), spent, agree))
 }
 
 #[test]
@@ -186,10 +222,25 @@ fn calls_add_none_one_and_two_events(rt: HostRuntime) -> Result<(), Fail> {
         (4, [1, 2, 3].as_slice()),
         (6, [1, 2, 3, 4, 5, 6].as_slice()),
     ] {
-        let closed = trial(&rt, rt.alloc(), plan(1, turns), 100)?;
-        let heard = closed.heard.first().map(|heard| heard.numbers.as_slice());
-        assert_eq!(rt; heard, Some(numbers));
-        assert!(rt; agree(rt.alloc(), &closed)?);
+        let heard = hears(&rt, rt.alloc(), plan(1, turns), numbers)?;
+        assert!(rt; heard, "{numbers:?}");
     }
     Ok(())
+}
+
+// Whether the first worker is told of events of these numbers, and what is left agrees.
+fn hears<R: Threads + Wait + Sync>(
+    rt: &R,
+    alloc: Global,
+    plan: Plan,
+    numbers: &[u64],
+) -> Result<bool, NoMemory>
+    requires { IsWorker plan.workers }
+{
+    let closed = trial(rt, alloc, plan, 100)?;
+    let agree = agree(alloc, &closed)?;
+    match closed.heard.first() {
+        Some(heard) => Ok(agree && heard.numbers.as_slice() == numbers),
+        None => Ok(false),
+    }
 }

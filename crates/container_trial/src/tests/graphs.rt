@@ -2,6 +2,7 @@
 ghost use Rattle.std.specs.Prelude.{◌≡◌};
 
 use super::growing::{CASCADE, Growing, MAIN, THREE, TWO};
+use super::is;
 use comm_graph::{Graph, NodeFor};
 use stab_base::{NoMemory, Seq, ThreadId};
 use std::alloc::Global;
@@ -218,39 +219,45 @@ fn cascade_ends<L: Ledger>(alloc: Global, blank: Blank, q: u64) -> Result<Vec<u6
 
 #[test]
 fn the_edges_of_a_cascade(rt: HostRuntime) -> Result<(), Fail> {
-    let alloc = rt.alloc();
-    assert_eq!(rt;
-        cascade_ends::<Brand>(alloc, Blank::new(1), 5)?.as_slice(),
-        [7, 22, 19, 14, 10].as_slice()
-    );
-    assert_eq!(rt;
-        cascade_ends::<Brand>(alloc, Blank::new(1), 7)?.as_slice(),
-        [9, 20].as_slice()
-    );
-    assert_eq!(rt;
-        cascade_ends::<Brand>(alloc, Blank::new(1), 12)?.as_slice(),
-        [17].as_slice()
-    );
-    assert_eq!(rt;
-        cascade_ends::<Brand>(alloc, Blank::new(1), 20)?.as_slice(),
-        [28, 23].as_slice()
-    );
-    assert_eq!(rt;
-        cascade_ends::<Brand>(alloc, Blank::new(1), 23)?.as_slice(),
-        [26].as_slice()
-    );
+    let wrong = first_wrong(rt.alloc())?;
+    is(&rt, &wrong, &None);
     Ok(())
+}
+
+// Nodes of the cascade, and where their edges lead.
+const ENDS: [(u64, &[u64]); 5] = [
+    (5, &[7, 22, 19, 14, 10]),
+    (7, &[9, 20]),
+    (12, &[17]),
+    (20, &[28, 23]),
+    (23, &[26]),
+];
+
+fn has_ends(alloc: Global, q: u64, wanted: &[u64]) -> Result<bool, Fail> {
+    let ends = cascade_ends::<Brand>(alloc, Blank::new(1), q)?;
+    Ok(ends.as_slice() == wanted)
+}
+
+fn first_wrong(alloc: Global) -> Result<Option<u64>, Fail> {
+    for (q, wanted) in ENDS {
+        if !has_ends(alloc, q, wanted)? {
+            return Ok(Some(q));
+        }
+    }
+    Ok(None)
 }
 
 #[test]
 fn room_for_many(rt: HostRuntime) -> Result<(), Fail> {
     let mut growing = Growing::new(rt.alloc());
+    put_many(&mut growing)?;
+    is(&rt, &growing.graph.len(), &999);
+    Ok(())
+}
+
+fn put_many(growing: &mut Growing) -> Result<(), NoMemory> {
     for q in 1..1000u32 {
-        assert_eq!(rt;
-            growing.put(u64::from(q), NodeFor::Enter(ThreadId(q))),
-            Ok(())
-        );
+        growing.put(u64::from(q), NodeFor::Enter(ThreadId(q)))?;
     }
-    assert_eq!(rt; growing.graph.len(), 999);
     Ok(())
 }

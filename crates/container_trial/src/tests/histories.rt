@@ -2,8 +2,10 @@
 
 ghost use Rattle.std.specs.Prelude.{◌≡◌};
 
+use super::is;
 use stab_base::{ChanId, NoMemory, RefId, Seq, ThreadId};
 use stab_journal::{Event, History, Label, Numbered, What};
+use std::alloc::Global;
 use std::test::Fail;
 
 fn step(worker: u32, label: Label) -> Event
@@ -18,13 +20,11 @@ fn step(worker: u32, label: Label) -> Event
 #[test]
 fn a_section_is_taken_back(rt: HostRuntime) {
     let mut history = History::new(rt.alloc());
-    assert_eq!(rt; history.len(), 0);
-    assert_eq!(rt; history.weight(), 0);
+    let empty = (history.len(), history.weight());
     assert_eq!(rt; history.reserve(5), Ok(()));
     let one = history.push(step(1, Label::Local(ThreadId(1), 40)));
     let two = history.push(step(64, Label::Enter(ThreadId(1))));
     let three = history.push(step(1, Label::NewChan(ThreadId(1), ChanId(1))));
-    assert_eq!(rt; (one, two, three), (Seq(1), Seq(2), Seq(3)));
     let undo = Event {
         worker: 2,
         what: What::Undo(ThreadId(1), two),
@@ -36,27 +36,49 @@ fn a_section_is_taken_back(rt: HostRuntime) {
         worker: 1,
         what: What::Release(1),
     });
-    assert_eq!(rt; (four, five), (Seq(4), Seq(5)));
-    assert_eq!(rt; history.len(), 5);
-    assert_eq!(rt; history.weight(), 44);
-    let live = [0, 1, 2, 3, 4, 5, 6].map(|q| history.is_live(Seq(q)));
-    assert_eq!(rt; live, [false, true, false, false, false, false, false]);
-    assert!(rt; history.get(four) == Some(undo));
-    assert!(rt; history.get(Seq(0)) == None);
-    assert!(rt; history.get(Seq(6)) == None);
+    let numbers = [one, two, three, four, five].map(|q| q.0);
+    let whole = (history.len(), history.weight());
+    is(
+        &rt,
+        &(empty, numbers, whole),
+        &((0, 0), [1, 2, 3, 4, 5], (5, 44)),
+    );
+    is(
+        &rt,
+        &live(&history),
+        &[false, true, false, false, false, false, false],
+    );
+    assert!(rt; has_between(&history, four, undo));
+}
+
+fn live(history: &History) -> [bool; 7] {
+    [0, 1, 2, 3, 4, 5, 6].map(|q| history.is_live(Seq(q)))
+}
+
+// Whether this event has this number, and none is numbered 0 or 6.
+fn has_between(history: &History, q: Seq, event: Event) -> bool {
+    history.get(q) == Some(event) && history.get(Seq(0)).is_none() && history.get(Seq(6)).is_none()
 }
 
 #[test]
 fn room_is_kept(rt: HostRuntime) -> Result<(), NoMemory> {
-    let mut history = History::new(rt.alloc());
+    let wrong = first_wrong(rt.alloc())?;
+    is(&rt, &wrong, &None);
+    Ok(())
+}
+
+// The first event that gets another number, or that comes to a history with another length or weight.
+fn first_wrong(alloc: Global) -> Result<Option<u64>, NoMemory> {
+    let mut history = History::new(alloc);
     for i in 0..100 {
-        assert_eq!(rt; history.len(), i);
-        assert_eq!(rt; history.weight(), i);
+        let before = (history.len(), history.weight());
         history.reserve(1)?;
         let q = history.push(step(1, Label::Set(ThreadId(4_000_000_000), RefId(1))));
-        assert_eq!(rt; q, Seq(i + 1));
+        if before != (i, i) || q != Seq(i + 1) {
+            return Ok(Some(i));
+        }
     }
-    Ok(())
+    Ok(None)
 }
 
 #[test]
@@ -71,7 +93,6 @@ fn survivors_and_own_events_are_read_in_order(rt: HostRuntime) -> Result<(), Fai
     });
     history.strike(enter);
     let cut = history.push(step(2, Label::Cut(ThreadId(2))));
-    let mut survivors = history.survivors();
     let first = Numbered {
         seq: print,
         label: Label::Print(ThreadId(2)),
@@ -80,11 +101,22 @@ fn survivors_and_own_events_are_read_in_order(rt: HostRuntime) -> Result<(), Fai
         seq: cut,
         label: Label::Cut(ThreadId(2)),
     };
-    assert!(rt; survivors.next() == Some(first));
-    assert!(rt; survivors.next() == Some(second));
-    assert!(rt; survivors.next() == None);
-    let third: Vec<u64> = history.own(3).map(|own| own.seq.0).collect(rt.alloc())?;
-    assert_eq!(rt; third.as_slice(), [1, 3].as_slice());
-    assert!(rt; history.own(1).next().is_none());
+    let survive = are_survivors(&history, first, second);
+    let own = are_own(&history, 3, Seq(1), Seq(3)) && history.own(1).next().is_none();
+    is(&rt, &(survive, own), &(true, true));
     Ok(())
+}
+
+// Whether these two steps survive, and no others.
+fn are_survivors(history: &History, first: Numbered, second: Numbered) -> bool {
+    let mut survivors = history.survivors();
+    survivors.next() == Some(first)
+        && survivors.next() == Some(second)
+        && survivors.next().is_none()
+}
+
+// Whether a worker's events have these two numbers.
+fn are_own(history: &History, worker: u32, first: Seq, second: Seq) -> bool {
+    let mut numbers = history.own(worker).map(|own| own.seq);
+    numbers.next() == Some(first) && numbers.next() == Some(second) && numbers.next().is_none()
 }

@@ -1,5 +1,6 @@
 //! Lists that places come into and leave.
 
+use super::is;
 use linked_lists::Lists;
 use stab_base::NoMemory;
 use std::alloc::Global;
@@ -66,27 +67,52 @@ fn after(lists: &Lists, place: Option<usize>) -> Option<usize> {
 #[test]
 fn a_place_leaves_the_middle(rt: HostRuntime) -> Result<(), Fail> {
     let mut lists = made(rt.alloc(), 2, 4)?;
-    for (list, place) in [(0, 3), (0, 1), (0, 4), (1, 2)] {
-        put(&mut lists, list, place);
-    }
-    assert_eq!(rt; order(&lists, 0), [Some(3), Some(1), Some(4)]);
-    take(&mut lists, 1);
-    assert_eq!(rt; order(&lists, 0), [Some(3), Some(4), None]);
-    assert_eq!(rt; next(&lists, 1), None);
-    put(&mut lists, 1, 3);
-    assert_eq!(rt; order(&lists, 0), [Some(4), None, None]);
-    assert_eq!(rt; order(&lists, 1), [Some(2), Some(3), None]);
+    put_all(&mut lists);
+    let orders = orders(&mut lists);
+    let wanted = [
+        [Some(3), Some(1), Some(4)],
+        [Some(3), Some(4), None],
+        [None; 3],
+        [Some(4), None, None],
+        [Some(2), Some(3), None],
+    ];
+    is(&rt, &orders, &wanted);
     Ok(())
+}
+
+fn put_all(lists: &mut Lists) {
+    for (list, place) in [(0, 3), (0, 1), (0, 4), (1, 2)] {
+        put(lists, list, place);
+    }
+}
+
+// The first list, the same once place 1 was taken and what is then behind that, and both lists once place 3 changed over.
+fn orders(lists: &mut Lists) -> [[Option<usize>; 3]; 5] {
+    let first = order(lists, 0);
+    take(lists, 1);
+    let without_one = order(lists, 0);
+    let behind_one = [next(lists, 1), None, None];
+    put(lists, 1, 3);
+    [
+        first,
+        without_one,
+        behind_one,
+        order(lists, 0),
+        order(lists, 1),
+    ]
 }
 
 #[test]
 fn room_for_many(rt: HostRuntime) -> Result<(), Fail> {
     let mut lists = Lists::new(rt.alloc());
-    assert_eq!(rt; lists.reserve(100_000), Ok(()));
-    assert_eq!(rt; lists.reserve_lists(100_000), Ok(()));
-    lists.add_list();
+    let reserved = [lists.reserve(100_000), lists.reserve_lists(100_000)];
+    is(&rt, &reserved, &[Ok(()); 2]);
+    Ok(())
+}
+
+#[test]
+fn many_lists_and_places(rt: HostRuntime) -> Result<(), Fail> {
     let many = made(rt.alloc(), 1000, 1000)?;
-    assert_eq!(rt; many.lists(), 1000);
-    assert_eq!(rt; many.places(), 1000);
+    is(&rt, &(many.lists(), many.places()), &(1000, 1000));
     Ok(())
 }

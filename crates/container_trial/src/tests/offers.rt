@@ -3,6 +3,7 @@
 ghost use Rattle.std.specs.Prelude.{◌≡◌, true};
 ghost use Rattle.rendezvous.specs.Line.{AreThere};
 
+use super::is;
 use rendezvous::{Offer, Offers, Side};
 use stab_base::{ChanId, NoMemory, ThreadId};
 use std::alloc::{AllocError, Global};
@@ -129,47 +130,74 @@ const THIRTY: [Call; 30] = [
 fn a_line_beside_a_list(rt: HostRuntime) -> Result<(), Fail> {
     let mut offers = with_both(rt.alloc())?;
     let mut waiting = Vec::new(rt.alloc());
-    for call in THIRTY {
-        apply(&mut offers, call)?;
-        on_list(&mut waiting, call)?;
-        assert_eq!(rt;
-            meet(&offers, A, Side::Send),
-            waiting.first().map(|t| ThreadId(*t))
-        );
+    let apart = first_apart(&mut offers, &mut waiting)?;
+    let left = first_out_of_order(&mut offers, &waiting);
+    let nobody = [meet(&offers, A, Side::Send), meet(&offers, B, Side::Send)];
+    is(&rt, &(apart, left, nobody), &(None, None, [None, None]));
+    Ok(())
+}
+
+// How many calls were made when another thread met than the first of the list.
+fn first_apart(offers: &mut Offers, waiting: &mut Vec<u32>) -> Result<Option<usize>, Fail> {
+    for (calls, call) in THIRTY.iter().enumerate() {
+        apply(offers, *call)?;
+        on_list(waiting, *call)?;
+        let first = waiting.first().map(|t| ThreadId(*t));
+        if meet(offers, A, Side::Send) != first {
+            return Ok(Some(calls));
+        }
     }
-    for t in &waiting {
-        assert_eq!(rt; meet(&offers, A, Side::Send), Some(ThreadId(*t)));
+    Ok(None)
+}
+
+// The first of these threads that isn't the next to meet; each is withdrawn when it is.
+fn first_out_of_order(offers: &mut Offers, waiting: &[u32]) -> Option<u32> {
+    for t in waiting {
+        if meet(offers, A, Side::Send) != Some(ThreadId(*t)) {
+            return Some(*t);
+        }
         offers.withdraw(ThreadId(*t));
     }
-    assert_eq!(rt; meet(&offers, A, Side::Send), None);
-    assert_eq!(rt; meet(&offers, B, Side::Send), None);
+    None
+}
+
+fn park_all(offers: &mut Offers, threads: &[(u32, Offer)]) -> Result<(), NoMemory> {
+    for (t, offer) in threads {
+        park(offers, *t, *offer)?;
+    }
     Ok(())
 }
 
 #[test]
 fn what_a_thread_offers_is_read(rt: HostRuntime) -> Result<(), Fail> {
     let mut offers = with_both(rt.alloc())?;
-    park(&mut offers, 1, RECV)?;
-    park(&mut offers, 2, TWICE)?;
-    park(&mut offers, 3, FIRST)?;
-    park(&mut offers, 4, SECOND)?;
-    assert_eq!(rt; offers.offer(ThreadId(1)), Some(Offer::Recv(A)));
-    assert_eq!(rt; offers.offer(ThreadId(2)), Some(Offer::Pick(A, A)));
-    assert_eq!(rt; offers.offer(ThreadId(3)), Some(Offer::Pick(A, B)));
-    assert_eq!(rt; offers.offer(ThreadId(4)), Some(Offer::Pick(B, A)));
-    assert_eq!(rt; offers.offer(ThreadId(5)), None);
+    park_all(
+        &mut offers,
+        &[(1, RECV), (2, TWICE), (3, FIRST), (4, SECOND)],
+    )?;
+    let told = [1, 2, 3, 4, 5].map(|t| offers.offer(ThreadId(t)));
+    let wanted = [
+        Some(Offer::Recv(A)),
+        Some(Offer::Pick(A, A)),
+        Some(Offer::Pick(A, B)),
+        Some(Offer::Pick(B, A)),
+        None,
+    ];
     offers.withdraw(ThreadId(2));
-    assert_eq!(rt; offers.offer(ThreadId(2)), None);
+    is(&rt, &(told, offers.offer(ThreadId(2))), &(wanted, None));
     Ok(())
 }
 
 #[test]
 fn a_sender_waits(rt: HostRuntime) -> Result<(), Fail> {
     let mut offers = with_both(rt.alloc())?;
-    assert_eq!(rt; park(&mut offers, 1, Offer::Send(A)), Ok(()));
-    assert_eq!(rt; meet(&offers, A, Side::Recv), Some(ThreadId(1)));
-    assert_eq!(rt; meet(&offers, A, Side::Send), None);
-    assert_eq!(rt; meet(&offers, B, Side::Recv), None);
+    park(&mut offers, 1, Offer::Send(A))?;
+    let met = [
+        meet(&offers, A, Side::Recv),
+        meet(&offers, A, Side::Send),
+        meet(&offers, B, Side::Recv),
+    ];
+    is(&rt, &met, &[Some(ThreadId(1)), None, None]);
     Ok(())
 }
 
@@ -179,19 +207,28 @@ fn a_channel_comes_and_goes(rt: HostRuntime) -> Result<(), Fail> {
     let mut offers = Offers::new(rt.alloc());
     offers.make(a)?;
     offers.unmake(a);
-    assert_eq!(rt; offers.contains(a), false);
-    assert_eq!(rt; make(&mut offers, a), Ok(()));
-    assert_eq!(rt; offers.contains(a), true);
+    let gone = !offers.contains(a);
+    make(&mut offers, a)?;
+    assert!(rt; gone && offers.contains(a));
     Ok(())
 }
 
 #[test]
 fn room_for_many(rt: HostRuntime) -> Result<(), Fail> {
     let mut offers = Offers::new(rt.alloc());
+    park_many(&mut offers)?;
+    is(
+        &rt,
+        &meet(&offers, ChanId(999), Side::Send),
+        &Some(ThreadId(999)),
+    );
+    Ok(())
+}
+
+fn park_many(offers: &mut Offers) -> Result<(), NoMemory> {
     for c in 1..1000u32 {
-        assert_eq!(rt; make(&mut offers, ChanId(c)), Ok(()));
-        assert_eq!(rt; park(&mut offers, c, Offer::Recv(ChanId(c))), Ok(()));
+        make(offers, ChanId(c))?;
+        park(offers, c, Offer::Recv(ChanId(c)))?;
     }
-    assert_eq!(rt; meet(&offers, ChanId(999), Side::Send), Some(ThreadId(999)));
     Ok(())
 }

@@ -1,6 +1,7 @@
 //! The steps of a few threads, by hand and beside a plain list.
 ghost use Rattle.std.specs.Prelude.{◌≡◌, ℕ};
 
+use super::is;
 use own_steps::OwnSteps;
 use stab_base::{NoMemory, Seq, ThreadId};
 use std::alloc::Global;
@@ -20,58 +21,79 @@ fn last(own: &OwnSteps, t: u32) -> u64 {
     }
 }
 
+// Threads and the numbers of their steps.
+fn push_all(own: &mut OwnSteps, steps: &[(u32, u64)]) -> Result<(), NoMemory> {
+    for (t, q) in steps {
+        push(own, *t, *q)?;
+    }
+    Ok(())
+}
+
+// The last steps of threads 1 and 2.
+fn lasts(own: &OwnSteps) -> [u64; 2] {
+    [last(own, 1), last(own, 2)]
+}
+
+// The last steps, and once a step of thread 1 was popped, three of thread 2, and one more of thread 1.
+fn lasts_of_popped(own: &mut OwnSteps) -> [[u64; 2]; 4] {
+    let before = lasts(own);
+    own.pop(ThreadId(1));
+    let without_one = lasts(own);
+    own.pop(ThreadId(2));
+    own.pop(ThreadId(2));
+    own.pop(ThreadId(2));
+    let without_two = lasts(own);
+    own.pop(ThreadId(1));
+    [before, without_one, without_two, lasts(own)]
+}
+
 #[test]
 fn the_last_step_of_each_thread_goes(rt: HostRuntime) -> Result<(), Fail> {
     let mut own = OwnSteps::new(rt.alloc());
-    push(&mut own, 1, 3)?;
-    push(&mut own, 2, 3)?;
-    push(&mut own, 1, 5)?;
-    push(&mut own, 2, 7)?;
-    assert_eq!(rt; last(&own, 1), 5);
-    own.pop(ThreadId(1));
-    assert_eq!(rt; last(&own, 1), 3);
-    assert_eq!(rt; last(&own, 2), 7);
-    own.pop(ThreadId(2));
-    own.pop(ThreadId(2));
-    own.pop(ThreadId(2));
-    assert_eq!(rt; last(&own, 2), 0);
-    assert_eq!(rt; last(&own, 1), 3);
-    own.pop(ThreadId(1));
-    assert_eq!(rt; last(&own, 1), 0);
+    push_all(&mut own, &[(1, 3), (2, 3), (1, 5), (2, 7)])?;
+    let found = lasts_of_popped(&mut own);
+    is(&rt, &found, &[[5, 7], [3, 7], [3, 0], [0, 0]]);
     Ok(())
+}
+
+// How many places are taken once a thread's last step was popped.
+fn taken_without(own: &mut OwnSteps, t: u32) -> usize {
+    own.pop(ThreadId(t));
+    own.len()
 }
 
 #[test]
 fn places_of_popped_steps_are_free_again(rt: HostRuntime) -> Result<(), Fail> {
     let mut own = OwnSteps::new(rt.alloc());
-    push(&mut own, 1, 1)?;
-    push(&mut own, 2, 2)?;
-    push(&mut own, 3, 3)?;
-    own.pop(ThreadId(2));
-    assert_eq!(rt; own.len(), 3);
-    own.pop(ThreadId(3));
-    assert_eq!(rt; own.len(), 1);
-    own.pop(ThreadId(1));
-    assert_eq!(rt; own.len(), 0);
+    push_all(&mut own, &[(1, 1), (2, 2), (3, 3)])?;
+    let taken = [
+        taken_without(&mut own, 2),
+        taken_without(&mut own, 3),
+        taken_without(&mut own, 1),
+    ];
+    is(&rt, &taken, &[3, 1, 0]);
     Ok(())
+}
+
+// The last steps after all were forgotten, and as the places of both threads are taken by steps of the other one.
+fn lasts_anew(own: &mut OwnSteps) -> Result<[[u64; 2]; 3], NoMemory> {
+    push_all(own, &[(2, 4), (1, 5)])?;
+    own.clear();
+    let none = lasts(own);
+    push(own, 1, 8)?;
+    let one = lasts(own);
+    push(own, 2, 9)?;
+    Ok([none, one, lasts(own)])
 }
 
 #[test]
 fn a_thread_begins_anew_after_all_were_forgotten(rt: HostRuntime) -> Result<(), Fail> {
     let mut own = OwnSteps::new(rt.alloc());
-    push(&mut own, 2, 4)?;
-    push(&mut own, 1, 5)?;
-    own.clear();
-    assert_eq!(rt; last(&own, 1), 0);
-    // The places of both threads are taken by steps of the other one.
-    push(&mut own, 1, 8)?;
-    assert_eq!(rt; last(&own, 2), 0);
-    push(&mut own, 2, 9)?;
-    assert_eq!(rt; last(&own, 1), 8);
+    let anew = lasts_anew(&mut own)?;
     own.pop(ThreadId(2));
-    assert_eq!(rt; last(&own, 2), 0);
     own.pop(ThreadId(1));
-    assert_eq!(rt; last(&own, 1), 0);
+    let popped = lasts(&own);
+    is(&rt, &(anew, popped), &([[0, 0], [8, 0], [8, 9]], [0, 0]));
     Ok(())
 }
 
@@ -79,10 +101,9 @@ fn a_thread_begins_anew_after_all_were_forgotten(rt: HostRuntime) -> Result<(), 
 fn a_thread_without_a_place_has_no_steps(rt: HostRuntime) -> Result<(), Fail> {
     let mut own = OwnSteps::new(rt.alloc());
     own.pop(ThreadId(7));
-    assert_eq!(rt; last(&own, 7), 0);
-    assert_eq!(rt; own.reserve(100_000, ThreadId(1_000)), Ok(()));
-    assert_eq!(rt; last(&own, 1_000), 0);
-    assert_eq!(rt; own.len(), 0);
+    own.reserve(100_000, ThreadId(1_000))?;
+    let found = (last(&own, 7), last(&own, 1_000), own.len());
+    is(&rt, &found, &(0, 0, 0));
     Ok(())
 }
 
@@ -157,22 +178,38 @@ const THIRTY: [Call; 30] = [
     Call::Pop(1),
 ];
 
+fn all_agree(own: &OwnSteps, plain: &[Step]) -> bool {
+    (1..5).all(|t| agree(own, plain, t))
+}
+
+fn apply(own: &mut OwnSteps, call: Call, number: u64) -> Result<(), NoMemory> {
+    match call {
+        Call::Push(t) => push(own, t, number)?,
+        Call::Pop(t) => own.pop(ThreadId(t)),
+        Call::Clear => own.clear(),
+    }
+    Ok(())
+}
+
+// The number of the first call after which both don't agree.
+fn first_apart(own: &mut OwnSteps, plain: &mut Vec<Step>) -> Result<Option<u64>, Fail> {
+    let mut number = 1u64;
+    for call in THIRTY {
+        on_list(plain, call, number)?;
+        apply(own, call, number)?;
+        if !all_agree(own, plain) {
+            return Ok(Some(number));
+        }
+        number = number.saturating_add(1);
+    }
+    Ok(None)
+}
+
 #[test]
 fn many_calls_beside_a_list(rt: HostRuntime) -> Result<(), Fail> {
     let mut own = OwnSteps::new(rt.alloc());
     let mut plain: Vec<Step> = Vec::new(rt.alloc());
-    let mut number = 1u64;
-    for call in THIRTY {
-        on_list(&mut plain, call, number)?;
-        match call {
-            Call::Push(t) => push(&mut own, t, number)?,
-            Call::Pop(t) => own.pop(ThreadId(t)),
-            Call::Clear => own.clear(),
-        }
-        number = number.saturating_add(1);
-        for t in 1..5 {
-            assert!(rt; agree(&own, &plain, t));
-        }
-    }
+    let apart = first_apart(&mut own, &mut plain)?;
+    is(&rt, &apart, &None);
     Ok(())
 }

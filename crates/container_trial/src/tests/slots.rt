@@ -2,6 +2,7 @@
 
 ghost use Rattle.std.specs.Prelude.{◌≡◌, ◌+◌, ◌≤◌};
 
+use super::is;
 use stab_base::{Generation, NoMemory, ThreadId};
 use std::alloc::AllocError;
 use std::test::Fail;
@@ -124,55 +125,117 @@ const THIRTY: [Call; 30] = [
 fn a_queue_beside_a_list(rt: HostRuntime) -> Result<(), Fail> {
     let mut slots = Slots::new(rt.alloc());
     let mut ready = Vec::new(rt.alloc());
-    let mut next = 1;
-    for call in THIRTY {
-        apply(&mut slots, call)?;
-        on_list(&mut ready, next, call)?;
-        if let Call::Add = call {
-            next += 1;
-        }
-        assert_eq!(rt; slots.front(), ready.first().map(|t| ThreadId(*t)));
-    }
-    for t in &ready {
-        assert_eq!(rt; slots.front(), Some(ThreadId(*t)));
-        set_if_live(&mut slots, ThreadId(*t), State::Parked);
-    }
-    assert_eq!(rt; slots.front(), None);
+    let apart = first_apart(&mut slots, &mut ready)?;
+    let left = first_out_of_order(&mut slots, &ready, State::Parked);
+    is(&rt, &(apart, left, slots.front()), &(None, None, None));
     Ok(())
 }
 
+// The number of the next thread at the first call after which both have another front.
+fn first_apart(slots: &mut Slots<u32>, ready: &mut Vec<u32>) -> Result<Option<u32>, Fail>
+    requires { slots.old.next ≡ 1 }
+{
+    let mut next = 1;
+    for call in THIRTY {
+        apply(slots, call)?;
+        on_list(ready, next, call)?;
+        if let Call::Add = call {
+            next += 1;
+        }
+        if slots.front() != ready.first().map(|t| ThreadId(*t)) {
+            return Ok(Some(next));
+        }
+    }
+    Ok(None)
+}
+
+// The first of these threads that isn't in front; each is put into a state when it is.
+fn first_out_of_order(slots: &mut Slots<u32>, threads: &[u32], state: State) -> Option<u32> {
+    for t in threads {
+        if slots.front() != Some(ThreadId(*t)) {
+            return Some(*t);
+        }
+        set_if_live(slots, ThreadId(*t), state);
+    }
+    None
+}
+
+// A thread's state, how often it was put back, and its control.
+fn told(slots: &Slots<u32>, t: ThreadId) -> Option<(State, Generation, u32)> {
+    Some((slots.state(t)?, slots.generation(t)?, *slots.control(t)?))
+}
+
 #[test]
-fn a_thread_is_put_back_and_removed(rt: HostRuntime) -> Result<(), Fail> {
+fn a_thread_is_put_back(rt: HostRuntime) -> Result<(), Fail> {
     let mut slots = Slots::new(rt.alloc());
-    assert_eq!(rt; add_ready(&mut slots, 10), Ok(ThreadId(1)));
-    assert_eq!(rt; slots.reserve(), Ok(()));
+    slots.reserve()?;
     let ended = slots.add(20, true);
-    assert_eq!(rt; ended, ThreadId(2));
-    assert_eq!(rt; slots.state(ended), Some(State::Ended));
+    let before = told(&slots, ended);
     restore_if_live(&mut slots, ended);
-    assert_eq!(rt; slots.state(ended), Some(State::Ready));
-    assert_eq!(rt; slots.generation(ended), Some(Generation(1)));
-    assert_eq!(rt; slots.control(ended).copied(), Some(7));
-    slots.put_control(ended, 30);
-    assert_eq!(rt; slots.control(ended).copied(), Some(30));
-    assert_eq!(rt; replace_if_live(&mut slots, ended, 25), Some(30));
-    assert_eq!(rt; slots.control(ended).copied(), Some(25));
-    apply(&mut slots, Call::Remove(2))?;
-    assert_eq!(rt; slots.state(ended), None);
-    assert_eq!(rt; add_ready(&mut slots, 40), Ok(ThreadId(3)));
-    assert_eq!(rt; slots.front(), Some(ThreadId(1)));
+    let ready = Some((State::Ready, Generation(1), 7));
+    let wanted = (Some((State::Ended, Generation(0), 20)), ready);
+    is(&rt, &(before, told(&slots, ended)), &wanted);
     Ok(())
+}
+
+fn put_if_live(slots: &mut Slots<u32>, t: ThreadId, control: u32) {
+    if slots.state(t).is_some() {
+        slots.put_control(t, control);
+    }
+}
+
+#[test]
+fn a_control_is_put_and_replaced(rt: HostRuntime) -> Result<(), Fail> {
+    let mut slots = Slots::new(rt.alloc());
+    let t = add_ready(&mut slots, 10)?;
+    put_if_live(&mut slots, t, 30);
+    let put = slots.control(t).copied();
+    let replaced = replace_if_live(&mut slots, t, 25);
+    let left = slots.control(t).copied();
+    is(&rt, &[put, replaced, left], &[Some(30), Some(30), Some(25)]);
+    Ok(())
+}
+
+// Three threads, of which the second was removed before the third came.
+fn add_three(slots: &mut Slots<u32>) -> Result<[ThreadId; 3], NoMemory>
+    requires { slots.old.next ≡ 1 }
+{
+    let first = add_ready(slots, 10)?;
+    let second = add_ready(slots, 20)?;
+    apply(slots, Call::Remove(second.0))?;
+    Ok([first, second, add_ready(slots, 40)?])
+}
+
+#[test]
+fn a_thread_is_removed(rt: HostRuntime) -> Result<(), Fail> {
+    let mut slots = Slots::new(rt.alloc());
+    let threads = add_three(&mut slots)?;
+    is(&rt, &threads, &[ThreadId(1), ThreadId(2), ThreadId(3)]);
+    let found = (slots.state(ThreadId(2)), slots.front());
+    is(&rt, &found, &(None, Some(ThreadId(1))));
+    Ok(())
+}
+
+fn add_five(slots: &mut Slots<u32>) -> Result<(), NoMemory>
+    requires { slots.old.next ≡ 1 }
+{
+    for call in [Call::Add, Call::Add, Call::Add, Call::Add, Call::Add] {
+        apply(slots, call)?;
+    }
+    Ok(())
+}
+
+fn lease_three(slots: &mut Slots<u32>) {
+    for t in [4, 2, 5] {
+        set_if_live(slots, ThreadId(t), State::Leased);
+    }
 }
 
 #[test]
 fn leased_threads_come_back_in_the_order_of_numbers(rt: HostRuntime) -> Result<(), Fail> {
     let mut slots = Slots::new(rt.alloc());
-    for call in [Call::Add, Call::Add, Call::Add, Call::Add, Call::Add] {
-        apply(&mut slots, call)?;
-    }
-    for t in [4, 2, 5] {
-        set_if_live(&mut slots, ThreadId(t), State::Leased);
-    }
+    add_five(&mut slots)?;
+    lease_three(&mut slots);
     set_if_live(&mut slots, ThreadId(1), State::Parked);
     let counts = StateCounts {
         ready: 1,
@@ -180,24 +243,28 @@ fn leased_threads_come_back_in_the_order_of_numbers(rt: HostRuntime) -> Result<(
         parked: 1,
         ended: 0,
     };
-    assert!(rt; slots.counts() == counts);
+    let counted = slots.counts() == counts;
     slots.recall();
-    for t in [3, 2, 4, 5] {
-        assert_eq!(rt; slots.front(), Some(ThreadId(t)));
-        set_if_live(&mut slots, ThreadId(t), State::Ended);
-    }
-    assert_eq!(rt; slots.front(), None);
-    assert_eq!(rt; slots.next_thread(), ThreadId(6));
+    let left = first_out_of_order(&mut slots, &[3, 2, 4, 5], State::Ended);
+    let found = (counted, left, slots.front(), slots.next_thread());
+    is(&rt, &found, &(true, None, None, ThreadId(6)));
     Ok(())
 }
 
 #[test]
 fn room_for_many(rt: HostRuntime) -> Result<(), Fail> {
     let mut slots = Slots::new(rt.alloc());
+    add_many(&mut slots)?;
+    is(&rt, &slots.front(), &Some(ThreadId(1)));
+    Ok(())
+}
+
+fn add_many(slots: &mut Slots<u32>) -> Result<(), NoMemory>
+    requires { slots.old.next ≡ 1 }
+{
     for i in 0..1000u32 {
-        assert_eq!(rt; slots.reserve(), Ok(()));
+        slots.reserve()?;
         slots.add(i, false);
     }
-    assert_eq!(rt; slots.front(), Some(ThreadId(1)));
     Ok(())
 }

@@ -4,6 +4,7 @@ ghost use Rattle.std.specs.List.{All};
 ghost use Rattle.ref_log.specs.Log.{writes_of, has_write};
 ghost use Rattle.ref_log.specs.Calls.{wrote, struck, IsAllowed, IsAfter};
 
+use super::is;
 use ref_log::RefLog;
 use stab_base::{NoMemory, RefId, Seq, Value};
 use std::alloc::Global;
@@ -35,9 +36,9 @@ fn a_value_falls_back(rt: HostRuntime) -> Result<(), Fail> {
     write(&mut log, 5, Value::int(50))?;
     write(&mut log, 7, Value::int(70))?;
     log.strike(RefId(1), Seq(5));
-    assert!(rt; reads(&log, 1, 7, 70));
+    let before = reads(&log, 1, 7, 70);
     log.strike(RefId(1), Seq(7));
-    assert!(rt; reads(&log, 1, 2, 20));
+    assert!(rt; before && reads(&log, 1, 2, 20));
     Ok(())
 }
 
@@ -48,24 +49,24 @@ fn a_value_falls_back_to_one_before_the_cut(rt: HostRuntime) -> Result<(), Fail>
     log.make(RefId(1), Seq(2), Value::int(20));
     write(&mut log, 5, Value::int(50))?;
     log.cut(Seq(6));
-    assert!(rt; reads(&log, 1, 5, 50));
+    let before = reads(&log, 1, 5, 50);
     write(&mut log, 9, Value::int(90))?;
     log.strike(RefId(1), Seq(9));
-    assert!(rt; reads(&log, 1, 5, 50));
+    assert!(rt; before && reads(&log, 1, 5, 50));
     Ok(())
 }
 
 #[test]
 fn a_reference_is_gone_with_its_writes(rt: HostRuntime) -> Result<(), Fail> {
     let mut log = RefLog::new(rt.alloc());
-    assert!(rt; log.read(RefId(3)).is_none());
+    let missing = log.read(RefId(3)).is_none();
     log.reserve(RefId(3))?;
     log.make(RefId(3), Seq(4), Value::unit());
     log.strike(RefId(3), Seq(4));
-    assert!(rt; log.read(RefId(3)).is_none());
+    let gone = log.read(RefId(3)).is_none();
     log.reserve(RefId(3))?;
     log.make(RefId(3), Seq(6), Value::int(-6));
-    assert!(rt; reads(&log, 3, 6, -6));
+    assert!(rt; missing && gone && reads(&log, 3, 6, -6));
     Ok(())
 }
 
@@ -231,28 +232,54 @@ const THIRTY: [Call; 30] = [
 fn a_log_beside_a_list(rt: HostRuntime) -> Result<(), Fail> {
     let mut growing = Growing::new(rt.alloc());
     let mut plain = Vec::new(rt.alloc());
-    for call in THIRTY {
-        on_list(&mut plain, &growing, call)?;
-        match call {
-            Call::Write(r, v) => growing.write(r, v)?,
-            Call::Undo(r) => growing.undo(r),
-            Call::Cut => growing.cut(),
-        }
-        for r in 1..6 {
-            assert!(rt; agree(&growing.log, &plain, r));
-        }
+    let apart = first_apart(&mut growing, &mut plain)?;
+    is(&rt, &apart, &None);
+    Ok(())
+}
+
+fn apply(growing: &mut Growing, call: Call) -> Result<(), NoMemory> {
+    match call {
+        Call::Write(r, v) => growing.write(r, v)?,
+        Call::Undo(r) => growing.undo(r),
+        Call::Cut => growing.cut(),
     }
     Ok(())
+}
+
+fn all_agree(log: &RefLog, plain: &[Written]) -> bool {
+    (1..6).all(|r| agree(log, plain, r))
+}
+
+// How many calls were made when both first don't agree.
+fn first_apart(growing: &mut Growing, plain: &mut Vec<Written>) -> Result<Option<usize>, Fail> {
+    for (calls, call) in THIRTY.iter().enumerate() {
+        on_list(plain, growing, *call)?;
+        apply(growing, *call)?;
+        if !all_agree(&growing.log, plain) {
+            return Ok(Some(calls));
+        }
+    }
+    Ok(None)
 }
 
 #[test]
 fn room_for_many(rt: HostRuntime) -> Result<(), Fail> {
     let mut log = RefLog::new(rt.alloc());
-    assert_eq!(rt; log.reserve(RefId(99_999)), Ok(()));
-    let mut growing = Growing::new(rt.alloc());
+    assert!(rt; log.reserve(RefId(99_999)).is_ok());
+    Ok(())
+}
+
+fn write_many(growing: &mut Growing) -> Result<(), NoMemory> {
     for r in 1..1000u32 {
-        assert_eq!(rt; growing.write(r, i64::from(r)), Ok(()));
+        growing.write(r, i64::from(r))?;
     }
+    Ok(())
+}
+
+#[test]
+fn many_references(rt: HostRuntime) -> Result<(), Fail> {
+    let mut growing = Growing::new(rt.alloc());
+    write_many(&mut growing)?;
     assert!(rt; reads(&growing.log, 999, 999, 999));
     Ok(())
 }

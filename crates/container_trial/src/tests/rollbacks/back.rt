@@ -1,6 +1,7 @@
 //! Threads that go back, and those that stay.
 
 use super::{A, B, Run};
+use crate::tests::is;
 use comm_graph::NodeFor;
 use rendezvous::Offer;
 use stab_base::{Generation, NoMemory, Seq, ThreadId};
@@ -47,13 +48,9 @@ fn start_six(run: &mut Run) -> Result<(), Fail> {
     for control in [1, 2, 3, 4, 5, 6] {
         run.start(control)?;
     }
-    for (t, offer) in [
-        (2, Offer::Recv(A)),
-        (6, Offer::Pick(A, B)),
-        (4, Offer::Recv(A)),
-    ] {
-        run.park(t, offer)?;
-    }
+    run.park(2, Offer::Recv(A))?;
+    run.park(6, Offer::Pick(A, B))?;
+    run.park(4, Offer::Recv(A))?;
     act_all(run, &ACTS)
 }
 
@@ -106,31 +103,36 @@ fn expect_threads(
     queue: &[u32],
 ) -> Result<(), Fail> {
     let found = threads(alloc, run)?;
-    assert_eq!(rt; found.as_str(), wanted);
+    is(rt, &found.as_str(), &wanted);
+    expect_lent(rt, alloc, run, queue)
+}
+
+fn expect_lent(rt: &impl Abort, alloc: Global, run: &mut Run, queue: &[u32]) -> Result<(), Fail> {
     let lent = lent(alloc, run)?;
-    assert_eq!(rt; lent.as_slice(), queue);
+    is(rt, &lent.as_slice(), &queue);
     Ok(())
 }
 
 fn expect_nodes(rt: &impl Abort, alloc: Global, run: &Run, wanted: &[u64]) -> Result<(), Fail> {
     let numbers = run.nodes.numbers(alloc, 20)?;
-    assert_eq!(rt; numbers.as_slice(), wanted);
+    is(rt, &numbers.as_slice(), &wanted);
     Ok(())
 }
 
 // What a test does with a run stands in a function of its own, so that few steps can fail where a whole run is to be dropped.
 fn go_back(rt: &impl Abort, alloc: Global, run: &mut Run) -> Result<(), Fail> {
     start_six(run)?;
-    assert_eq!(rt;
-        [run.next_for(A), run.next_for(B)],
-        [Some(TWO), Some(ThreadId(6))]
-    );
+    let before = [run.next_for(A), run.next_for(B)];
     run.take_back(6)?;
-    assert_eq!(rt; [run.next_for(A), run.next_for(B)], [Some(FOUR), None]);
-    for (t, offer) in [(2, None), (6, None), (4, Some(Offer::Recv(A)))] {
-        assert_eq!(rt; run.offers.offer(ThreadId(t)), offer, "{t}");
-    }
-    assert_eq!(rt; run.slots.next_thread(), ThreadId(7));
+    let after = [run.next_for(A), run.next_for(B)];
+    let next = [[Some(TWO), Some(ThreadId(6))], [Some(FOUR), None]];
+    let offers = [2, 6, 4].map(|t| run.offers.offer(ThreadId(t)));
+    is(
+        rt,
+        &([before, after], offers),
+        &(next, [None, None, Some(Offer::Recv(A))]),
+    );
+    is(rt, &run.slots.next_thread(), &ThreadId(7));
     // Thread 1 goes back to its receive, thread 2 to the section's entry.
     let wanted = "91 1 Ready, 62 1 Ready, 3 0 Ready, 4 0 Parked, gone, gone, ";
     expect_threads(rt, alloc, run, wanted, &[3, 1, 2])
@@ -157,10 +159,15 @@ fn go_with_what_is_saved(rt: &impl Abort, alloc: Global, run: &mut Run) -> Resul
     run.take_back(6)?;
     expect_nodes(rt, alloc, run, &[1, 2, 3, 4, 5, 11])?;
     let mut left = Vec::new(alloc);
+    take_all_saved(run, &mut left)?;
+    is(rt, &left.as_slice(), &[54, 113].as_slice());
+    Ok(())
+}
+
+fn take_all_saved(run: &mut Run, left: &mut Vec<u32>) -> Result<(), NoMemory> {
     for (_q, _node, saved) in ACTS {
-        take_saved(run, saved, &mut left)?;
+        take_saved(run, saved, left)?;
     }
-    assert_eq!(rt; left.as_slice(), [54, 113].as_slice());
     Ok(())
 }
 

@@ -1,6 +1,7 @@
 //! Plans and their lines.
 
 use super::{Nodes, Rollback};
+use crate::tests::is;
 use comm_graph::NodeFor;
 use restore::Line;
 use stab_base::{Seq, ThreadId};
@@ -42,16 +43,20 @@ fn expect_lines(
     wanted: &[(u32, Option<Line>)],
 ) -> Result<(), Fail> {
     let told = rollback.told(alloc)?;
-    assert_eq!(rt; told.as_slice(), wanted);
+    is(rt, &told.as_slice(), &wanted);
+    is(rt, &first_wrong(rollback, wanted), &None);
+    Ok(())
+}
+
+// The first thread that has a line and isn't touched, or has none and is.
+fn first_wrong(rollback: &Rollback, wanted: &[(u32, Option<Line>)]) -> Option<u32> {
     for t in 1..=7 {
         let is_touched = wanted.iter().any(|(u, _)| *u == t);
-        assert_eq!(rt;
-            rollback.plan.line(ThreadId(t)).is_some(),
-            is_touched,
-            "{t}"
-        );
+        if rollback.plan.line(ThreadId(t)).is_some() != is_touched {
+            return Some(t);
+        }
     }
-    Ok(())
+    None
 }
 
 fn expect_plan(
