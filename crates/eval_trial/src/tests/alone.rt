@@ -1,37 +1,67 @@
 //! The evaluator alone, where the machine of the plain language takes too long, and two ways from one control.
 
+use super::is;
 use super::thread::{Thread, number, program_of};
-use stab_base::{RefId, Seq, Value};
+use stab_base::{Fault, RefId, Seq, Value};
 use std::alloc::Global;
 use std::process::Abort;
 use std::test::Fail;
 use step_eval::{Act, Ask};
 
-// What a program prints whose probes get -7, and how it ends.
-fn told_alone(alloc: Global, text: &str) -> Result<String, Fail> {
+// A program's first thread.
+fn main_of(alloc: Global, text: &str) -> Result<Thread, Fail> {
     let program = program_of(alloc, text)?;
-    let mut main = Thread::new(alloc, &program, program.main(), &[])?;
-    let mut told = String::new(alloc);
+    Thread::new(alloc, &program, program.main(), &[])
+}
+
+// The number that a thread prints is told.
+fn tell_printed(alloc: Global, main: &Thread, told: &mut String) -> Result<(), Fail> {
+    if let Some(n) = main.operands().first().and_then(number) {
+        told.push_str(&format!(in alloc; "{n}")?)?;
+    }
+    Ok(())
+}
+
+fn tell_fault(alloc: Global, fault: Fault, told: &mut String) -> Result<(), Fail> {
+    told.push_str(&format!(in alloc; "{fault:?}")?)?;
+    Ok(())
+}
+
+// Answers what a thread asks, where each probe gets -7 and a section is entered at q; whether the thread goes on.
+fn goes_on(alloc: Global, main: &mut Thread, q: u64, told: &mut String) -> Result<bool, Fail> {
+    match main.ask() {
+        Ask::More => {}
+        Ask::Done => return Ok(false),
+        Ask::Failed(k) => {
+            tell_fault(alloc, k, told)?;
+            return Ok(false);
+        }
+        Ask::Act(Act::Print) => {
+            tell_printed(alloc, main, told)?;
+            main.answer(Value::unit())?;
+        }
+        Ask::Act(Act::Probe) => main.answer(Value::int(-7))?,
+        Ask::Act(_act) => main.enter(Seq(q))?,
+    }
+    Ok(true)
+}
+
+fn tell_all(alloc: Global, main: &mut Thread, told: &mut String) -> Result<(), Fail> {
     for q in 1..10_000u64 {
         main.advance(1000)?;
-        match main.ask() {
-            Ask::More => {}
-            Ask::Done => return Ok(told),
-            Ask::Failed(k) => {
-                told.push_str(&format!(in alloc; "{k:?}")?)?;
-                return Ok(told);
-            }
-            Ask::Act(Act::Print) => {
-                if let Some(n) = main.operands().first().and_then(number) {
-                    told.push_str(&format!(in alloc; "{n}")?)?;
-                }
-                main.answer(Value::unit())?;
-            }
-            Ask::Act(Act::Probe) => main.answer(Value::int(-7))?,
-            Ask::Act(_act) => main.enter(Seq(q))?,
+        if !goes_on(alloc, main, q, told)? {
+            return Ok(());
         }
     }
     Err(Fail::from("a program that ends"))
+}
+
+// What a program prints, and how it ends.
+fn told_alone(alloc: Global, text: &str) -> Result<String, Fail> {
+    let mut main = main_of(alloc, text)?;
+    let mut told = String::new(alloc);
+    tell_all(alloc, &mut main, &mut told)?;
+    Ok(told)
 }
 
 // Each row is a program, then ` -> ` and what it prints or its fault: with as many forms round a redex as may be, and
@@ -58,9 +88,15 @@ fn main(): unit { if 1 == true { print(1) } else { print(0) } } -> 0
 
 fn expect_told<R: AllocGlobal + Abort>(rt: &R, table: &str) -> Result<(), Fail> {
     for row in table.lines() {
-        let (text, expected) = row.split_once(" -> ").ok_or("no arrow")?;
-        assert_eq!(rt; told_alone(rt.alloc(), text)?.as_str(), expected, "{text}");
+        expect_row(rt, row)?;
     }
+    Ok(())
+}
+
+fn expect_row<R: AllocGlobal + Abort>(rt: &R, row: &str) -> Result<(), Fail> {
+    let (text, expected) = row.split_once(" -> ").ok_or("no arrow")?;
+    let told = told_alone(rt.alloc(), text)?;
+    is(rt, &(text, told.as_str()), &(text, expected));
     Ok(())
 }
 
@@ -85,8 +121,7 @@ fn next_printed(thread: &mut Thread) -> Result<Option<i64>, Fail> {
 }
 
 fn at_probe(alloc: Global) -> Result<Thread, Fail> {
-    let program = program_of(alloc, FORK)?;
-    let mut main = Thread::new(alloc, &program, program.main(), &[])?;
+    let mut main = main_of(alloc, FORK)?;
     main.advance(1000)?;
     Ok(main)
 }
@@ -101,9 +136,14 @@ fn two_ways(one: &mut Thread, other: &mut Thread) -> Result<(Option<i64>, Option
 #[test]
 fn two_ways_from_one_control(rt: HostRuntime) -> Result<(), Fail> {
     let mut one = at_probe(rt.alloc())?;
-    let mut other = one.keep()?;
-    assert_eq!(rt; two_ways(&mut one, &mut other)?, (Some(11), Some(13)));
+    let printed = printed_twice(&mut one)?;
+    is(&rt, &printed, &(Some(11), Some(13)));
     Ok(())
+}
+
+fn printed_twice(one: &mut Thread) -> Result<(Option<i64>, Option<i64>), Fail> {
+    let mut other = one.keep()?;
+    two_ways(one, &mut other)
 }
 
 // Each of 900 frames waits for what comes out of the next, and reads a reference before.
@@ -133,9 +173,8 @@ fn read_all(main: &mut Thread) -> Result<(u32, Option<i64>), Fail> {
 
 #[test]
 fn nine_hundred_frames(rt: HostRuntime) -> Result<(), Fail> {
-    let alloc = rt.alloc();
-    let program = program_of(alloc, GETS)?;
-    let mut main = Thread::new(alloc, &program, program.main(), &[])?;
-    assert_eq!(rt; read_all(&mut main)?, (901, Some(901)));
+    let mut main = main_of(rt.alloc(), GETS)?;
+    let read = read_all(&mut main)?;
+    is(&rt, &read, &(901, Some(901)));
     Ok(())
 }

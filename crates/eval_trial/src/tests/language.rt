@@ -3,9 +3,7 @@ mod no_steps;
 mod parts;
 mod steps;
 
-use super::reaching::run_of;
-use super::thread::program_of;
-use super::whole_runs::end_of;
+use super::whole_runs::{end_of, first_refused, start_of};
 use plain_language::{Expr, PlainState, are_flat};
 use stab_base::{ChanId, RefId, ThreadId, Value};
 use stab_code::Program;
@@ -34,14 +32,11 @@ fn at(alloc: Global, form: &str) -> Result<PlainState, Fail> {
     let main =
         "let c = chan[int](); let d = chan[int](); let r = ref(1); spawn receiver(c); spawn sender(d);";
     let text = format!(in alloc; "{FUNCTIONS}fn main(): unit {{ {main} {form} }}")?;
-    let program = program_of(alloc, text.as_str())?;
-    let mut state = PlainState::start(alloc, &program)?;
-    for step in &run_of(alloc, &[BEFORE])? {
-        if state.play(alloc, step.seq, &step.label).is_err() {
-            return Err(Fail::from("the steps before the form"));
-        }
+    let mut state = start_of(alloc, text.as_str())?;
+    match first_refused(alloc, &mut state, BEFORE)? {
+        None => Ok(state),
+        Some(_q) => Err(Fail::from("the steps before the form")),
     }
-    Ok(state)
 }
 
 // The state with these threads, channels and references, in which nothing was printed.
@@ -69,6 +64,12 @@ fn standing_at(
 fn place(alloc: Global, state: &PlainState, t: u32) -> Result<String, Fail> {
     let e: &Expr = state.expr(ThreadId(t)).ok_or("a thread")?;
     Ok(format!(in alloc; "{e:?}")?)
+}
+
+// Where thread 1 stands at the start of a form.
+fn first_place(alloc: Global, form: &str) -> Result<String, Fail> {
+    let state = at(alloc, form)?;
+    place(alloc, &state, 1)
 }
 
 // All that a state has, in letters.

@@ -1,13 +1,16 @@
 //! What is reached in small runs and in a long one, worked out by hand, and the laws called on each of them.
+use super::is;
 use super::law_calls::{call_laws_of_programs, call_laws_of_runs, conclude, enters, rises};
 use super::played::played;
 use super::thread::program_of;
 use journal_laws::reached;
 use plain_language::{ActKind, Look};
 use stab_base::{ChanId, NoMemory, RefId, Seq, ThreadId};
+use stab_code::Program;
 use stab_journal::{Label, Numbered};
 use std::alloc::Global;
 use std::process::Abort;
+use std::sync::Arc;
 use std::test::Fail;
 
 const ONE_SECTION: &str =
@@ -78,18 +81,27 @@ fn expect_reached<R: AllocGlobal + Abort>(
     numbers: &[u64],
 ) -> Result<(), Fail> {
     let run = run_of(rt.alloc(), lines)?;
-    if !rises(&run) || !enters(&run, Seq(m)) {
+    let found = reached_from(rt.alloc(), &run, Seq(m))?;
+    are_numbers(rt, &found, numbers);
+    Ok(())
+}
+
+fn reached_from(alloc: Global, run: &[Numbered], m: Seq) -> Result<Vec<Seq>, Fail> {
+    if !rises(run) || !enters(run, m) {
         return Err(Fail::from("a run with a section at m"));
     }
-    call_laws_of_runs(&run, Seq(m));
-    let found = reached(rt.alloc(), &run, Seq(m))?;
-    let program = program_of(rt.alloc(), ONE_SECTION)?;
-    call_laws_of_programs(&program, &run, Seq(m), &found);
-    assert_eq!(rt; found.len(), numbers.len());
+    call_laws_of_runs(run, m);
+    let program = program_of(alloc, ONE_SECTION)?;
+    let found = reached(alloc, run, m)?;
+    call_laws_of_programs(&program, run, m, &found);
+    Ok(found)
+}
+
+fn are_numbers(rt: &impl Abort, found: &[Seq], numbers: &[u64]) {
+    is(rt, &found.len(), &numbers.len());
     for (q, number) in found.iter().zip(numbers) {
-        assert_eq!(rt; q.0, *number);
+        is(rt, &q.0, &*number);
     }
-    Ok(())
 }
 
 // The steps of `PROGRAM` up to the stabilize of the section that step 17 entered.
@@ -107,20 +119,28 @@ fn a_cascade_over_three_threads(rt: HostRuntime) -> Result<(), Fail> {
 
 #[test]
 fn the_laws_of_the_cascade(rt: HostRuntime) -> Result<(), Fail> {
-    let alloc = rt.alloc();
-    let program = program_of(alloc, PROGRAM)?;
-    let run = run_of(alloc, &CASCADE)?;
-    if !rises(&run) || !enters(&run, Seq(17)) {
+    let program = program_of(rt.alloc(), PROGRAM)?;
+    let run = run_of(rt.alloc(), &CASCADE)?;
+    let first = lawful_first(rt.alloc(), &program, &run)?;
+    let stabilize = Some(Look::Act(ActKind::Stabilize));
+    is(&rt, &first, &(stabilize, Some(Seq(17))));
+    Ok(())
+}
+
+// What is next for thread 1 where the run ends, and its mark, once the laws were called.
+fn lawful_first(
+    alloc: Global,
+    program: &Arc<Program>,
+    run: &[Numbered],
+) -> Result<(Option<Look>, Option<Seq>), Fail> {
+    if !rises(run) || !enters(run, Seq(17)) {
         return Err(Fail::from("a run with a section at 17"));
     }
-    let end = played(alloc, &program, &run)?.ok_or("the steps are a run of the program")?;
-    let gone = reached(alloc, &run, Seq(17))?;
-    conclude(&program, &run, Seq(17), &gone, &end);
-    call_laws_of_programs(&program, &run, Seq(17), &gone);
-    let first = ThreadId(1);
-    assert_eq!(rt; end.look(first), Some(Look::Act(ActKind::Stabilize)));
-    assert_eq!(rt; end.mark(first), Some(Seq(17)));
-    Ok(())
+    let gone = reached(alloc, run, Seq(17))?;
+    let end = played(alloc, program, run)?.ok_or("the steps are a run of the program")?;
+    conclude(program, run, Seq(17), &gone, &end);
+    call_laws_of_programs(program, run, Seq(17), &gone);
+    Ok((end.look(ThreadId(1)), end.mark(ThreadId(1))))
 }
 
 #[test]
@@ -253,12 +273,18 @@ fn long_run(alloc: Global) -> Result<Vec<Numbered>, NoMemory> {
 #[test]
 fn a_long_run(rt: HostRuntime) -> Result<(), Fail> {
     let run = long_run(rt.alloc())?;
-    if !rises(&run) || !enters(&run, Seq(1)) {
+    // Of each thousand steps those of thread 1 and of the threads 10, 20, .. 1000, but for the last one, and the Enter.
+    let count = count_reached(rt.alloc(), &run)?;
+    is(&rt, &count, &(1 + 100 * 101 - 1));
+    Ok(())
+}
+
+// How many steps are reached from the first.
+fn count_reached(alloc: Global, run: &[Numbered]) -> Result<usize, Fail> {
+    if !rises(run) || !enters(run, Seq(1)) {
         return Err(Fail::from("a run with a section"));
     }
-    call_laws_of_runs(&run, Seq(1));
-    let found = reached(rt.alloc(), &run, Seq(1))?;
-    // Of each thousand steps those of thread 1 and of the threads 10, 20, .. 1000, but for the last one, and the Enter.
-    assert_eq!(rt; found.len(), 1 + 100 * 101 - 1);
-    Ok(())
+    call_laws_of_runs(run, Seq(1));
+    let found = reached(alloc, run, Seq(1))?;
+    Ok(found.len())
 }

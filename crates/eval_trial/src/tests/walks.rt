@@ -1,5 +1,6 @@
 //! The evaluator beside the machine of the plain language, step by step, over programs that use every form.
 
+use super::is;
 use super::thread::{Thread, number, program_of};
 use plain_language::{ActKind, Look, PlainState};
 use stab_base::{ChanId, Fault, FnId, RefId, Seq, ThreadId, Value};
@@ -215,14 +216,19 @@ impl Walk {
                 None => Ask::Done,
             };
             if let Some(which) = received(ask, c) {
-                let v = self.operand(k, 1)?;
-                self.play(Label::Comm(id(k), id(r), c))?;
-                self.answer(k, Value::unit())?;
-                self.receive(r, which, v)?;
+                self.give(k, c, (r, which))?;
                 return Ok(true);
             }
         }
         Ok(false)
+    }
+
+    // One thread sends, and another one receives.
+    fn give(&mut self, k: usize, c: ChanId, (r, which): (usize, Option<i64>)) -> Result<(), Fail> {
+        let v = self.operand(k, 1)?;
+        self.play(Label::Comm(id(k), id(r), c))?;
+        self.answer(k, Value::unit())?;
+        self.receive(r, which, v)
     }
 
     // The act of a thread in both machines; none where it waits for a partner.
@@ -292,12 +298,22 @@ impl Walk {
     // What was printed, and how each thread ended.
     fn told(&self) -> Result<String, Fail> {
         let mut told = String::new(self.alloc);
+        self.tell_printed(&mut told)?;
+        self.tell_rests(&mut told)?;
+        Ok(told)
+    }
+
+    fn tell_printed(&self, told: &mut String) -> Result<(), Fail> {
         for v in &self.printed {
             match number(v) {
                 Some(n) => told.push_str(&format!(in self.alloc; "{n} ")?)?,
                 None => told.push_str("? ")?,
             }
         }
+        Ok(())
+    }
+
+    fn tell_rests(&self, told: &mut String) -> Result<(), Fail> {
         for thread in &self.threads {
             match thread.rest() {
                 Rest::Done => told.push_str("done ")?,
@@ -305,7 +321,7 @@ impl Walk {
                 Rest::Failed(k) => told.push_str(&format!(in self.alloc; "{k:?} ")?)?,
             }
         }
-        Ok(told)
+        Ok(())
     }
 
     // Both machines printed the same values.
@@ -322,9 +338,14 @@ impl Walk {
 // The program goes to its end in both machines, and what it tells is compared.
 fn expect_walk<R: AllocGlobal + Abort>(rt: &R, text: &str, expected: &str) -> Result<(), Fail> {
     let mut walk = Walk::new(rt.alloc(), text)?;
+    expect_run(rt, &mut walk, text, expected)
+}
+
+fn expect_run(rt: &impl Abort, walk: &mut Walk, text: &str, expected: &str) -> Result<(), Fail> {
     walk.run()?;
-    assert!(rt; walk.has_same_output());
-    assert_eq!(rt; walk.told()?.as_str().trim_end(), expected, "{text}");
+    assert!(rt; walk.has_same_output(), "{text}");
+    let told = walk.told()?;
+    is(rt, &(text, told.as_str().trim_end()), &(text, expected));
     Ok(())
 }
 

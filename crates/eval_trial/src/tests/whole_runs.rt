@@ -1,8 +1,10 @@
 //! The steps that survive in runs of whole programs, worked out by hand, played one by one, and the states in which they end.
+use super::is;
 use super::reaching::{CASCADE, PROGRAM, run_of};
 use super::thread::{number, program_of};
 use plain_language::PlainState;
-use stab_base::ThreadId;
+use stab_base::{Seq, ThreadId};
+use stab_journal::Numbered;
 use std::alloc::Global;
 use std::process::Abort;
 use std::test::Fail;
@@ -10,10 +12,22 @@ use std::test::Fail;
 // What is next for each thread, what each reference holds, the channels, and what was printed, all of them numbers.
 pub(super) fn end_of(alloc: Global, state: &PlainState) -> Result<String, Fail> {
     let mut end = String::new(alloc);
+    put_looks(alloc, state, &mut end)?;
+    put_references(alloc, state, &mut end)?;
+    put_channels(alloc, state, &mut end)?;
+    put_printed(alloc, state, &mut end)?;
+    Ok(end)
+}
+
+fn put_looks(alloc: Global, state: &PlainState, end: &mut String) -> Result<(), Fail> {
     for t in 1..=state.threads().min(9) {
         let look = state.look(ThreadId(t)).ok_or("a thread")?;
         end.push_str(format!(in alloc; "{t} {look:?}; ")?.as_str())?;
     }
+    Ok(())
+}
+
+fn put_references(alloc: Global, state: &PlainState, end: &mut String) -> Result<(), Fail> {
     let mut last = 0;
     for _ in 0..9 {
         if let Some((r, v)) = state.reference_after(last) {
@@ -22,18 +36,63 @@ pub(super) fn end_of(alloc: Global, state: &PlainState) -> Result<String, Fail> 
             end.push_str(format!(in alloc; "ref {last} holds {held}; ")?.as_str())?;
         }
     }
-    last = 0;
+    Ok(())
+}
+
+fn put_channels(alloc: Global, state: &PlainState, end: &mut String) -> Result<(), Fail> {
+    let mut last = 0;
     for _ in 0..9 {
         if let Some(c) = state.channel_after(last) {
             last = c.0;
             end.push_str(format!(in alloc; "chan {last}; ")?.as_str())?;
         }
     }
+    Ok(())
+}
+
+fn put_printed(alloc: Global, state: &PlainState, end: &mut String) -> Result<(), Fail> {
     for v in state.printed() {
         let printed = number(v).ok_or("a number")?;
         end.push_str(format!(in alloc; "printed {printed}; ")?.as_str())?;
     }
-    Ok(end)
+    Ok(())
+}
+
+// The state in which a program starts.
+pub(super) fn start_of(alloc: Global, text: &str) -> Result<PlainState, Fail> {
+    let program = program_of(alloc, text)?;
+    Ok(PlainState::start(alloc, &program)?)
+}
+
+// The number of the first of these steps that can't be made; those before it are made.
+fn refused_of(alloc: Global, state: &mut PlainState, run: &[Numbered]) -> Option<Seq> {
+    for step in run {
+        if state.play(alloc, step.seq, &step.label) != Ok(()) {
+            return Some(step.seq);
+        }
+    }
+    None
+}
+
+pub(super) fn first_refused(
+    alloc: Global,
+    state: &mut PlainState,
+    line: &str,
+) -> Result<Option<Seq>, Fail> {
+    let run = run_of(alloc, &[line])?;
+    Ok(refused_of(alloc, state, &run))
+}
+
+// The steps of each line can be made.
+fn expect_steps<R: AllocGlobal + Abort>(
+    rt: &R,
+    state: &mut PlainState,
+    lines: &[&str],
+) -> Result<(), Fail> {
+    for line in lines {
+        is(rt, &first_refused(rt.alloc(), state, line)?, &None);
+    }
+    Ok(())
 }
 
 // The steps can be played from the program's start, and end in this state.
@@ -43,18 +102,14 @@ fn expect_end<R: AllocGlobal + Abort>(
     lines: &[&str],
     wanted: &str,
 ) -> Result<(), Fail> {
-    let alloc = rt.alloc();
-    let program = program_of(alloc, text)?;
-    let mut state = PlainState::start(alloc, &program)?;
-    for step in &run_of(alloc, lines)? {
-        assert_eq!(rt;
-            state.play(alloc, step.seq, &step.label),
-            Ok(()),
-            "{:?}", step.seq
-        );
-    }
-    let end = end_of(alloc, &state)?;
-    assert_eq!(rt; end.as_str(), wanted);
+    let mut state = start_of(rt.alloc(), text)?;
+    expect_steps(rt, &mut state, lines)?;
+    is_end(rt, &state, wanted)
+}
+
+fn is_end<R: AllocGlobal + Abort>(rt: &R, state: &PlainState, wanted: &str) -> Result<(), Fail> {
+    let end = end_of(rt.alloc(), state)?;
+    is(rt, &end.as_str(), &wanted);
     Ok(())
 }
 

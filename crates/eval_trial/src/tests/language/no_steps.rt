@@ -1,11 +1,13 @@
 //! For each label a state that has its step, and no step of any other label, nor of that one where one condition is missing.
 
 use super::{at, standing_at, whole};
+use crate::tests::is;
 use crate::tests::reaching::step_of;
 use crate::tests::thread::program_of;
 use language::Head;
 use plain_language::{Expr, PlainState, PlayFault};
 use stab_base::{RefId, ThreadId, Value};
+use stab_journal::Numbered;
 use std::alloc::Global;
 use std::process::Abort;
 use std::test::Fail;
@@ -54,27 +56,66 @@ fn expect_none(
     besides: &str,
 ) -> Result<(), Fail> {
     let before = whole(alloc, state)?;
-    for label in labels.split("; ").filter(|label| kind(label) != besides) {
-        let text = format!(in alloc; "20 {label}")?;
-        let step = step_of(text.as_str()).ok_or("a step")?;
-        let made = state.play(alloc, step.seq, &step.label);
-        assert_eq!(rt; made, Err(PlayFault::NoStep), "{label}");
-        let after = whole(alloc, state)?;
-        assert_eq!(rt; after.as_str(), before.as_str(), "{label}");
+    expect_each_none(rt, alloc, state, (labels, besides), before.as_str())
+}
+
+fn expect_each_none(
+    rt: &impl Abort,
+    alloc: Global,
+    state: &mut PlainState,
+    (labels, besides): (&str, &str),
+    before: &str,
+) -> Result<(), Fail> {
+    for label in labels.split("; ") {
+        if kind(label) != besides {
+            expect_no_step(rt, alloc, state, label, before)?;
+        }
     }
     Ok(())
+}
+
+fn expect_no_step(
+    rt: &impl Abort,
+    alloc: Global,
+    state: &mut PlainState,
+    label: &str,
+    before: &str,
+) -> Result<(), Fail> {
+    let made = made(alloc, state, label)?;
+    is(rt, &(label, made), &(label, Err(PlayFault::NoStep)));
+    let after = whole(alloc, state)?;
+    is(rt, &(label, after.as_str()), &(label, before));
+    Ok(())
+}
+
+// What the state says to a step numbered 20.
+fn made(alloc: Global, state: &mut PlainState, label: &str) -> Result<Result<(), PlayFault>, Fail> {
+    let step = step_at_20(alloc, label)?;
+    Ok(state.play(alloc, step.seq, &step.label))
+}
+
+fn step_at_20(alloc: Global, label: &str) -> Result<Numbered, Fail> {
+    let text = format!(in alloc; "20 {label}")?;
+    Ok(step_of(text.as_str()).ok_or("a step")?)
 }
 
 fn expect_only(rt: &impl Abort, alloc: Global, row: &str) -> Result<(), Fail> {
     let (form, rest) = row.split_once(" | ").ok_or("a label")?;
     let (label, missing) = rest.split_once(" | ").ok_or("others")?;
     let mut state = at(alloc, form)?;
-    expect_none(rt, alloc, &mut state, missing, "")?;
-    expect_none(rt, alloc, &mut state, KINDS, kind(label))?;
-    let text = format!(in alloc; "20 {label}")?;
-    let step = step_of(text.as_str()).ok_or("a step")?;
-    let made = state.play(alloc, step.seq, &step.label);
-    assert_eq!(rt; made, Ok(()), "{label}");
+    expect_steps_of(rt, alloc, &mut state, label, missing)
+}
+
+fn expect_steps_of(
+    rt: &impl Abort,
+    alloc: Global,
+    state: &mut PlainState,
+    label: &str,
+    missing: &str,
+) -> Result<(), Fail> {
+    expect_none(rt, alloc, state, missing, "")?;
+    expect_none(rt, alloc, state, KINDS, kind(label))?;
+    is(rt, &(label, made(alloc, state, label)?), &(label, Ok(())));
     Ok(())
 }
 
@@ -89,27 +130,46 @@ fn each_label_has_its_conditions(rt: HostRuntime) -> Result<(), Fail> {
 #[test]
 fn no_step_of_its_own(rt: HostRuntime) -> Result<(), Fail> {
     for form in RESTING.lines() {
-        let mut state = at(rt.alloc(), form)?;
-        expect_none(&rt, rt.alloc(), &mut state, KINDS, "")?;
+        rests(&rt, rt.alloc(), form)?;
     }
     Ok(())
 }
 
-// Thread 1 reads or writes a reference that isn't there, and another one is.
+fn rests(rt: &impl Abort, alloc: Global, form: &str) -> Result<(), Fail> {
+    let mut state = at(alloc, form)?;
+    expect_none(rt, alloc, &mut state, KINDS, "")
+}
+
+// A form of so many parts, all of them a reference that isn't there.
+fn form_of_missing(alloc: Global, head: Head, parts: u32) -> Result<Expr, Fail> {
+    let mut missing = Vec::new(alloc);
+    for _ in 0..parts {
+        missing.push(Expr::value(Value::reference(RefId(1))))?;
+    }
+    Ok(Expr::form(head, missing))
+}
+
+fn one_at(alloc: Global, e: Expr) -> Result<Vec<(ThreadId, Expr)>, Fail> {
+    Ok(vec![in alloc; (ThreadId(1), e)]?)
+}
+
+// Thread 1 is at a form of a reference that isn't there, and another one is.
+fn at_missing(alloc: Global, head: Head, parts: u32) -> Result<PlainState, Fail> {
+    let program = program_of(alloc, "fn main(): unit {}")?;
+    let references = vec![in alloc; (RefId(2), Value::int(5))]?;
+    let threads = one_at(alloc, form_of_missing(alloc, head, parts)?)?;
+    standing_at(alloc, &program, threads, Vec::new(alloc), references)
+}
+
+fn expect_missing(rt: &impl Abort, alloc: Global, head: Head, parts: u32) -> Result<(), Fail> {
+    let mut state = at_missing(alloc, head, parts)?;
+    expect_none(rt, alloc, &mut state, KINDS, "")?;
+    expect_none(rt, alloc, &mut state, "get 1 2; set 1 2", "")
+}
+
+// Thread 1 reads or writes it.
 #[test]
 fn no_such_reference(rt: HostRuntime) -> Result<(), Fail> {
-    let alloc = rt.alloc();
-    let program = program_of(alloc, "fn main(): unit {}")?;
-    for (head, values) in [(Head::Get, 1), (Head::Set, 2)] {
-        let mut parts = Vec::new(alloc);
-        for _ in 0..values {
-            parts.push(Expr::value(Value::reference(RefId(1))))?;
-        }
-        let threads = vec![in alloc; (ThreadId(1), Expr::form(head, parts))]?;
-        let references = vec![in alloc; (RefId(2), Value::int(5))]?;
-        let mut state = standing_at(alloc, &program, threads, Vec::new(alloc), references)?;
-        expect_none(&rt, alloc, &mut state, KINDS, "")?;
-        expect_none(&rt, alloc, &mut state, "get 1 2; set 1 2", "")?;
-    }
-    Ok(())
+    expect_missing(&rt, rt.alloc(), Head::Get, 1)?;
+    expect_missing(&rt, rt.alloc(), Head::Set, 2)
 }

@@ -1,11 +1,12 @@
 //! The table of pure steps, row by row, what acts give, and what is next.
 
-use super::{at, place, standing_at};
-use crate::tests::reaching::run_of;
+use super::{at, first_place, place, standing_at};
+use crate::tests::is;
 use crate::tests::thread::program_of;
+use crate::tests::whole_runs::{first_refused, start_of};
 use language::Head;
 use plain_language::{Expr, Look, PlainState};
-use stab_base::{ChanId, Seq, ThreadId, Value};
+use stab_base::{ChanId, Fault, Seq, ThreadId, Value};
 use stab_journal::Label;
 use std::alloc::{AllocError, Global};
 use std::process::Abort;
@@ -171,16 +172,66 @@ const DEPTHS: [(&str, u32, &str); 4] = [
 
 const T: ThreadId = ThreadId(1);
 
-fn play_all(
+// The state after these steps of a form.
+fn after(rt: &impl Abort, alloc: Global, form: &str, labels: &str) -> Result<PlainState, Fail> {
+    let mut state = at(alloc, form)?;
+    let refused = first_refused(alloc, &mut state, labels)?;
+    is(rt, &(form, refused), &(form, None));
+    Ok(state)
+}
+
+// What is next for a thread, in letters.
+fn look_of(alloc: Global, state: &PlainState, t: ThreadId) -> Result<String, Fail> {
+    Ok(format!(in alloc; "{:?}", state.look(t))?)
+}
+
+fn look_after(rt: &impl Abort, alloc: Global, form: &str, labels: &str) -> Result<String, Fail> {
+    let state = after(rt, alloc, form, labels)?;
+    look_of(alloc, &state, T)
+}
+
+fn place_after(
     rt: &impl Abort,
     alloc: Global,
-    state: &mut PlainState,
-    lines: &[&str],
+    (form, labels): (&str, &str),
+    t: u32,
+) -> Result<String, Fail> {
+    let state = after(rt, alloc, form, labels)?;
+    place(alloc, &state, t)
+}
+
+fn expect_look(
+    rt: &impl Abort,
+    alloc: Global,
+    (form, labels): (&str, &str),
+    wanted: &str,
 ) -> Result<(), Fail> {
-    for step in &run_of(alloc, lines)? {
-        let made = state.play(alloc, step.seq, &step.label);
-        assert_eq!(rt; made, Ok(()), "{:?}", step.seq);
-    }
+    let found = look_after(rt, alloc, form, labels)?;
+    is(rt, &(form, found.as_str()), &(form, wanted));
+    Ok(())
+}
+
+fn expect_fault(
+    rt: &impl Abort,
+    alloc: Global,
+    stepped: (&str, &str),
+    fault: &str,
+) -> Result<(), Fail> {
+    let wanted = format!(in alloc; "Some(Failed({fault}))")?;
+    expect_look(rt, alloc, stepped, wanted.as_str())
+}
+
+// A thread stands at this form after the steps of another one.
+fn expect_place(
+    rt: &impl Abort,
+    alloc: Global,
+    stepped: (&str, &str),
+    t: u32,
+    wanted: &str,
+) -> Result<(), Fail> {
+    let wanted = first_place(alloc, wanted)?;
+    let found = place_after(rt, alloc, stepped, t)?;
+    is(rt, &(stepped, found.as_str()), &(stepped, wanted.as_str()));
     Ok(())
 }
 
@@ -192,20 +243,10 @@ fn expect(
     labels: &str,
     wanted: &str,
 ) -> Result<(), Fail> {
-    let mut state = at(alloc, form)?;
-    play_all(rt, alloc, &mut state, &[labels])?;
-    let (found, wanted) = match wanted.strip_prefix("fault ") {
-        Some(fault) => (
-            format!(in alloc; "{:?}", state.look(T))?,
-            format!(in alloc; "Some(Failed({fault}))")?,
-        ),
-        None => (
-            place(alloc, &state, 1)?,
-            place(alloc, &at(alloc, wanted)?, 1)?,
-        ),
-    };
-    assert_eq!(rt; found.as_str(), wanted.as_str(), "{form}");
-    Ok(())
+    match wanted.strip_prefix("fault ") {
+        Some(fault) => expect_fault(rt, alloc, (form, labels), fault),
+        None => expect_place(rt, alloc, (form, labels), 1, wanted),
+    }
 }
 
 // The same as the right part of a pair, the whole of which fails where the form does.
@@ -244,45 +285,72 @@ fn steps_and_acts(rt: HostRuntime) -> Result<(), Fail> {
     Ok(())
 }
 
+fn expect_other(rt: &impl Abort, alloc: Global, row: &str) -> Result<(), Fail> {
+    let (form, rest) = row.split_once(" | ").ok_or("labels")?;
+    let (labels, rest) = rest.split_once(" | ").ok_or("a thread")?;
+    let (thread, wanted) = rest.split_once(" | ").ok_or("an end")?;
+    let t = thread.parse().unwrap_or(0);
+    expect_place(rt, alloc, (form, labels), t, wanted)
+}
+
 #[test]
 fn where_others_stand(rt: HostRuntime) -> Result<(), Fail> {
-    let alloc = rt.alloc();
     for row in OTHERS.lines() {
-        let (form, rest) = row.split_once(" | ").ok_or("labels")?;
-        let (labels, rest) = rest.split_once(" | ").ok_or("a thread")?;
-        let (thread, wanted) = rest.split_once(" | ").ok_or("an end")?;
-        let mut state = at(alloc, form)?;
-        play_all(&rt, alloc, &mut state, &[labels])?;
-        let found = place(alloc, &state, thread.parse().unwrap_or(0))?;
-        let wanted = place(alloc, &at(alloc, wanted)?, 1)?;
-        assert_eq!(rt; found.as_str(), wanted.as_str(), "{form}");
+        expect_other(&rt, rt.alloc(), row)?;
     }
     Ok(())
 }
 
+fn expect_next(rt: &impl Abort, alloc: Global, row: &str) -> Result<(), Fail> {
+    let (form, wanted) = row.split_once(" | ").ok_or("what is next")?;
+    let look = next_at(alloc, form)?;
+    let found = format!(in alloc; "{look:?}")?;
+    is(rt, &(form, found.as_str()), &(form, wanted));
+    Ok(())
+}
+
+fn next_at(alloc: Global, form: &str) -> Result<Look, Fail> {
+    let state = at(alloc, form)?;
+    Ok(state.look(T).ok_or("a thread")?)
+}
+
 #[test]
 fn what_is_next(rt: HostRuntime) -> Result<(), Fail> {
-    let alloc = rt.alloc();
     for row in LOOKS.lines() {
-        let (form, wanted) = row.split_once(" | ").ok_or("what is next")?;
-        let found = at(alloc, form)?.look(T).ok_or("a thread")?;
-        let found = format!(in alloc; "{found:?}")?;
-        assert_eq!(rt; found.as_str(), wanted, "{form}");
+        expect_next(&rt, rt.alloc(), row)?;
     }
+    Ok(())
+}
+
+// What is next for thread 1 after so many pure steps of a form.
+fn look_after_steps(
+    rt: &impl Abort,
+    alloc: Global,
+    form: &str,
+    steps: u32,
+) -> Result<String, Fail> {
+    let mut state = at(alloc, form)?;
+    let made = state.play(alloc, Seq(20), &Label::Local(T, steps));
+    is(rt, &(form, made), &(form, Ok(())));
+    look_of(alloc, &state, T)
+}
+
+fn expect_after_steps(
+    rt: &impl Abort,
+    alloc: Global,
+    form: &str,
+    steps: u32,
+    wanted: &str,
+) -> Result<(), Fail> {
+    let found = look_after_steps(rt, alloc, form, steps)?;
+    is(rt, &(form, found.as_str()), &(form, wanted));
     Ok(())
 }
 
 #[test]
 fn forms_round_a_redex(rt: HostRuntime) -> Result<(), Fail> {
-    let alloc = rt.alloc();
     for (form, steps, wanted) in DEPTHS {
-        let mut state = at(alloc, form)?;
-        assert!(rt;
-            state.play(alloc, Seq(20), &Label::Local(T, steps)).is_ok(),
-            "{form}"
-        );
-        let found = format!(in alloc; "{:?}", state.look(T))?;
-        assert_eq!(rt; found.as_str(), wanted, "{form}");
+        expect_after_steps(&rt, rt.alloc(), form, steps, wanted)?;
     }
     Ok(())
 }
@@ -304,22 +372,46 @@ const ACTS_IN_DEPTH: [(&str, &str, &str); 4] = [
     ),
 ];
 
+// The start of a program that comes to the form in depth.
+fn deep_start(alloc: Global, form: &str) -> Result<PlainState, Fail> {
+    let nots = "!!!!!!!!!!!!!!!!!!!!!!!!!!!!!!!!!!!!!";
+    let text = format!(in alloc;
+        "fn inner(): int {{ probe() }} fn down(n: int): bool {{ if n == 0 {{ {form} }} else {{ {nots}down(n - 1) }} }} fn main(): bool {{ down(27) }}"
+    )?;
+    start_of(alloc, text.as_str())
+}
+
+// What is next after the steps down to the form and one more.
+fn look_in_depth(rt: &impl Abort, alloc: Global, form: &str, step: &str) -> Result<String, Fail> {
+    let mut state = deep_start(alloc, form)?;
+    let refused = refused_of_two(alloc, &mut state, step)?;
+    is(rt, &(form, refused), &(form, (None, None)));
+    look_of(alloc, &state, T)
+}
+
+fn refused_of_two(
+    alloc: Global,
+    state: &mut PlainState,
+    step: &str,
+) -> Result<(Option<Seq>, Option<Seq>), Fail> {
+    let down = first_refused(alloc, state, "1 local 1 111")?;
+    Ok((down, first_refused(alloc, state, step)?))
+}
+
+fn expect_in_depth(
+    rt: &impl Abort,
+    alloc: Global,
+    (form, step, wanted): (&str, &str, &str),
+) -> Result<(), Fail> {
+    let found = look_in_depth(rt, alloc, form, step)?;
+    is(rt, &(form, found.as_str()), &(form, wanted));
+    Ok(())
+}
+
 #[test]
 fn acts_in_depth(rt: HostRuntime) -> Result<(), Fail> {
-    let alloc = rt.alloc();
-    for (form, step, wanted) in ACTS_IN_DEPTH {
-        let nots = "!!!!!!!!!!!!!!!!!!!!!!!!!!!!!!!!!!!!!";
-        let down = format!(in alloc;
-            "fn down(n: int): bool {{ if n == 0 {{ {form} }} else {{ {nots}down(n - 1) }} }}"
-        )?;
-        let text = format!(in alloc;
-            "fn inner(): int {{ probe() }} {down} fn main(): bool {{ down(27) }}"
-        )?;
-        let program = program_of(alloc, text.as_str())?;
-        let mut state = PlainState::start(alloc, &program)?;
-        play_all(&rt, alloc, &mut state, &["1 local 1 111", step])?;
-        let found = format!(in alloc; "{:?}", state.look(T))?;
-        assert_eq!(rt; found.as_str(), wanted, "{form}");
+    for row in ACTS_IN_DEPTH {
+        expect_in_depth(&rt, rt.alloc(), row)?;
     }
     Ok(())
 }
@@ -337,23 +429,17 @@ fn pairs(alloc: Global, times: u32) -> Result<String, AllocError> {
     Ok(text)
 }
 
+// So many pairs are made by as many pure steps.
+fn expect_pairs(rt: &impl Abort, alloc: Global, times: u32, wanted: &str) -> Result<(), Fail> {
+    let form = pairs(alloc, times)?;
+    expect_after_steps(rt, alloc, form.as_str(), times, wanted)
+}
+
 #[test]
 fn deep_pairs(rt: HostRuntime) -> Result<(), Fail> {
-    let alloc = rt.alloc();
-    for (times, wanted) in [
-        (1, "Some(Done)"),
-        (64, "Some(Done)"),
-        (65, "Some(Failed(DeepValue))"),
-    ] {
-        let mut state = at(alloc, pairs(alloc, times)?.as_str())?;
-        assert!(rt;
-            state.play(alloc, Seq(20), &Label::Local(T, times)).is_ok(),
-            "{times}"
-        );
-        let found = format!(in alloc; "{:?}", state.look(T))?;
-        assert_eq!(rt; found.as_str(), wanted, "{times}");
-    }
-    Ok(())
+    expect_pairs(&rt, rt.alloc(), 1, "Some(Done)")?;
+    expect_pairs(&rt, rt.alloc(), 64, "Some(Done)")?;
+    expect_pairs(&rt, rt.alloc(), 65, "Some(Failed(DeepValue))")
 }
 
 fn channel(c: u32) -> Expr {
@@ -361,47 +447,88 @@ fn channel(c: u32) -> Expr {
 }
 
 // A pick makes a pair of what was sent, which may be too deep. Its sender goes on all the same.
+// The value of so many pairs in each other.
+fn deep_value(alloc: Global, times: u32) -> Result<Expr, Fail> {
+    let form = pairs(alloc, times)?;
+    let mut state = at(alloc, form.as_str())?;
+    if state.play(alloc, Seq(20), &Label::Local(T, times)) != Ok(()) {
+        return Err(Fail::from("the steps that make pairs"));
+    }
+    Ok(state.expr(T).ok_or("a thread")?.copy(alloc)?)
+}
+
+// Thread 1 sends an expression on channel 1.
+fn sender(alloc: Global, e: Expr) -> Result<Expr, Fail> {
+    Ok(Expr::form(Head::Send, vec![in alloc; channel(1), e]?))
+}
+
+fn picker(alloc: Global) -> Result<Expr, Fail> {
+    let channels = vec![in alloc; channel(2), channel(1)]?;
+    Ok(Expr::form(Head::Pick, channels))
+}
+
+fn both(alloc: Global, times: u32) -> Result<Vec<(ThreadId, Expr)>, Fail> {
+    let picker = picker(alloc)?;
+    let sender = sender(alloc, deep_value(alloc, times)?)?;
+    Ok(vec![in alloc; (T, sender), (ThreadId(2), picker)]?)
+}
+
+// A state in which thread 2 can pick a deep value that thread 1 sends.
+fn before_pick(alloc: Global, times: u32) -> Result<PlainState, Fail> {
+    let program = program_of(alloc, "fn main(): unit {}")?;
+    let threads = both(alloc, times)?;
+    standing_at(alloc, &program, threads, Vec::new(alloc), Vec::new(alloc))
+}
+
+// What is next for each of the two after the pick.
+fn looks_after_pick(alloc: Global, times: u32) -> Result<[Option<Look>; 2], Fail> {
+    let mut state = before_pick(alloc, times)?;
+    let comm = Label::Comm(T, ThreadId(2), ChanId(1));
+    if state.play(alloc, Seq(1), &comm) != Ok(()) {
+        return Err(Fail::from("the pick"));
+    }
+    Ok([state.look(T), state.look(ThreadId(2))])
+}
+
 #[test]
 fn a_pick_of_a_deep_value(rt: HostRuntime) -> Result<(), Fail> {
-    let alloc = rt.alloc();
-    for (times, wanted) in [(63, "Some(Done)"), (64, "Some(Failed(DeepValue))")] {
-        let mut before = at(alloc, pairs(alloc, times)?.as_str())?;
-        assert!(rt; before.play(alloc, Seq(20), &Label::Local(T, times)).is_ok());
-        let deep = before.expr(T).ok_or("a thread")?.copy(alloc)?;
-        let sends = vec![in alloc; channel(1), deep]?;
-        let picks = vec![in alloc; channel(2), channel(1)]?;
-        let threads = vec![in alloc;
-            (T, Expr::form(Head::Send, sends)),
-            (ThreadId(2), Expr::form(Head::Pick, picks)),
-        ]?;
-        let program = program_of(alloc, "fn main(): unit {}")?;
-        let none = (Vec::new(alloc), Vec::new(alloc));
-        let mut state = standing_at(alloc, &program, threads, none.0, none.1)?;
-        let comm = Label::Comm(T, ThreadId(2), ChanId(1));
-        assert_eq!(rt; state.play(alloc, Seq(1), &comm), Ok(()), "{times}");
-        let found = format!(in alloc; "{:?}", state.look(ThreadId(2)))?;
-        assert_eq!(rt; found.as_str(), wanted, "{times}");
-        assert_eq!(rt; state.look(T), Some(Look::Done), "{times}");
-    }
+    let done = Some(Look::Done);
+    let failed = Some(Look::Failed(Fault::DeepValue));
+    let fits = looks_after_pick(rt.alloc(), 63)?;
+    is(&rt, &fits, &[done, done]);
+    let too_deep = looks_after_pick(rt.alloc(), 64)?;
+    is(&rt, &too_deep, &[done, failed]);
     Ok(())
 }
 
 // The sections entered at 20 and, within it, at 30.
 #[test]
 fn the_inner_section_is_the_mark(rt: HostRuntime) -> Result<(), Fail> {
-    let alloc = rt.alloc();
-    let steps = [
-        ("20 enter 1", 20),
-        ("30 enter 1", 30),
-        // The inner section alone is the redex, and then it is gone.
-        ("40 probe 1 5", 20),
-        ("41 local 1 1", 20),
-    ];
-    let mut state = at(alloc, "stable outer()")?;
-    assert_eq!(rt; state.mark(T), None);
-    for (labels, mark) in steps {
-        play_all(&rt, alloc, &mut state, &[labels])?;
-        assert_eq!(rt; state.mark(T), Some(Seq(mark)), "{labels}");
-    }
+    let mut state = at(rt.alloc(), "stable outer()")?;
+    expect_marks(&rt, rt.alloc(), &mut state)
+}
+
+fn expect_marks(rt: &impl Abort, alloc: Global, state: &mut PlainState) -> Result<(), Fail> {
+    is(rt, &state.mark(T), &None);
+    expect_mark(rt, alloc, state, "20 enter 1", 20)?;
+    expect_mark(rt, alloc, state, "30 enter 1", 30)?;
+    // The inner section alone is the redex, and then it is gone.
+    expect_mark(rt, alloc, state, "40 probe 1 5", 20)?;
+    expect_mark(rt, alloc, state, "41 local 1 1", 20)
+}
+
+fn expect_mark(
+    rt: &impl Abort,
+    alloc: Global,
+    state: &mut PlainState,
+    label: &str,
+    mark: u64,
+) -> Result<(), Fail> {
+    let refused = first_refused(alloc, state, label)?;
+    is(
+        rt,
+        &(label, (refused, state.mark(T))),
+        &(label, (None, Some(Seq(mark)))),
+    );
     Ok(())
 }
