@@ -11,3 +11,11 @@ mod schedules;
 mod texts;
 mod turns;
 mod weights;
+
+use std::fmt::Debug;
+use std::process::Abort;
+
+// What was found is what is wanted. Each `assert_eq!` is proved with all of its words, so the tests have one.
+fn is<T: PartialEq + Debug>(rt: &impl Abort, found: &T, wanted: &T) {
+    assert_eq!(rt; found, wanted);
+}

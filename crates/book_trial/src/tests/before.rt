@@ -1,6 +1,7 @@
 //! A book before its first commit: what it tells, and which turns come.
 ghost use Rattle.stab_journal.specs.Event.{IsWorker};
 
+use super::is;
 use super::turns::book_with;
 use commit_book::{Book, Lease, Turn};
 use stab_base::{Generation, ThreadId};
@@ -60,12 +61,15 @@ fn lends<R: Abort>(rt: &R, book: &mut Book) -> Result<(), Fail> {
     let meanwhile = threads(book);
     let other = next_turn(book);
     book.give_back(lease);
-    assert_eq!(rt; before, [0, 0, 0, 1, 0]);
-    assert_eq!(rt; seen, (3, ThreadId(1), Generation(0)));
-    assert_eq!(rt; meanwhile, [0, 0, 0, 0, 1]);
-    assert_eq!(rt; other, "idle");
-    assert_eq!(rt; threads(book), [0, 0, 0, 1, 0]);
-    assert_eq!(rt; next_turn(book), "work");
+    let counted = [before, meanwhile, threads(book)];
+    let ready = [0, 0, 0, 1, 0];
+    is(rt, &counted, &[ready, [0, 0, 0, 0, 1], ready]);
+    let told = (seen, other, next_turn(book));
+    is(
+        rt,
+        &told,
+        &((3, ThreadId(1), Generation(0)), "idle", "work"),
+    );
     Ok(())
 }
 
@@ -81,9 +85,8 @@ fn recalls<R: Abort>(rt: &R, book: &mut Book) -> Result<(), Fail> {
     book.recall();
     let recalled = threads(book);
     book.give_back(lease);
-    assert_eq!(rt; worker, 2);
-    assert_eq!(rt; recalled, [0, 0, 0, 1, 0]);
-    assert_eq!(rt; threads(book), [0, 0, 0, 1, 0]);
+    let ready = [0, 0, 0, 1, 0];
+    is(rt, &(worker, recalled, threads(book)), &(2, ready, ready));
     Ok(())
 }
 
@@ -95,17 +98,18 @@ fn has_printed_nothing(book: &Book) -> bool {
 #[test]
 fn a_main_that_is_a_value_is_at_rest(rt: HostRuntime) -> Result<(), Fail> {
     let mut book = book_with(rt.alloc(), "fn main(): int { 7 }", &[], 100)?;
-    rests(&rt, &mut book)
+    rests(&rt, &mut book);
+    Ok(())
 }
 
-fn rests<R: Abort>(rt: &R, book: &mut Book) -> Result<(), Fail> {
-    assert_eq!(rt; threads(book), [1, 0, 0, 0, 0]);
-    assert_eq!(rt; next_turn(book), "quiet");
-    assert_eq!(rt; book.fault_of(ThreadId(1)), None);
-    assert_eq!(rt; book.last_thread(), ThreadId(1));
-    assert_eq!(rt; book.due(), 0);
-    assert_eq!(rt; book.history().len(), 0);
-    assert_eq!(rt; book.job().fuel(), 100);
-    assert!(rt; has_printed_nothing(book));
-    Ok(())
+fn rests<R: Abort>(rt: &R, book: &mut Book) {
+    is(
+        rt,
+        &(threads(book), next_turn(book)),
+        &([1, 0, 0, 0, 0], "quiet"),
+    );
+    let thread = (book.fault_of(ThreadId(1)), book.last_thread());
+    let counts = (book.due(), book.history().len(), book.job().fuel());
+    let found = (thread, counts, has_printed_nothing(book));
+    is(rt, &found, &((None, ThreadId(1)), (0, 0, 100), true));
 }

@@ -2,6 +2,7 @@
 ghost use Rattle.std.specs.Prelude.{◌≤◌, length};
 ghost use Rattle.stab_journal.specs.Event.{IsWorker};
 
+use super::is;
 use super::texts::CASCADE;
 use super::turns::{Stuck, Work, answer, book_with, next_work};
 use book_text::shown_text;
@@ -155,11 +156,19 @@ commit 2 stale 0 now 0
 5
 ended 0 faulted 0 waiting 1
 ";
+    has_told(rt, drill, told);
     let counts = drill.book.counts();
-    assert_eq!(rt; drill.told.as_str(), told);
-    assert_eq!(rt; (counts.commits, counts.stale, counts.undos), (1, 1, 0));
-    assert!(rt; !drill.lacks);
+    is(
+        rt,
+        &(counts.commits, counts.stale, counts.undos),
+        &(1, 1, 0),
+    );
     Ok(())
+}
+
+// These lines were told, and none is missing.
+fn has_told<R: Abort>(rt: &R, drill: &Drill, told: &str) {
+    is(rt, &(drill.told.as_str(), drill.lacks), &(told, false));
 }
 
 #[test]
@@ -191,8 +200,7 @@ commit 1 undone 5 2 mark 1 removed 5
 commit 2 stale 0 now none
 ended 0 faulted 0 waiting 1
 ";
-    assert_eq!(rt; drill.told.as_str(), told);
-    assert!(rt; !drill.lacks);
+    has_told(rt, drill, told);
     Ok(())
 }
 
@@ -257,19 +265,25 @@ commit 5 stale 1 now 2
 commit 2 stale 0 now 2
 ended 0 faulted 0 waiting 3
 ";
-    assert_eq!(rt; drill.told.as_str(), told);
-    assert!(rt; !drill.lacks);
+    has_told(rt, drill, told);
     Ok(())
 }
 
 #[test]
 fn an_undo_tells_which_nodes_it_took_away(rt: HostRuntime) -> Result<(), Fail> {
-    let mut book = book_with(rt.alloc(), CASCADE, &[-1], 10_000)?;
     let mut nodes = Vec::new(rt.alloc());
-    let told = last_undo(&mut book, 32, &mut nodes)?;
-    assert_eq!(rt; told, Some((31, 2, 17, 10)));
-    assert_eq!(rt; nodes.as_slice(), &[17, 20, 23, 26, 28][..]);
+    let told = undo_of_cascade(rt.alloc(), &mut nodes)?;
+    let taken_away = nodes.as_slice() == &[17, 20, 23, 26, 28][..];
+    is(&rt, &(told, taken_away), &(Some((31, 2, 17, 10)), true));
     Ok(())
+}
+
+fn undo_of_cascade(
+    alloc: Global,
+    nodes: &mut Vec<u64>,
+) -> Result<Option<(u64, u32, u64, u64)>, Fail> {
+    let mut book = book_with(alloc, CASCADE, &[-1], 10_000)?;
+    last_undo(&mut book, 32, nodes)
 }
 
 // Where the events of the last undo in so many turns begin, how many there are, the section's mark and how many steps were
@@ -281,21 +295,34 @@ fn last_undo(
 ) -> Result<Option<(u64, u32, u64, u64)>, Fail> {
     let mut told = None;
     for _ in 0..turns {
-        if let Some(done) = next_answer(book)? {
-            if let Done::Undone {
-                first,
-                count,
-                mark,
-                removed,
-                marks,
-            } = &done
-            {
-                sorted(marks, nodes)?;
-                told = Some((first.0, *count, mark.0, *removed));
-            }
-        }
+        let undo = next_undo(book, nodes)?;
+        told = undo.or(told);
     }
     Ok(told)
+}
+
+// The same of the next turn, if it is an undo.
+fn next_undo(book: &mut Book, nodes: &mut Vec<u64>) -> Result<Option<(u64, u32, u64, u64)>, Fail> {
+    match next_answer(book)? {
+        Some(done) => undo_of(&done, nodes),
+        None => Ok(None),
+    }
+}
+
+fn undo_of(done: &Done, nodes: &mut Vec<u64>) -> Result<Option<(u64, u32, u64, u64)>, Fail> {
+    match done {
+        Done::Undone {
+            first,
+            count,
+            mark,
+            removed,
+            marks,
+        } => {
+            sorted(marks, nodes)?;
+            Ok(Some((first.0, *count, mark.0, *removed)))
+        }
+        _ => Ok(None),
+    }
 }
 
 // What is answered to the next thread's work, if one is lent.
@@ -380,7 +407,6 @@ commit 3 stale 1 now 3
 commit 4 stale 2 now 3
 ended 0 faulted 0 waiting 2
 ";
-    assert_eq!(rt; drill.told.as_str(), told);
-    assert!(rt; !drill.lacks);
+    has_told(rt, drill, told);
     Ok(())
 }

@@ -11,6 +11,11 @@ use trace_verify::{Verdict, verify};
 // The trace of events that worker 1 made: each is its sign and its words, and a comma stands between two.
 fn trace_of(alloc: Global, events: &str) -> Result<String, Fail> {
     let mut text = String::from_str(alloc, "stab trace 2\n")?;
+    put_events(alloc, events, &mut text)?;
+    Ok(text)
+}
+
+fn put_events(alloc: Global, events: &str, text: &mut String) -> Result<(), Fail> {
     let mut count = 0u32;
     for event in events.split(',') {
         if let Some((sign, words)) = event.split_at_checked(1) {
@@ -19,24 +24,35 @@ fn trace_of(alloc: Global, events: &str) -> Result<String, Fail> {
         }
     }
     text.push_str(format!(in alloc; "end {count}\n")?.as_str())?;
-    Ok(text)
+    Ok(())
+}
+
+fn job_of(alloc: Global, program: &str, script: &[i64]) -> Result<Job, Fail> {
+    let text = program.as_bytes();
+    if text.len() > 1_048_576 || script.len() > 1000 {
+        return Err(Fail::from("a short text and a short script"));
+    }
+    let script = Vec::from_slice(alloc, script)?;
+    let Ok(program) = read_program(alloc, text) else {
+        return Err(Fail::from("the text of a program"));
+    };
+    Ok(Job::new(Arc::new(alloc, program)?, script, 1000, 1000))
 }
 
 // The verdict on a trace of a program with a script.
 fn judge(alloc: Global, program: &str, script: &[i64], trace: &[u8]) -> Result<Verdict, Fail> {
-    let text = program.as_bytes();
-    if text.len() > 1_048_576 || script.len() > 1000 || trace.len() > 67_108_864 {
-        return Err(Fail::from("short texts and a short script"));
+    let job = job_of(alloc, program, script)?;
+    judge_of(alloc, &job, trace)
+}
+
+fn judge_of(alloc: Global, job: &Job, trace: &[u8]) -> Result<Verdict, Fail> {
+    if trace.len() > 67_108_864 {
+        return Err(Fail::from("a short trace"));
     }
-    let Ok(program) = read_program(alloc, text) else {
-        return Err(Fail::from("the text of a program"));
-    };
-    let Ok(history) = read_trace(alloc, trace) else {
-        return Err(Fail::from("a trace"));
-    };
-    let program = Arc::new(alloc, program)?;
-    let job = Job::new(program, Vec::from_slice(alloc, script)?, 1000, 1000);
-    Ok(verify(alloc, &job, &history)?)
+    match read_trace(alloc, trace) {
+        Ok(history) => Ok(verify(alloc, job, &history)?),
+        Err(_) => Err(Fail::from("a trace")),
+    }
 }
 
 // The verdict on events in words.

@@ -57,15 +57,16 @@ impl Schedule {
         let Ok(program) = read_program(alloc, text) else {
             return Err(Fail::from("the text of a program"));
         };
+        let times = vec![in alloc; 0; 8]?;
         let program = Arc::new(alloc, program)?;
-        let state = PlainState::start(alloc, &program).map_err(|_| Fail::from("no memory"))?;
+        let state = start_of(alloc, &program)?;
         Ok(Schedule {
             program,
             state,
             run: Vec::new(alloc),
             events: Vec::new(alloc),
             struck: Vec::new(alloc),
-            times: vec![in alloc; 0; 8]?,
+            times,
             probes: 0,
             released: 0,
             seed,
@@ -86,12 +87,13 @@ impl Schedule {
     }
 
     // Makes the step, where the language has it.
-    fn step(&mut self, alloc: Global, label: Label, words: String) -> Result<bool, Fail> {
+    fn step(&mut self, alloc: Global, label: Label) -> Result<bool, Fail> {
         let seq = self.number();
         if self.state.play(alloc, seq, &label).is_err() {
             return Ok(false);
         }
         self.run.push(Numbered { seq, label })?;
+        let words = words_of(alloc, label)?;
         self.events.push(('+', words))?;
         Ok(true)
     }
@@ -101,41 +103,37 @@ impl Schedule {
         let thread = ThreadId(t);
         match self.state.look(thread) {
             None | Some(Look::Done | Look::Failed(_)) => Ok(false),
-            Some(Look::Pure) => {
-                let n = (self.any() % 4) as u32 + 1;
-                let words = format!(in alloc; "local {t} {n}")?;
-                Ok(
-                    self.step(alloc, Label::Local(thread, n), words)?
-                        || self.step(
-                            alloc,
-                            Label::Local(thread, 1),
-                            format!(in alloc; "local {t} 1")?,
-                        )?,
-                )
-            }
+            Some(Look::Pure) => self.pure(alloc, thread),
             Some(Look::Act(ActKind::Stabilize)) => self.stabilize(alloc, t),
             Some(Look::Act(ActKind::Probe)) => {
-                let i = match SCRIPT.get(self.probes) {
-                    Some(number) => *number,
-                    None => 0,
-                };
-                self.probes = self.probes.saturating_add(1);
-                self.step(
-                    alloc,
-                    Label::Probe(thread, i),
-                    format!(in alloc; "probe {t} {i}")?,
-                )
+                let i = self.probe();
+                self.step(alloc, Label::Probe(thread, i))
             }
             Some(Look::Act(ActKind::Attempt)) => {
                 let g = self.times_of(t);
-                self.step(
-                    alloc,
-                    Label::Attempt(thread, g),
-                    format!(in alloc; "attempt {t} {g}")?,
-                )
+                self.step(alloc, Label::Attempt(thread, g))
             }
             Some(Look::Act(kind)) => self.act(alloc, t, kind),
         }
+    }
+
+    // Up to four pure steps.
+    fn pure(&mut self, alloc: Global, thread: ThreadId) -> Result<bool, Fail> {
+        let n = (self.any() % 4) as u32 + 1;
+        if self.step(alloc, Label::Local(thread, n))? {
+            return Ok(true);
+        }
+        self.step(alloc, Label::Local(thread, 1))
+    }
+
+    // What the next probe gets.
+    fn probe(&mut self) -> i64 {
+        let i = match SCRIPT.get(self.probes) {
+            Some(number) => *number,
+            None => 0,
+        };
+        self.probes = self.probes.saturating_add(1);
+        i
     }
 
     fn times_of(&self, t: u32) -> u64 {
@@ -148,30 +146,26 @@ impl Schedule {
     // An act of the thread, with the number that the language has for it or with the thread that it can meet.
     fn act(&mut self, alloc: Global, t: u32, kind: ActKind) -> Result<bool, Fail> {
         for n in 1..=MOST {
-            let (label, word) = label_of(kind, t, n);
-            let words = match kind {
-                ActKind::Enter | ActKind::Cut | ActKind::Print | ActKind::Pin => format!(in alloc;
-                    "{word} {t}"
-                )?,
-                _ => format!(in alloc; "{word} {t} {n}")?,
-            };
-            let made = match kind {
-                ActKind::Send(_) => self.meet(alloc, t, n)?,
-                ActKind::Recv(_) | ActKind::Pick(..) => self.meet(alloc, n, t)?,
-                _ => self.step(alloc, label, words)?,
-            };
-            if made {
+            if self.act_with(alloc, t, kind, n)? {
                 return Ok(true);
             }
         }
         Ok(false)
     }
 
+    fn act_with(&mut self, alloc: Global, t: u32, kind: ActKind, n: u32) -> Result<bool, Fail> {
+        match kind {
+            ActKind::Send(_) => self.meet(alloc, t, n),
+            ActKind::Recv(_) | ActKind::Pick(..) => self.meet(alloc, n, t),
+            _ => self.step(alloc, label_of(kind, t, n)),
+        }
+    }
+
     // A communication of the two threads.
     fn meet(&mut self, alloc: Global, s: u32, r: u32) -> Result<bool, Fail> {
         for c in 1..=2 {
             let label = Label::Comm(ThreadId(s), ThreadId(r), ChanId(c));
-            if self.step(alloc, label, format!(in alloc; "comm {s} {r} {c}")?)? {
+            if self.step(alloc, label)? {
                 return Ok(true);
             }
         }
@@ -226,29 +220,36 @@ impl Schedule {
     }
 
     fn stabilize(&mut self, alloc: Global, t: u32) -> Result<bool, Fail> {
-        let mark = self.state.mark(ThreadId(t));
-        if let Some(m) = mark {
-            let reached = self.reached(alloc, m)?;
-            if m.0 > self.last_cut() && !self.has_pin(&reached) {
-                let number = m.0;
-                self.events
-                    .push(('!', format!(in alloc; "undo {t} {number}")?))?;
-                return self.take_back(alloc, &reached);
+        if let Some(m) = self.state.mark(ThreadId(t)) {
+            if m.0 > self.last_cut() && self.undo(alloc, t, m)? {
+                return Ok(true);
             }
         }
-        self.step(
-            alloc,
-            Label::Refuse(ThreadId(t)),
-            format!(in alloc; "refuse {t}")?,
-        )
+        self.step(alloc, Label::Refuse(ThreadId(t)))
+    }
+
+    // Takes the section entered at m back, if nothing that goes with it is pinned.
+    fn undo(&mut self, alloc: Global, t: u32, m: Seq) -> Result<bool, Fail> {
+        let reached = self.reached(alloc, m)?;
+        if self.has_pin(&reached) {
+            return Ok(false);
+        }
+        self.take_back(alloc, t, m, &reached)?;
+        Ok(true)
     }
 
     // The rest is played again from the start.
-    fn take_back(&mut self, alloc: Global, reached: &[u64]) -> Result<bool, Fail> {
-        let mut rest = Vec::new(alloc);
-        let mut state = PlainState::start(alloc, &self.program).map_err(|_| Fail::from(
-            "no memory",
-        ))?;
+    fn take_back(&mut self, alloc: Global, t: u32, m: Seq, reached: &[u64]) -> Result<(), Fail> {
+        let number = m.0;
+        let words = format!(in alloc; "undo {t} {number}")?;
+        self.events.push(('!', words))?;
+        self.count_lost(reached);
+        self.strike(reached)?;
+        self.play_rest(alloc)
+    }
+
+    // The threads of which a step is lost are put back once more.
+    fn count_lost(&mut self, reached: &[u64]) {
         for t in 1..=MOST {
             let lost = self.run.iter().any(|step| reached.contains(&step.seq.0)
                 && acts(step.label, t));
@@ -256,22 +257,28 @@ impl Schedule {
                 *times = times.saturating_add(1);
             }
         }
-        for step in &self.run {
-            if reached.contains(&step.seq.0) {
-                self.struck.push(step.seq.0)?;
-            } else if state.play(alloc, step.seq, &step.label).is_err() {
-                return Err(Fail::from("the rest is a run"));
-            } else {
-                rest.push(*step)?;
-            }
-        }
-        self.run = rest;
-        self.state = state;
-        Ok(true)
     }
 
-    // Releases what is final, if something is that wasn't released.
-    fn release(&mut self, alloc: Global) -> Result<(), Fail> {
+    fn strike(&mut self, reached: &[u64]) -> Result<(), Fail> {
+        for q in reached {
+            self.struck.push(*q)?;
+        }
+        self.run.retain(|step| !reached.contains(&step.seq.0));
+        Ok(())
+    }
+
+    fn play_rest(&mut self, alloc: Global) -> Result<(), Fail> {
+        self.state = start_of(alloc, &self.program)?;
+        for step in &self.run {
+            if self.state.play(alloc, step.seq, &step.label).is_err() {
+                return Err(Fail::from("the rest is a run"));
+            }
+        }
+        Ok(())
+    }
+
+    // How many prints are before the last cut.
+    fn final_prints(&self) -> u64 {
         let cut = self.last_cut();
         let mut prints: u64 = 0;
         for step in &self.run {
@@ -279,10 +286,53 @@ impl Schedule {
                 prints = prints.saturating_add(1);
             }
         }
+        prints
+    }
+
+    // Releases what is final, if something is that wasn't released.
+    fn release(&mut self, alloc: Global) -> Result<(), Fail> {
+        let prints = self.final_prints();
         if prints > self.released {
             self.released = prints;
-            self.events
-                .push(('=', format!(in alloc; "release {prints}")?))?;
+            let words = format!(in alloc; "release {prints}")?;
+            self.events.push(('=', words))?;
+        }
+        Ok(())
+    }
+
+    fn turn(&mut self, alloc: Global) -> Result<(), Fail> {
+        let t = (self.any() % 6) as u32 + 1;
+        let _made = self.go(alloc, t)?;
+        if self.any() < 100 {
+            self.release(alloc)?;
+        }
+        Ok(())
+    }
+
+    fn undos(&self) -> usize {
+        let mut undos = 0usize;
+        for (sign, _words) in &self.events {
+            if *sign == '!' {
+                undos = undos.saturating_add(1);
+            }
+        }
+        undos
+    }
+
+    // The sign of an event, turned where it is the one with this number.
+    fn sign(&self, number: usize, sign: char, turned: usize) -> char {
+        let struck = self.struck.contains(&(number as u64));
+        match (sign, struck != (number == turned)) {
+            ('+', true) => '-',
+            (sign, _) => sign,
+        }
+    }
+
+    fn put_events(&self, alloc: Global, turned: usize, text: &mut String) -> Result<(), Fail> {
+        for (i, (sign, words)) in self.events.iter().enumerate() {
+            let sign = self.sign(i.saturating_add(1), *sign, turned);
+            let comma = if i == 0 { "" } else { "," };
+            text.push_str(format!(in alloc; "{comma}{sign}{words}")?.as_str())?;
         }
         Ok(())
     }
@@ -290,34 +340,80 @@ impl Schedule {
     // The events, with the sign of the one that has this number turned.
     fn text(&self, alloc: Global, turned: usize) -> Result<String, Fail> {
         let mut text = String::new(alloc);
-        for (i, (sign, words)) in self.events.iter().enumerate() {
-            let number = i.saturating_add(1);
-            let struck = self.struck.contains(&(number as u64));
-            let sign = match (*sign, struck != (number == turned)) {
-                ('+', true) => '-',
-                (sign, _) => sign,
-            };
-            let comma = if i == 0 { "" } else { "," };
-            text.push_str(format!(in alloc; "{comma}{sign}{words}")?.as_str())?;
-        }
+        self.put_events(alloc, turned, &mut text)?;
         Ok(text)
+    }
+
+    // The judge says this of the events with one sign turned.
+    fn is_judged(&self, alloc: Global, turned: usize, expected: &str) -> Result<(), Fail> {
+        let events = self.text(alloc, turned)?;
+        let verdict = verdict_on(alloc, SHARED, &SCRIPT, events.as_str())?;
+        is_verdict(alloc, events.as_str(), verdict.as_str(), expected)
+    }
+
+    // Of a step whose sign is turned, that is told.
+    fn is_told_of_a_sign(&mut self, alloc: Global) -> Result<(), Fail> {
+        let place = (self.any() as usize) % 100;
+        if let Some(('+', _)) = self.events.get(place) {
+            let turned = place.saturating_add(1);
+            let expected = format!(in alloc; "no {turned} WrongSign")?;
+            self.is_judged(alloc, turned, expected.as_str())?;
+        }
+        Ok(())
     }
 }
 
-// The label of an act of the thread with a number, and its word.
-fn label_of(kind: ActKind, t: u32, n: u32) -> (Label, &'static str) {
+fn start_of(alloc: Global, program: &Arc<Program>) -> Result<PlainState, Fail> {
+    PlainState::start(alloc, program).map_err(|_| Fail::from("no memory"))
+}
+
+// The label of an act of the thread with a number.
+fn label_of(kind: ActKind, t: u32, n: u32) -> Label {
     let t = ThreadId(t);
     match kind {
-        ActKind::Spawn => (Label::Spawn(t, ThreadId(n)), "spawn"),
-        ActKind::NewChan => (Label::NewChan(t, ChanId(n)), "newchan"),
-        ActKind::NewRef => (Label::NewRef(t, RefId(n)), "newref"),
-        ActKind::Get(_) => (Label::Get(t, RefId(n)), "get"),
-        ActKind::Set(_) => (Label::Set(t, RefId(n)), "set"),
-        ActKind::Enter => (Label::Enter(t), "enter"),
-        ActKind::Cut => (Label::Cut(t), "cut"),
-        ActKind::Pin => (Label::Pin(t), "pin"),
-        _ => (Label::Print(t), "print"),
+        ActKind::Spawn => Label::Spawn(t, ThreadId(n)),
+        ActKind::NewChan => Label::NewChan(t, ChanId(n)),
+        ActKind::NewRef => Label::NewRef(t, RefId(n)),
+        ActKind::Get(_) => Label::Get(t, RefId(n)),
+        ActKind::Set(_) => Label::Set(t, RefId(n)),
+        ActKind::Enter => Label::Enter(t),
+        ActKind::Cut => Label::Cut(t),
+        ActKind::Pin => Label::Pin(t),
+        _ => Label::Print(t),
     }
+}
+
+// The word of a step, its thread, and up to two numbers more.
+type Words = (&'static str, ThreadId, Option<i64>, Option<i64>);
+
+fn parts_of(label: Label) -> Words {
+    match label {
+        Label::Local(t, n) => ("local", t, Some(i64::from(n)), None),
+        Label::Spawn(t, u) => ("spawn", t, Some(i64::from(u.0)), None),
+        Label::NewChan(t, c) => ("newchan", t, Some(i64::from(c.0)), None),
+        Label::Comm(s, r, c) => ("comm", s, Some(i64::from(r.0)), Some(i64::from(c.0))),
+        Label::NewRef(t, r) => ("newref", t, Some(i64::from(r.0)), None),
+        Label::Get(t, r) => ("get", t, Some(i64::from(r.0)), None),
+        Label::Set(t, r) => ("set", t, Some(i64::from(r.0)), None),
+        Label::Enter(t) => ("enter", t, None, None),
+        Label::Cut(t) => ("cut", t, None, None),
+        Label::Print(t) => ("print", t, None, None),
+        Label::Probe(t, i) => ("probe", t, Some(i), None),
+        Label::Refuse(t) => ("refuse", t, None, None),
+        Label::Pin(t) => ("pin", t, None, None),
+        Label::Attempt(t, g) => ("attempt", t, Some(i64::try_from(g).unwrap_or(-1)), None),
+    }
+}
+
+fn words_of(alloc: Global, label: Label) -> Result<String, Fail> {
+    let (word, t, first, second) = parts_of(label);
+    let t = t.0;
+    let words = match (first, second) {
+        (Some(n), Some(m)) => format!(in alloc; "{word} {t} {n} {m}"),
+        (Some(n), None) => format!(in alloc; "{word} {t} {n}"),
+        (None, _) => format!(in alloc; "{word} {t}"),
+    };
+    Ok(words?)
 }
 
 fn acts(label: Label, t: u32) -> bool {
@@ -356,39 +452,34 @@ fn written(label: Label) -> Option<RefId> {
     }
 }
 
+fn play(alloc: Global, schedule: &mut Schedule) -> Result<(), Fail> {
+    for _ in 0..400 {
+        schedule.turn(alloc)?;
+    }
+    Ok(())
+}
+
+// How many undos there are in a schedule that is judged, also with signs turned.
+fn undos_of(alloc: Global, seed: u64) -> Result<usize, Fail> {
+    let mut schedule = Schedule::new(alloc, SHARED, seed)?;
+    play_and_judge(alloc, &mut schedule)?;
+    Ok(schedule.undos())
+}
+
+fn play_and_judge(alloc: Global, schedule: &mut Schedule) -> Result<(), Fail> {
+    play(alloc, schedule)?;
+    schedule.is_judged(alloc, 0, "yes")?;
+    for _ in 0..3 {
+        schedule.is_told_of_a_sign(alloc)?;
+    }
+    Ok(())
+}
+
 #[test]
 fn random_schedules(rt: HostRuntime) -> Result<(), Fail> {
-    let alloc = rt.alloc();
     let mut undos = 0usize;
     for seed in 0..5 {
-        let mut schedule = Schedule::new(alloc, SHARED, seed)?;
-        for _ in 0..400 {
-            let t = (schedule.any() % 6) as u32 + 1;
-            let _made = schedule.go(alloc, t)?;
-            if schedule.any() < 100 {
-                schedule.release(alloc)?;
-            }
-        }
-        let undone = schedule
-            .events
-            .iter()
-            .filter(|event| event.0 == '!')
-            .count();
-        undos = undos.saturating_add(undone);
-        let right = schedule.text(alloc, 0)?;
-        let verdict = verdict_on(alloc, SHARED, &SCRIPT, right.as_str())?;
-        is_verdict(alloc, right.as_str(), verdict.as_str(), "yes")?;
-        // Of a step whose sign is turned, that is told.
-        for _ in 0..3 {
-            let place = (schedule.any() as usize) % 100;
-            if let Some(('+', _)) = schedule.events.get(place) {
-                let turned = place.saturating_add(1);
-                let wrong = schedule.text(alloc, turned)?;
-                let verdict = verdict_on(alloc, SHARED, &SCRIPT, wrong.as_str())?;
-                let expected = format!(in alloc; "no {turned} WrongSign")?;
-                is_verdict(alloc, wrong.as_str(), verdict.as_str(), expected.as_str())?;
-            }
-        }
+        undos = undos.saturating_add(undos_of(rt.alloc(), seed)?);
     }
     // Sections were taken back in them.
     assert!(rt; undos > 5);

@@ -1,12 +1,13 @@
 //! Runs of books by one worker, and the texts that they show.
 ghost use Rattle.std.specs.Prelude.{◌≤◌, length};
 
+use super::is;
 use super::turns::book_with;
 use book_text::shown_text;
 use commit_book::Book;
 use lone_worker::{RunEnd, one_journal, run};
 use stab_base::{ChanId, Seq, ThreadId};
-use stab_journal::{Event, Label, What};
+use stab_journal::{Event, History, Label, What};
 use std::alloc::{AllocGlobal, Global};
 use std::process::Abort;
 use std::test::Fail;
@@ -34,14 +35,14 @@ fn expect_run<R: AllocGlobal + Abort>(
     requires { length script.now ≤ 10 }
 {
     let (book, found) = run_of(rt.alloc(), text, script, 20_000)?;
-    assert_eq!(rt; found, end);
+    is(rt, &found, &end);
     shows(rt, &book, shown)
 }
 
 // The book shows this.
 fn shows<R: AllocGlobal + Abort>(rt: &R, book: &Book, shown: &str) -> Result<(), Fail> {
     let text = shown_text(rt.alloc(), book)?;
-    assert_eq!(rt; text.as_slice(), shown.as_bytes());
+    is(rt, &text.as_slice(), &shown.as_bytes());
     Ok(())
 }
 
@@ -111,11 +112,12 @@ const REPLIES: ChanId = ChanId(2);
 #[test]
 fn the_journal_of_a_request(rt: HostRuntime) -> Result<(), Fail> {
     let (book, end) = run_of(rt.alloc(), REQUEST, &[], 20_000)?;
-    assert_eq!(rt; end, RunEnd::Quiet);
-    has_steps_of_a_request(&rt, &book)
+    is(&rt, &end, &RunEnd::Quiet);
+    has_steps_of_a_request(&rt, &book);
+    Ok(())
 }
 
-fn has_steps_of_a_request<R: AllocGlobal + Abort>(rt: &R, book: &Book) -> Result<(), Fail> {
+fn has_steps_of_a_request<R: Abort>(rt: &R, book: &Book) {
     let labels = [
         Label::NewChan(MAIN, REQUESTS),
         Label::Local(MAIN, 1),
@@ -129,15 +131,26 @@ fn has_steps_of_a_request<R: AllocGlobal + Abort>(rt: &R, book: &Book) -> Result
         Label::Comm(SERVER, MAIN, REPLIES),
         Label::Print(MAIN),
     ];
-    assert_eq!(rt; book.history().len(), 11);
+    let history = book.history();
+    is(
+        rt,
+        &(history.len(), first_wrong(history, &labels)),
+        &(11, None),
+    );
+}
+
+// The number of the first event that isn't the step of the first worker.
+fn first_wrong(history: &History, labels: &[Label]) -> Option<u64> {
     let mut q = 0_u64;
     for label in labels {
         q = q.saturating_add(1);
         let event = Event {
             worker: 1,
-            what: What::Step(label),
+            what: What::Step(*label),
         };
-        assert!(rt; book.history().get(Seq(q)) == Some(event));
+        if history.get(Seq(q)) != Some(event) {
+            return Some(q);
+        }
     }
-    Ok(())
+    None
 }

@@ -23,15 +23,11 @@ pub(super) fn book_with(alloc: Global, text: &str, script: &[i64], fuel: u64) ->
     if bytes.len() > 1_048_576 {
         return Err(Fail::from("a short text"));
     }
+    let script = Vec::from_slice(alloc, script)?;
     let Ok(program) = read_program(alloc, bytes) else {
         return Err(Fail::from("the text of a program"));
     };
-    let job = Job::new(
-        Arc::new(alloc, program)?,
-        Vec::from_slice(alloc, script)?,
-        fuel,
-        10,
-    );
+    let job = Job::new(Arc::new(alloc, program)?, script, fuel, 10);
     Book::new(alloc, job).map_err(|_| Fail::from("no memory"))
 }
 

@@ -1,5 +1,6 @@
 //! Commits of leases that were held while the weight rose.
 
+use super::is;
 use super::turns::{answer, book_with, next_work};
 use commit_book::{Book, Done};
 use std::alloc::Global;
@@ -58,8 +59,7 @@ fn held(alloc: Global) -> Result<Answers, Fail> {
 #[test]
 fn over_the_weight(rt: HostRuntime) -> Result<(), Fail> {
     let answers = held(rt.alloc())?;
-    assert_eq!(rt; answers.taken, 102);
-    assert_eq!(rt; answers.over, Some(1_020_000));
-    assert_eq!(rt; answers.others, 0);
+    let found = (answers.taken, answers.over, answers.others);
+    is(&rt, &found, &(102, Some(1_020_000), 0));
     Ok(())
 }

@@ -2,13 +2,13 @@
 
 use super::program_of;
 use super::texts::TEXTS;
+use crate::tests::is;
 use commit_book::Book;
 use drill_text::DrillFault;
 use schedule_drill::{DrillEnd, drill};
 use stab_base::NoMemory;
 use stab_code::{Job, Program};
-use std::alloc::{AllocGlobal, Global};
-use std::process::Abort;
+use std::alloc::Global;
 use std::sync::Arc;
 use std::test::Fail;
 use trace_verify::{Verdict, verify};
@@ -170,31 +170,37 @@ fn try_one(alloc: Global, program: &Arc<Program>, seed: u64) -> Result<Trial, Fa
     })
 }
 
-// Drills of a text.
-fn drill_often<R: AllocGlobal + Abort>(
-    rt: &R,
-    text: &str,
+// The seed of the first drill of a program that is wrong; what the others wrote is added.
+fn first_wrong_of(
+    alloc: Global,
+    program: &Arc<Program>,
     total: &mut Written,
-) -> Result<(), Fail> {
-    let Some(program) = program_of(rt.alloc(), text) else {
-        return Err(Fail::from("the text of a program"));
-    };
+) -> Result<Option<u64>, Fail> {
     for seed in 0..200 {
-        let one = try_one(rt.alloc(), &program, seed)?;
-        assert!(rt; one.is_judged, "at {seed} of {text}");
-        assert_eq!(rt; one.counted, (one.written.stale, one.written.undone));
+        let one = try_one(alloc, program, seed)?;
+        if !one.is_judged || one.counted != (one.written.stale, one.written.undone) {
+            return Ok(Some(seed));
+        }
         total.add(one.written);
     }
-    Ok(())
+    Ok(None)
+}
+
+// The same of a text.
+fn first_wrong(alloc: Global, text: &str, total: &mut Written) -> Result<Option<u64>, Fail> {
+    match program_of(alloc, text) {
+        Some(program) => first_wrong_of(alloc, &program, total),
+        None => Err(Fail::from("the text of a program")),
+    }
 }
 
 #[test]
 fn random_scripts(rt: HostRuntime) -> Result<(), Fail> {
     let mut total = Written::new();
     for (text, _) in &TEXTS[..5] {
-        drill_often(&rt, text, &mut total)?;
+        let wrong = first_wrong(rt.alloc(), text, &mut total)?;
+        is(&rt, &(text, wrong), &(text, None));
     }
-    assert!(rt; total.stale > 100, "{total:?}");
-    assert!(rt; total.undone > 100, "{total:?}");
+    assert!(rt; total.stale > 100 && total.undone > 100, "{total:?}");
     Ok(())
 }

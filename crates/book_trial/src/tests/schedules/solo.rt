@@ -5,6 +5,7 @@ ghost use Rattle.thread_slots.specs.declared.state.State.TheVariants.{Leased};
 
 use super::program_of;
 use super::texts::{SUMS, TEXTS};
+use crate::tests::is;
 use commit_book::Book;
 use lone_worker::{RunEnd, run};
 use schedule_drill::{DrillEnd, drill};
@@ -269,7 +270,7 @@ fn one_worker_sums_up_in_a_drill(rt: HostRuntime) -> Result<(), Fail> {
     let mut kinds = [0; KINDS];
     let sums = compare(rt.alloc(), SUMS, &[400], 100_000, &mut kinds)?;
     assert!(rt; sums.agree);
-    assert_eq!(rt; (sums.printed, kinds[14], kinds[15]), (400, 45, 16));
+    is(&rt, &(sums.printed, kinds[14], kinds[15]), &(400, 45, 16));
     assert!(rt; sums.events > 5_000);
     Ok(())
 }
