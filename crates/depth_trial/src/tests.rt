@@ -59,17 +59,29 @@ fn state_of(
 
 // What is next for thread 1 and thread 2 at the start, and after their steps on a copy.
 fn goes_through(alloc: Global) -> Result<[Option<Look>; 4], NoMemory> {
+    match start_of_two(alloc)? {
+        Some(state) => looks(alloc, &state),
+        None => Ok([None; 4]),
+    }
+}
+
+// A thread at the deepest expression, and one at negations.
+fn two_threads(alloc: Global) -> Result<Vec<(ThreadId, Expr)>, NoMemory> {
+    let first = deepest(alloc)?;
+    let second = negations(alloc, MOST_ROUND)?;
+    Ok(vec![in alloc; (ThreadId(1), first), (ThreadId(2), second)]?)
+}
+
+fn start_of_two(alloc: Global) -> Result<Option<PlainState>, NoMemory> {
     let Ok(program) = read_program(alloc, b"fn main(): unit {}") else {
-        return Ok([None; 4]);
+        return Ok(None);
     };
     let program = Arc::new(alloc, program)?;
-    let threads = vec![in alloc;
-        (ThreadId(1), deepest(alloc)?),
-        (ThreadId(2), negations(alloc, MOST_ROUND)?),
-    ]?;
-    let Some(state) = state_of(alloc, &program, threads)? else {
-        return Ok([None; 4]);
-    };
+    let threads = two_threads(alloc)?;
+    state_of(alloc, &program, threads)
+}
+
+fn looks(alloc: Global, state: &PlainState) -> Result<[Option<Look>; 4], NoMemory> {
     let mut copy = state.copy(alloc)?;
     let _first = copy.play(alloc, Seq(1), &Label::Local(ThreadId(1), 1));
     let _second = copy.play(alloc, Seq(2), &Label::Local(ThreadId(2), MOST_ROUND));
@@ -100,12 +112,16 @@ fn as_deep_as_may_be(rt: HostRuntime) -> Result<(), Fail> {
 
 #[test]
 fn one_form_deeper(rt: HostRuntime) -> Result<(), Fail> {
-    let alloc = rt.alloc();
-    let flat = vec![in alloc; (ThreadId(1), negations(alloc, MAX_EXPR_DEPTH - 1)?)]?;
-    assert!(rt; are_flat(&flat));
-    let deep = vec![in alloc; (ThreadId(1), negations(alloc, MAX_EXPR_DEPTH)?)]?;
-    assert!(rt; !are_flat(&deep));
+    let flat = is_flat(rt.alloc(), MAX_EXPR_DEPTH - 1)?;
+    let deep = !is_flat(rt.alloc(), MAX_EXPR_DEPTH)?;
+    assert!(rt; flat && deep);
     Ok(())
+}
+
+fn is_flat(alloc: Global, count: u32) -> Result<bool, NoMemory> {
+    let e = negations(alloc, count)?;
+    let threads = vec![in alloc; (ThreadId(1), e)]?;
+    Ok(are_flat(&threads))
 }
 
 // The words of `!` so many times, round true.
@@ -129,19 +145,29 @@ fn words_are_read_as_deep(rt: HostRuntime) -> Result<(), Fail> {
     let thread = Builder::new()
         .stack_size(STACK)
         .spawn(&rt, move || reads(alloc))?;
-    assert_eq!(rt; thread.join(&rt), Ok(true));
-    let words = words_of(alloc, MAX_EXPR_DEPTH)?;
-    assert!(rt; read(alloc, &words, MAX_EXPR_DEPTH)?.is_none());
+    assert!(rt; thread.join(&rt) == Ok(true));
+    Ok(())
+}
+
+#[test]
+fn deeper_words_are_not_read(rt: HostRuntime) -> Result<(), Fail> {
+    let words = words_of(rt.alloc(), MAX_EXPR_DEPTH)?;
+    assert!(rt; read(rt.alloc(), &words, MAX_EXPR_DEPTH)?.is_none());
     Ok(())
 }
 
 // However deep the words of an expression are, one pass sees that they are those of one.
 #[test]
 fn a_shape_of_any_depth(rt: HostRuntime) -> Result<(), Fail> {
-    let alloc = rt.alloc();
-    let mut words = words_of(alloc, 1_000_000)?;
-    assert!(rt; has_shape(alloc, &words)?);
-    let _last = words.pop();
-    assert!(rt; !has_shape(alloc, &words)?);
+    let mut words = words_of(rt.alloc(), 1_000_000)?;
+    let shapes = shapes(rt.alloc(), &mut words)?;
+    assert_eq!(rt; shapes, (true, false));
     Ok(())
+}
+
+// Whether the words are those of an expression, and whether they are without the last one.
+fn shapes(alloc: Global, words: &mut Vec<Word>) -> Result<(bool, bool), NoMemory> {
+    let whole = has_shape(alloc, words)?;
+    let _last = words.pop();
+    Ok((whole, has_shape(alloc, words)?))
 }
