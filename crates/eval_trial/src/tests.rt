@@ -1,7 +1,7 @@
 //! Calls, equal controls, faults, and pure steps.
 
 mod alone;
-mod language;
+mod forms;
 mod law_calls;
 mod played;
 mod reaching;
