@@ -1,8 +1,9 @@
 -- Where the surviving steps lead.
-use Rattle.std.proofs.Common.{◌≡◌, ℕ, suc, ◌+◌, ◌<◌, ◌≤◌, true, List, [], ◌∷◌, ◌++◌, length, take, drop, get_or, add-one, drop-cons, refl, sym, ap, subst, ◌∙◌, arith, length-append}
-use Rattle.std.specs.Prelude.{Option, Some, None, IsSome}
+use lib.Seq.{drop-append-add}
+use Rattle.std.proofs.Common.{◌≡◌, ℕ, suc, ◌+◌, ◌-◌, ◌<◌, ◌≤◌, true, List, [], ◌∷◌, ◌++◌, length, take, drop, get_or, add-one, drop-cons, refl, sym, ap, subst, ◌∙◌, arith, length-append, append_assoc}
+use Rattle.std.specs.Prelude.{Option, Some, None, IsSome, IfSome}
 use Rattle.std.proofs.lemmas.Bool.{false≢true}
-use Rattle.std.proofs.lemmas.List.{take-append-drop, take-append-le}
+use Rattle.std.proofs.lemmas.List.{take-append-drop, take-append-le, length-take-le}
 use Rattle.std.proofs.Math.Seq.{take-length}
 use Rattle.stab_code.specs.Program.{ProgramParts}
 use Rattle.stab_journal.specs.declared.event.Numbered.{Numbered}
@@ -117,3 +118,53 @@ left_is_run p q from run m s r front back cut end same whole at is = record {
   rises = subst (RiseFrom 1) (sym whole) (left_survives p from run m s r).rises;
   ends = ap (λ x. end_from x from (front ++ back)) same ∙ steps_append (effect_of p) front back (Some from) ∙ ap (λ o. after_steps (effect_of p) o back) at ∙ is;
 }
+
+-- some first steps of a run that leads somewhere lead somewhere
+pub front_some : {E : Type 0} (effect : Table E) (s : State E) (front back : List Numbered) → IsSome (after_steps effect (Some s) (front ++ back)) → IsSome (after_steps effect (Some s) front)
+front_some effect s front back h =
+    elim (after_steps effect (Some s) front) as (λ o. IsSome (after_steps effect o back) → IsSome o) [
+      | None ↦ λ at. absurd (false≢true (subst IsSome (nowhere effect back) at))
+      | (Some x) ↦ λ at. refl
+    ] (subst IsSome (steps_append effect front back (Some s)) h)
+
+-- what leads to the near state still does where there are more steps
+pub near_on : (p q : ProgramParts) (from : PlainState) (b : ℕ) (run whole : List Numbered) (near : Option Held) → q ≡ p → IfSome near (LeadTo from p b run) → IsFront run whole → IfSome near (LeadTo from q b whole)
+near_on p q from b run whole None same h f = tt
+near_on p q from b run whole (Some near) same h f = based_on p q from b run whole near same h f
+
+-- the steps that are settled and k more, and the others
+pub whole_is : (k : ℕ) (settled recent : List Numbered) → (settled ++ take k recent) ++ drop k recent ≡ settled ++ recent
+whole_is k settled recent = append_assoc settled (take k recent) (drop k recent) ∙ ap (λ ns. settled ++ ns) (take-append-drop k recent)
+
+pub front_long : (k : ℕ) (settled recent : List Numbered) → k ≤ length recent → length (settled ++ take k recent) ≡ length settled + k
+front_long k settled recent le = length-append settled (take k recent) ∙ ap (λ n. length settled + n) (length-take-le k recent le)
+
+-- the state at the last cut is led to by a front of all steps
+pub cut_leads : (p : ProgramParts) (from : PlainState) (settled recent : List Numbered) (b : ℕ) (cut : Held) → b ≡ length settled → cut.program ≡ p → end_from p from settled ≡ Some cut.state → LeadTo from p b (settled ++ recent) cut
+cut_leads p from settled recent b cut all same is = record {
+  program = same;
+  based = omega (arith, length-append settled recent, all);
+  base = ap (λ n. end_from p from (take n (settled ++ recent))) all ∙ ap (end_from p from) (take-append-le (length settled) settled recent (omega arith) ∙ take-length settled) ∙ is;
+}
+
+-- the steps between the near state and the settled ones with k more lead from it to where these lead
+pub near_leads : (p : ProgramParts) (from : PlainState) (b k : ℕ) (settled recent ahead : List Numbered) (near : Held) → LeadTo from p b (settled ++ recent) near → b ≤ length (settled ++ take k recent) → ahead ≡ drop b (settled ++ take k recent)
+    → end_from near.program near.state ahead ≡ end_from p from (settled ++ take k recent)
+near_leads p from b k settled recent ahead near l le is =
+    ahead_leads p near.program from b (settled ++ take k recent) ahead near.state l.program
+    (ap (end_from p from) (sym (take-append-le b (settled ++ take k recent) (drop k recent) le) ∙ ap (take b) (whole_is k settled recent)) ∙ l.base) is
+
+-- the settled steps and k more lead to the near state also of a run that has the same front
+pub near_left : (p : ProgramParts) (from : PlainState) (b k : ℕ) (settled recent : List Numbered) (near : Held) → b ≡ length settled + k → k ≤ length recent → near.program ≡ p → end_from p from (settled ++ take k recent) ≡ Some near.state
+    → LeadTo from p b (settled ++ recent) near
+near_left p from b k settled recent near place le same is =
+    let all : b ≡ length (settled ++ take k recent) = place ∙ sym (front_long k settled recent le) in
+    subst (λ ns. LeadTo from p b ns near) (whole_is k settled recent) (cut_leads p from (settled ++ take k recent) (drop k recent) b near all same is)
+
+-- two parts, and the steps from a place on
+pub parts_lead : (p : ProgramParts) (s t : PlainState) (front back : List Numbered) → end_from p s front ≡ Some t → end_from p t back ≡ end_from p s (front ++ back)
+parts_lead p s t front back at = ap (λ o. after_steps (effect_of p) o back) (sym at) ∙ sym (steps_append (effect_of p) front back (Some s))
+
+pub drop_behind : (at : ℕ) (front back : List Numbered) → length front ≤ at → drop at (front ++ back) ≡ drop (at - length front) back
+drop_behind at front back le =
+    ap (λ k. drop k (front ++ back)) (let is : at ≡ length front + (at - length front) = omega (arith, le) in is) ∙ drop-append-add front back (at - length front)

@@ -1,9 +1,11 @@
 -- How the two parts of the surviving steps change.
-use Rattle.std.proofs.Common.{◌≡◌, ℕ, suc, ◌+◌, ◌<◌, ◌≤◌, Bool, true, false, cond, not, ◌&&◌, ◌||◌, nat_eq, List, [], ◌∷◌, ◌++◌, length, refl, sym, ap, subst, ◌∙◌, arith, append_assoc}
+use Rattle.std.proofs.Common.{◌≡◌, ◌⊎◌, inl, inr, ℕ, zero, suc, ◌+◌, ◌-◌, ◌<◌, ◌≤◌, Bool, true, false, cond, not, ◌&&◌, ◌||◌, nat_eq, List, [], ◌∷◌, ◌++◌, length, take, drop, get_or, refl, sym, ap, subst, ◌∙◌, arith, append_assoc}
 use Rattle.std.specs.Prelude.{count_by, nat_lt}
 use Rattle.std.specs.List.{AllByRecursion, list_any}
 use Rattle.std.proofs.lemmas.Bool.{false≢true, and_parts}
-use Rattle.std.proofs.lemmas.Bool.Decides.{nat_tests}
+use Rattle.std.proofs.Math.Dec.{leb}
+use Rattle.std.proofs.lemmas.Bool.Decides.{leb_tells, nat_tests}
+use Rattle.std.proofs.lemmas.List.{take-append-drop}
 use Rattle.std.proofs.lemmas.List.Sums.{sum_by-append, count_by-le-length}
 use Rattle.stab_journal.specs.declared.event.Label.{Label}
 use Rattle.stab_journal.specs.declared.event.Label.TheVariants.{Cut}
@@ -17,7 +19,7 @@ use Rattle.stab_journal.specs.Names.{has}
 use Rattle.stab_journal.specs.Reached.{reached, rest, without_reached}
 use Rattle.stab_journal.specs.Since.{AreBelow, final_prints_since, is_revocable_since}
 use Rattle.trace_verify.specs.Parts.{AreParts, IsSettled, IsRecent}
-use Rattle.journal_laws.proofs.Fronts.{front_stays, reached_front, rest_front, entered_front, pin_front, acts_front, pin_goes, acts_goes}
+use Rattle.journal_laws.proofs.Fronts.{Stays, front_stays, reached_front, rest_front, entered_front, pin_front, acts_front, pin_goes, acts_goes}
 
 all_and : {X : Type 0} (P : X → Type 0) (xs ys : List X) → AllByRecursion P xs → AllByRecursion P ys → AllByRecursion P (xs ++ ys)
 all_and P [] ys h k = k
@@ -230,3 +232,55 @@ lost_acts q f k m t front back goes h rise lt is =
 -- what goes of a list that is the steps behind the last cut
 pub goes_at : (m : ℕ) (ns back goes : List Numbered) → ns ≡ back → goes ≡ rest (λ q. not (has (reached ns m) q)) ns → goes ≡ rest (λ q. not (has (reached back m) q)) back
 goes_at m ns back goes at is = is ∙ ap (λ l. rest (λ q. not (has (reached l m) q)) l) at
+
+-- steps whose numbers rise have no number below the first
+rise_least : (q : ℕ) (ns : List Numbered) (k : ℕ) (d : Numbered) → RiseFrom q ns → k < length ns → q ≤ (get_or ns k d).seq.0
+rise_least q [] k d rise lt = absurd (omega (arith, lt))
+rise_least q (n ∷ ns) zero d rise lt = rise.0
+rise_least q (n ∷ ns) (suc k) d rise lt = omega (arith, rise.0, rise_least (suc n.seq.0) ns k d rise.1 (omega (arith, lt)))
+
+-- where the last of the first steps comes before m, all do
+pub below_take : (q m k : ℕ) (ns : List Numbered) (d : Numbered) → RiseFrom q ns → k < length ns → (get_or ns k d).seq.0 < m → AreBelow m (take (suc k) ns)
+below_take q m k [] d rise lt last = absurd (omega (arith, lt))
+below_take q m zero (n ∷ ns) d rise lt last = (last, tt)
+below_take q m (suc k) (n ∷ ns) d rise lt last =
+    let more : k < length ns = omega (arith, lt) in
+    (omega (arith, rise_least (suc n.seq.0) ns k d rise.1 more, last), below_take (suc n.seq.0) m k ns d rise.1 more last)
+
+pub rise_at : (k : ℕ) (ns : List Numbered) → RiseFrom 1 ns → RiseFrom 1 (drop k ns)
+rise_at k ns rise = rise_back 1 (take k ns) (drop k ns) (subst (RiseFrom 1) (sym (take-append-drop k ns)) rise)
+
+left_from : (m : ℕ) (front back : List Numbered) → RiseFrom 1 back → AreBelow m front → front ++ without_reached m back ≡ without_reached m (front ++ back)
+left_from m front back rise below =
+    sym (ap (λ qs. rest (has qs) (front ++ back)) (reached_front m front back below) ∙ rest_front (has (reached back m)) front back (front_stays m front back rise below))
+
+goes_front : (gone : ℕ → Bool) (front back : List Numbered) → Stays gone front → rest (λ q. not (gone q)) (front ++ back) ≡ rest (λ q. not (gone q)) back
+goes_front gone [] back stays = refl
+goes_front gone (n ∷ ns) back stays = ap (λ b. cond (not b) (rest (λ q. not (gone q)) (ns ++ back)) (n ∷ rest (λ q. not (gone q)) (ns ++ back))) stays.0 ∙ goes_front gone ns back stays.1
+
+goes_from : (m : ℕ) (front back : List Numbered) → RiseFrom 1 back → AreBelow m front → rest (λ q. not (has (reached back m) q)) back ≡ rest (λ q. not (has (reached (front ++ back) m) q)) (front ++ back)
+goes_from m front back rise below =
+    sym (ap (λ qs. rest (λ q. not (has qs q)) (front ++ back)) (reached_front m front back below) ∙ goes_front (has (reached back m)) front back (front_stays m front back rise below))
+
+-- of steps of which the first k come before m: what is left, what goes, and whether m is entered, seen of the others alone
+pub left_at : (m k : ℕ) (ns : List Numbered) → RiseFrom 1 ns → AreBelow m (take k ns) → take k ns ++ without_reached m (drop k ns) ≡ without_reached m ns
+left_at m k ns rise below = left_from m (take k ns) (drop k ns) (rise_at k ns rise) below ∙ ap (without_reached m) (take-append-drop k ns)
+
+pub gone_at : (m k : ℕ) (ns : List Numbered) → RiseFrom 1 ns → AreBelow m (take k ns) → rest (λ q. not (has (reached (drop k ns) m) q)) (drop k ns) ≡ rest (λ q. not (has (reached ns m) q)) ns
+gone_at m k ns rise below = goes_from m (take k ns) (drop k ns) (rise_at k ns rise) below ∙ ap (λ l. rest (λ q. not (has (reached l m) q)) l) (take-append-drop k ns)
+
+pub entered_at : (m k : ℕ) (ns : List Numbered) → AreBelow m (take k ns) → list_any (λ (n : Numbered). nat_eq m n.seq.0 && is_enter n.label) (drop k ns) ≡ list_any (λ (n : Numbered). nat_eq m n.seq.0 && is_enter n.label) ns
+entered_at m k ns below =
+    entered_any m (drop k ns) ∙ sym (entered_front m (take k ns) (drop k ns) below) ∙ ap (is_entered m) (take-append-drop k ns) ∙ sym (entered_any m ns)
+
+-- so many first steps come before m, where the last of them does
+pub below_upto : (m k : ℕ) (ns : List Numbered) (d : Numbered) → (k ≡ 0 → ⊥) → k ≤ length ns → RiseFrom 1 ns → (get_or ns (k - 1) d).seq.0 < m → AreBelow m (take k ns)
+below_upto m zero ns d some le rise last = absurd (some refl)
+below_upto m (suc k) ns d some le rise last =
+    below_take 1 m k ns d rise (omega (arith, le)) (subst (λ i. (get_or ns i d).seq.0 < m) (let is : suc k - 1 ≡ k = omega arith in is) last)
+
+pub less : (a b : ℕ) → leb a b ≡ false → b < a
+less a b not_le = told (leb_tells a b) where
+  told : ((leb a b ≡ true) × (a ≤ b)) ⊎ ((leb a b ≡ false) × (b < a)) → b < a
+  told (inl (le, _)) = absurd (false≢true (sym not_le ∙ le))
+  told (inr (_, lt)) = lt

@@ -25,7 +25,7 @@ use Rattle.trace_verify.specs.declared.surviving.Surviving.{Surviving}
 use Rattle.trace_verify.specs.Parts.{IsFront, IsParted, run_in}
 use Rattle.trace_verify.specs.Stretch.{AreMade, IsStretched}
 use Rattle.trace_verify.specs.Surviving.{IsKept, LeadsOn, PlaysOn}
-use Rattle.trace_verify.proofs.Leading.{based_on, run_on}
+use Rattle.trace_verify.proofs.Leading.{based_on, near_on, run_on}
 
 -- pure steps and one more
 pure_last : (g : Language Expr) (m : ℕ) (e f : Expr) (o : Option Expr) → pure_steps g m e ≡ Some f → pure_steps g 1 f ≡ o → pure_steps g (suc m) e ≡ o
@@ -88,6 +88,7 @@ noted from old h a q l kept below above made same parted run front since = (
     leads = subst (λ p. LeadsOn p from (run_in a) h.state) (sym same)
         (subst (λ ns. LeadsOn old.state.program from ns h.state) (sym run) (run_on old.state.program from (run_in old.parts) (record { seq = record { 0 = q }; label = l }) old.state.state h.state kept.leads below (omega arith) made));
     based = based_on old.state.program h.program from old.based old.parts.settled.items a.settled.items old.base same kept.based front;
+    near = near_on old.state.program h.program from old.nearby (run_in old.parts) (run_in a) old.near same kept.near (record { back = step_at q (Step l); is = run });
   },
   same,
   run,

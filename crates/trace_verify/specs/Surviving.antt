@@ -1,5 +1,5 @@
 -- What is kept of the surviving steps.
-use Rattle.std.specs.Prelude.{◌≡◌, ℕ, ◌≤◌, Bool, true, false, ◌&&◌, option_map, List, ◌++◌, length, take, Option, Some, None, Result, Ok, Err}
+use Rattle.std.specs.Prelude.{◌≡◌, ℕ, ◌≤◌, Bool, true, false, ◌&&◌, option_map, List, ◌++◌, length, take, Option, Some, None, IfSome, Result, Ok, Err}
 use Rattle.std.specs.List.{list_any}
 use Rattle.stab_code.specs.Program.{ProgramParts}
 use Rattle.stab_journal.specs.declared.event.Label.{Label}
@@ -33,6 +33,10 @@ pub record LeadTo (from : PlainState) (p : ProgramParts) (b : ℕ) (settled : Li
 abbrev pub IsBased : PlainState → Surviving → Type 0
 IsBased from s = LeadTo from s.state.program s.based s.parts.settled.items s.base
 
+-- the first steps lead to the near state, if there is one
+abbrev pub IsNear : PlainState → Surviving → Type 0
+IsNear from s = IfSome s.near (LeadTo from s.state.program s.nearby (run_in s.parts))
+
 -- a state in which each channel and each reference that occurs is there, from which steps whose numbers rise lead to another
 pub record LeadsOn (p : ProgramParts) (from : PlainState) (run : List Numbered) (s : PlainState) : Type 0 where
   pub known : IsKnown IsExprIn from
@@ -44,6 +48,7 @@ pub record IsKept (from : PlainState) (s : Surviving) : Type 0 where
   pub parted : IsParted s.parts
   pub leads : LeadsOn s.state.program from (run_in s.parts) s.state.state
   pub based : IsBased from s
+  pub near : IsNear from s
 
 -- the steps are those of a run from the start
 pub record IsFromStart (s : Surviving) : Type 0 where

@@ -1,12 +1,12 @@
 //! Where the surviving steps of a history lead.
-ghost use Rattle.std.specs.Prelude.{◌≡◌, ◌<◌, [], Some, IfOk, IsSome, OnOk, option_map};
+ghost use Rattle.std.specs.Prelude.{◌≡◌, ◌<◌, ◌≤◌, ◌+◌, ◌++◌, [], Some, IfOk, IfSome, IsSome, OnOk, option_map, length, take, drop};
 ghost use Rattle.stab_journal.specs.Names.{is_at};
 ghost use Rattle.stab_journal.specs.Since.{AreBelow, is_revocable_since};
 ghost use Rattle.language.specs.Plain.{PlainState as State};
 ghost use Rattle.language.specs.Since.{end_from};
 ghost use Rattle.journal_laws.specs.Known.{IsExprIn, IsKnown};
 ghost use Rattle.trace_verify.specs.Parts.{run_in};
-ghost use Rattle.trace_verify.specs.Surviving.{IsBased, IsKept, PlaysOn, TakesBack, is_at_stabilize, may_undo_since};
+ghost use Rattle.trace_verify.specs.Surviving.{IsBased, IsKept, IsNear, LeadTo, PlaysOn, TakesBack, is_at_stabilize, may_undo_since};
 
 use crate::parts::Parts;
 use plain_language::{ActKind, Look, PlainState, PlayFault};
@@ -14,16 +14,20 @@ use stab_base::{NoMemory, Seq, ThreadId};
 use stab_journal::{Label, Numbered};
 use std::alloc::Global;
 
-/// The steps that no undo took away so far, from the start of a program or from a later state after a cut, and two states
+/// The steps that no undo took away so far, from the start of a program or from a later state after a cut, and three states
 /// on their way.
 #[derive(Drop)]
 pub struct Surviving {
     pub(crate) parts: Parts,
     /// Where all steps lead.
     pub(crate) state: PlainState,
-    /// Where the first `based` steps lead, which are settled. An undo brings it up to the last cut and goes on from there.
+    /// Where the first `based` steps lead, which are settled.
     base: PlainState,
     based: usize,
+    /// Where the first `nearby` steps lead: those before the section that was taken back last. An undo of a later section brings it
+    /// up to that one and goes on from there, and an undo of an earlier one begins at the last cut.
+    near: Option<PlainState>,
+    nearby: usize,
 }
 
 impl Surviving {
@@ -36,8 +40,10 @@ impl Surviving {
         Ok(Surviving {
             parts: Parts::new(alloc, since),
             base: from.copy(alloc)?,
+            near: None,
             state: from,
             based: 0,
+            nearby: 0,
         })
     }
 
@@ -82,9 +88,11 @@ impl Surviving {
         if !self.may_take_back(alloc, t, m)? {
             return Ok(None);
         }
-        let goes = self.parts.lose(alloc, m)?;
-        self.return_to_cut(alloc)?;
-        play_all(alloc, &mut self.state, &self.parts.recent)?;
+        let k = self.parts.before(m);
+        self.go_back(alloc, k)?;
+        let goes = self.parts.lose(alloc, m, k)?;
+        let (_, ahead) = self.parts.recent.split_at(k);
+        play_all(alloc, &mut self.state, ahead)?;
         Ok(Some(goes))
     }
 
@@ -115,19 +123,99 @@ impl Surviving {
         self.is_revocable(alloc, m)
     }
 
-    // The state is that of the last cut.
-    fn return_to_cut(&mut self, alloc: Global) -> Result<(), NoMemory>
-        requires { (from : State) × IsBased from self.old × IsSome (end_from self.old.state.program from self.old.parts.settled.items) }
+    // The state and the near one are where the settled steps lead and k more.
+    fn go_back(&mut self, alloc: Global, k: usize) -> Result<(), NoMemory>
+        requires leads { (from : State) × IsBased from self.old × IsNear from self.old × IsSome (end_from self.old.state.program from (run_in self.old.parts)) }
+        requires within { k ≤ length self.old.parts.recent.items }
         ensures parts { self.new.parts ≡ self.old.parts }
         ensures program { OnOk result (self.new.state.program ≡ self.old.state.program) }
         ensures based { (from : State) → IsBased from self.old → OnOk result (IsBased from self.new) }
-        ensures state { (from : State) → IsBased from self.old
-            → OnOk result (end_from self.old.state.program from self.old.parts.settled.items ≡ Some self.new.state.state) }
+        ensures place { OnOk result (self.new.nearby ≡ length self.old.parts.settled.items + k) }
+        ensures near { OnOk result (self.new.near ≡ Some self.new.state) }
+        ensures state { (from : State) → IsBased from self.old → IsNear from self.old
+            → OnOk result (end_from self.old.state.program from (self.old.parts.settled.items ++ take k self.old.parts.recent.items) ≡ Some self.new.state.state) }
+    {
+        let place = self.parts.settled.len() + k;
+        let (near, at) = self.take_near(alloc, place)?;
+        let mut near = near;
+        let (front, _) = self.parts.recent.split_at(k);
+        forward(alloc, &mut near, &self.parts.settled, front, at)?;
+        self.state = near.copy(alloc)?;
+        self.near = Some(near);
+        self.nearby = place;
+        Ok(())
+    }
+
+    // The near state, if it comes no later than this place, and else that of the last cut, and where it comes.
+    fn take_near(&mut self, alloc: Global, place: usize) -> Result<(PlainState, usize), NoMemory>
+        requires leads { (from : State) × IsBased from self.old × IsSome (end_from self.old.state.program from self.old.parts.settled.items) }
+        requires behind { length self.old.parts.settled.items ≤ place }
+        ensures parts { self.new.parts ≡ self.old.parts }
+        ensures state { self.new.state ≡ self.old.state }
+        ensures based { (from : State) → IsBased from self.old → OnOk result (IsBased from self.new) }
+        ensures place { IfOk result (λ r. r.1 ≤ place) }
+        ensures near { (from : State) → IsBased from self.old → IsNear from self.old
+            → IfOk result (λ r. LeadTo from self.old.state.program r.1 (run_in self.old.parts) r.0) }
+    {
+        match self.near_within(place) {
+            Some(near) => Ok((near, self.nearby)),
+            None => {
+                let cut = self.at_cut(alloc)?;
+                Ok((cut, self.parts.settled.len()))
+            }
+        }
+    }
+
+    // Takes the near state out, if it comes no later than this place.
+    fn near_within(&mut self, place: usize) -> Option<PlainState>
+        ensures rest { self.new ≡ record self.old { near = self.new.near } }
+        ensures near { IfSome result (λ h. self.old.near ≡ Some h) }
+        ensures place { IfSome result (λ h. self.old.nearby ≤ place) }
+    {
+        if place < self.nearby {
+            return None;
+        }
+        self.near.take()
+    }
+
+    // The state of the last cut.
+    fn at_cut(&mut self, alloc: Global) -> Result<PlainState, NoMemory>
+        requires { (from : State) × IsBased from self.old × IsSome (end_from self.old.state.program from self.old.parts.settled.items) }
+        ensures parts { self.new.parts ≡ self.old.parts }
+        ensures state { self.new.state ≡ self.old.state }
+        ensures based { (from : State) → IsBased from self.old → OnOk result (IsBased from self.new) }
+        ensures cut { (from : State) → IsBased from self.old → IfOk result (λ h. (h.program ≡ self.old.state.program)
+            × (end_from self.old.state.program from self.old.parts.settled.items ≡ Some h.state)) }
     {
         let (_, ahead) = self.parts.settled.split_at(self.based);
         play_all(alloc, &mut self.base, ahead)?;
         self.based = self.parts.settled.len();
-        self.state = self.base.copy(alloc)?;
+        let cut = self.base.copy(alloc)?;
+        Ok(cut)
+    }
+}
+
+// Makes steps that the state has, which lie in two parts, from a place on.
+fn forward(
+    alloc: Global,
+    state: &mut PlainState,
+    front: &[Numbered],
+    back: &[Numbered],
+    at: usize,
+) -> Result<(), NoMemory>
+    requires within { at ≤ length front.now + length back.now }
+    requires leads { IsSome (end_from state.old.program state.old.state (drop at (front.now ++ back.now))) }
+    ensures program { state.new.program ≡ state.old.program }
+    ensures made { OnOk result (end_from state.old.program state.old.state (drop at (front.now ++ back.now)) ≡ Some state.new.state) }
+{
+    if at < front.len() {
+        let (_, ahead) = front.split_at(at);
+        play_all(alloc, state, ahead)?;
+        play_all(alloc, state, back)?;
+        Ok(())
+    } else {
+        let (_, ahead) = back.split_at(at - front.len());
+        play_all(alloc, state, ahead)?;
         Ok(())
     }
 }
