@@ -36,7 +36,8 @@ use Rattle.stab_top.specs.Running.{RunEnds}
 use Rattle.book_runs.specs.Ending as runs
 use Rattle.call_report.specs.declared.report.Made.{Made}
 use Rattle.call_report.specs.declared.report.Made.TheVariants as made
-use Rattle.stab_top.specs.Headline.{AsksForRun, IsDrillOfOne, IsEnd, IsOfTheLanguage, ShowsRunOf}
+use Rattle.stab_top.specs.Headline.{AsksForRun, IsEnd, IsOfTheLanguage, ShowsRunOf}
+use Rattle.stab_top.specs.Alone.{IsDrillOfOne, ReportsDrillOfOne}
 use Rattle.call_status.specs.declared.role.Role.{Role}
 use Rattle.call_report.specs.Loading.{LoadRefused}
 use Rattle.call_report.specs.Reading.{AreGiven, AreGivenBy, BytesRefused, Form, Holds, ReadRefused, probes_form, program_form}
@@ -207,23 +208,30 @@ drill_of_one book whole =
       events = solo.left;
     }
 
+-- what a run that is over shows, and that by one worker it is a drill
+record Shown (text_by : BookView → PlainState → List ℕ) (c : Call) (args : RunArgs) : Type 0 where
+  pub shows : ShowsRunOf text_by c args
+  pub alone : args.workers ≡ 1 → ReportsDrillOfOne c
+
 module _ (text_by : BookView → PlainState → List ℕ) (c : Call) (args : RunArgs) (program : ProgramParts) (script : List ℤ) (given : AreGiven c.files c.files_after args program script) where
   abbrev job : JobParts
   job = job_of program script args.fuel args.quantum
 
   ended : (book : BookView) (state : PlainState) → IsRunOf args.workers job book state → Leaves c.outcome.report (Some (made.Book book))
-      → IsWritten args.workers (status_of c) book state (text_by book state) c.outcome.sink c.outcome.sink_after → ShowsRunOf text_by c args
+      → IsWritten args.workers (status_of c) book state (text_by book state) c.outcome.sink c.outcome.sink_after → Shown text_by c args
   ended book state r reported writes = record {
-    program = program;
-    script = script;
-    given = given;
-    book = book;
-    reported = reported;
-    of_job = r.of_job;
-    says = of_language args.workers job book state r;
-    rest = subst (λ (s : PlainState). RestSays (status_of c) book s) (sym (ends_in args.workers job book state r)) writes.rest;
-    alone = λ one. drill_of_one book (writes.whole one);
-    written = subst (λ (s : PlainState). Gains c.outcome.sink c.outcome.sink_after (text_by book s)) (sym (ends_in args.workers job book state r)) writes.gains;
+    shows = record {
+      program = program;
+      script = script;
+      given = given;
+      book = book;
+      reported = reported;
+      of_job = r.of_job;
+      says = of_language args.workers job book state r;
+      rest = subst (λ (s : PlainState). RestSays (status_of c) book s) (sym (ends_in args.workers job book state r)) writes.rest;
+      written = subst (λ (s : PlainState). Gains c.outcome.sink c.outcome.sink_after (text_by book s)) (sym (ends_in args.workers job book state r)) writes.gains;
+    };
+    alone = λ one. record { book = book; reported = reported; drill = drill_of_one book (writes.whole one) };
   }
 
   module _ (left : Option BookView) (reported : Leaves c.outcome.report (book_made left)) where
@@ -235,11 +243,11 @@ module _ (text_by : BookView → PlainState → List ℕ) (c : Call) (args : Run
     with_book book is = subst (λ o. Leaves c.outcome.report (book_made o)) is reported
 
     written : (status : Status) → status_of c ≡ status → (book : BookView) (state : PlainState) → IsRunOf args.workers job book state → left ≡ Some book
-        → IsWritten args.workers status book state (text_by book state) c.outcome.sink c.outcome.sink_after → ShowsRunOf text_by c args
+        → IsWritten args.workers status book state (text_by book state) c.outcome.sink c.outcome.sink_after → Shown text_by c args
     written status is book state run is_left writes =
         ended book state run (with_book book is_left) (subst (λ (s : Status). IsWritten args.workers s book state (text_by book state) c.outcome.sink c.outcome.sink_after) (sym is) writes)
 
-    ended_by : (status : Status) → status_of c ≡ status → IsEnd status → EndsSo status → ShowsRunOf text_by c args
+    ended_by : (status : Status) → status_of c ≡ status → IsEnd status → EndsSo status → Shown text_by c args
     ended_by Done is over e = written Done is e.book e.state e.run e.is_left e.writes
     ended_by Held is over e = written Held is e.book e.state e.run e.is_left e.writes
     ended_by Spent is over e = written Spent is e.book e.state e.run e.is_left e.writes
@@ -258,7 +266,7 @@ module _ (text_by : BookView → PlainState → List ℕ) (c : Call) (args : Run
     ended_by NoCut is over e = elim over [ ]
     ended_by BadImage is over e = elim over [ ]
 
-  ended_run : (status : Status) → status_of c ≡ status → IsEnd status → RunEnds (AsReleased text_by) args.workers status job c.outcome → ShowsRunOf text_by c args
+  ended_run : (status : Status) → status_of c ≡ status → IsEnd status → RunEnds (AsReleased text_by) args.workers status job c.outcome → Shown text_by c args
   ended_run status is over e = ended_by e.left e.reported status is over e.ends
 
 load_no_end : (role : Role) (status : Status) (files : Device (List Entry)) (name : List ℕ) (faults : ℕ) → LoadRefused status role files name faults → IsEnd status → ⊥
@@ -291,14 +299,14 @@ module _ {Content Fault : Type 0} (form : Form Content Fault) (bad : IsEnd form.
 
 module _ (text_by : BookView → PlainState → List ℕ) (c : Call) (args : RunArgs) (over : IsEnd (status_of c)) where
   read_ended : {Content Fault : Type 0} (form : Form Content Fault) → (IsEnd form.bad → ⊥) → (file : List ℕ) (faults : ℕ) (Said : Content → Type 0)
-      → ((content : Content) → Holds form c.files file faults content → Said content → ShowsRunOf text_by c args) → ReadSays form c file faults Said → ShowsRunOf text_by c args
+      → ((content : Content) → Holds form c.files file faults content → Said content → Shown text_by c args) → ReadSays form c file faults Said → Shown text_by c args
   read_ended form bad file faults Said all (inl refused) = absurd (read_no_end form bad c.outcome.report over c.files file c.files_after refused.0)
   read_ended form bad file faults Said all (inr (content, holds, said)) = all content holds said
 
   abbrev Ran : ProgramParts → List ℤ → Type 0
   Ran program script = RunEnds (AsReleased text_by) args.workers (status_of c) (job_of program script args.fuel args.quantum) c.outcome
 
-  file_ended : (named : Option (List ℕ)) → args.probes ≡ named → RunSaysBy (AsReleased text_by) c args named → ShowsRunOf text_by c args
+  file_ended : (named : Option (List ℕ)) → args.probes ≡ named → RunSaysBy (AsReleased text_by) c args named → Shown text_by c args
   file_ended None is says =
       read_ended program_form (λ bad. bad) args.file c.files_after (λ p. Ran p [])
       (λ p holds ends. ended_run text_by c args p [] (subst (λ o. AreGivenBy c.files c.files_after args.file o p []) (sym is) (holds, refl)) (status_of c) refl over ends) says
@@ -309,7 +317,11 @@ module _ (text_by : BookView → PlainState → List ℕ) (c : Call) (args : Run
 
 -- what a run that is over shows
 pub run_shows : (words : List (List ℕ)) (c : Call) (args : RunArgs) → Says words c → asked words ≡ Ok (Run args) → IsEnd (status_of c) → ShowsRunOf shown_by c args
-run_shows words c args says is over = file_ended shown_by c args over args.probes refl (request_said words c (Run args) says is)
+run_shows words c args says is over = (file_ended shown_by c args over args.probes refl (request_said words c (Run args) says is)).shows
+
+-- what a run by one worker is
+pub run_is_drill : (words : List (List ℕ)) (c : Call) (args : RunArgs) → Says words c → asked words ≡ Ok (Run args) → IsEnd (status_of c) → args.workers ≡ 1 → ReportsDrillOfOne c
+run_is_drill words c args says is over = (file_ended shown_by c args over args.probes refl (request_said words c (Run args) says is)).alone
 
 pub watch_shows : (words : List (List ℕ)) (c : Call) (args : RunArgs) → Says words c → asked words ≡ Ok (Watch args) → IsEnd (status_of c) → ShowsRunOf watched_by c (record args { workers = most_workers })
-watch_shows words c args says is over = file_ended watched_by c (record args { workers = most_workers }) over args.probes refl (request_said words c (Watch args) says is).0
+watch_shows words c args says is over = (file_ended watched_by c (record args { workers = most_workers }) over args.probes refl (request_said words c (Watch args) says is).0).shows

@@ -18,7 +18,6 @@ use Rattle.language.specs.Plain.{PlainState}
 use Rattle.language.specs.Standing.{event}
 use Rattle.commit_book.specs.Book.{BookView}
 use Rattle.commit_book.specs.Headline.{HasRun, IsGranted, StandsIn}
-use Rattle.schedule_drill.specs.Solo.{IsDrilledByOne}
 use Rattle.call_status.specs.declared.status.Status.{Status}
 use Rattle.call_status.specs.declared.status.Status.TheVariants.{Done, Held, Spent}
 use Rattle.call_report.specs.Call.{Call, status_of}
@@ -31,7 +30,7 @@ use Rattle.call_report.specs.Reading.{AreGiven}
 -- The journal without its undone steps is, in order, a run of the plain language from the start state that ends in exactly the
 -- book's threads, channels, references and output;
 -- each granted stabilize undoes its section's entry and precisely the steps that depend on it;
--- and no step before a cut, and no step on which a pin depends, is ever undone.
+-- and once a cut or a pin is made, no step that is left before the cut, or on which the pin depends, is undone.
 pub record IsOfTheLanguage (book : BookView) : Type 0 where
   pub run : HasRun book
   pub undos : (first after : List Event) (worker : ℕ) (t : ThreadId) (m : Seq)
@@ -58,15 +57,8 @@ IsEnd Held = Unit {0}
 IsEnd Spent = Unit {0}
 IsEnd status = ⊥
 
--- the events of the book are those of a drill of the same job by lines `lease 1` and `commit 1`
-pub record IsDrillOfOne (book : BookView) : Type 0 where
-  pub last : BookView
-  pub drilled : IsDrilledByOne book.job last
-  pub events : last.history.events ≡ book.history.events
-
 -- The call ran the program in the file, with the script, the fuel and the quantum that the words name, and reports the book of
--- that run, of which the above is true; the status says how the run ended; with one worker the run is a drill of one worker; and
--- exactly this text of the run was written.
+-- that run, of which the above is true; the status says how the run ended; and exactly this text of the run was written.
 pub record ShowsRunOf (text_by : BookView → PlainState → List ℕ) (c : Call) (args : RunArgs) : Type 0 where
   pub program : ProgramParts
   pub script : List ℤ
@@ -76,5 +68,4 @@ pub record ShowsRunOf (text_by : BookView → PlainState → List ℕ) (c : Call
   pub of_job : book.job ≡ job_of program script args.fuel args.quantum
   pub says : IsOfTheLanguage book
   pub rest : RestSays (status_of c) book says.run.end
-  pub alone : args.workers ≡ 1 → IsDrillOfOne book
   pub written : Gains c.outcome.sink c.outcome.sink_after (text_by book says.run.end)

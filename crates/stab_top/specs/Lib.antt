@@ -4,3 +4,4 @@ pub mod Call
 pub mod Command
 pub mod Complete
 pub mod Headline
+pub mod Alone

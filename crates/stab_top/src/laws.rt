@@ -48,6 +48,7 @@ ghost use Rattle.book_runs.specs.Ending.{IsRunOf, shown_by};
 ghost use Rattle.book_runs.specs.Watching.{watched_by};
 ghost use Rattle.stab_words.specs.Command.{most_workers};
 ghost use Rattle.stab_top.specs.Headline.{AsksForRun, IsEnd, IsOfTheLanguage, ShowsRunOf};
+ghost use Rattle.stab_top.specs.Alone.{ReportsDrillOfOne};
 ghost use Rattle.call_report.specs.Reading.{probes_form, program_form, trace_form};
 ghost use Rattle.file_commands.specs.Resuming.{image_form};
 ghost use Rattle.call_report.specs.declared.report.Made.TheVariants as made;
@@ -60,12 +61,18 @@ use stab_types::typed_programs_never_go_wrong;
 /// If the words ask for a run, and it is Done, Held or Spent, then: the program in the file was run, with the script, the fuel
 /// and the quantum that the words name; the journal of the report's book without its undone steps is, in order, a run of the
 /// plain language from the start state that ends in exactly the book's threads, channels, references and output; each granted
-/// stabilize undid its section's entry and precisely the steps that depend on it; no step before a cut, and no step on which a
-/// pin depends, was undone; the status says how the run ended; and exactly what the run shows was written. This is true for any
-/// number of workers. With one worker the run's events are also those of a drill of `lease 1` and `commit 1`.
+/// stabilize undid its section's entry and precisely the steps that depend on it; once a cut or a pin was made, no step that was
+/// left before the cut, or on which the pin depends, was undone; the status says how the run ended; and exactly what the run shows
+/// was written. This is true for any number of workers.
 pub fn runs_are_of_the_language()
     ensures { (words : List (List ℕ)) (c : Call) (args : Args) → Says words c → asked words ≡ Ok (Run args) →
         IsEnd (status_of c) → ShowsRunOf shown_by c args }
+{}
+
+/// The events of such a run by one worker are those of a drill of `lease 1` and `commit 1`.
+pub fn runs_by_one_worker_are_drills()
+    ensures { (words : List (List ℕ)) (c : Call) (args : Args) → Says words c → asked words ≡ Ok (Run args) →
+        IsEnd (status_of c) → args.workers ≡ 1 → ReportsDrillOfOne c }
 {}
 
 /// The same for a watched run. It has a floor also with one worker, so it is said as of a run by the most workers. After what the run

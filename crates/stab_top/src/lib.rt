@@ -13,9 +13,9 @@ pub use laws::{
     bad_probes_stop_runs, bad_probes_stop_saves, bad_texts_are_refused, bad_traces_are_refused,
     bad_traces_stop_saves, books_are_of_the_language, cuts_are_saved, drills_are_determined,
     good_programs_are_traced, good_programs_are_watched, good_programs_check, good_programs_run,
-    images_go_on, mills_run, runs_are_of_the_language, runs_have_one_history, scripts_are_drilled,
-    traces_are_judged, traces_of_runs_pass, typed_files_never_go_wrong, types_are_told,
-    undos_and_output, watched_runs_are_of_the_language,
+    images_go_on, mills_run, runs_are_of_the_language, runs_by_one_worker_are_drills,
+    runs_have_one_history, scripts_are_drilled, traces_are_judged, traces_of_runs_pass,
+    typed_files_never_go_wrong, types_are_told, undos_and_output, watched_runs_are_of_the_language,
 };
 pub use program::command;
 pub use top::stab;
