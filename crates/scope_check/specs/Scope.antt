@@ -1,5 +1,5 @@
 -- The program that a syntax stands for, or its first fault. It is gone through once, in the order of the text.
-use Rattle.std.specs.Prelude.{ℕ, ◌+◌, ◌-◌, ◌==◌, nat_le, Bool, false, if◌then◌else◌, List, [], ◌∷◌, ◌++◌, length, map, replicate, reverse, Option, Some, None, Result, Ok, Err, bytes_eq, codes, slice_get, position}
+use Rattle.std.specs.Prelude.{ℕ, ◌+◌, ◌-◌, ◌==◌, nat_le, Bool, false, not, if◌then◌else◌, List, [], ◌∷◌, ◌++◌, length, map, replicate, reverse, Option, Some, None, Result, Ok, Err, bytes_eq, codes, slice_get, position}
 use Rattle.std.specs.List.{list_any, position_or_len}
 use Rattle.stab_code.specs.declared.head.Head.{Head as Code}
 use Rattle.stab_code.specs.declared.head.Head.TheVariants as code
