@@ -5,18 +5,18 @@ use Rattle.stab_journal.specs.Event.{weigh, weight_of}
 use Rattle.image_run.specs.declared.turn.Run.{Run}
 use Rattle.image_run.specs.Machine.{IsAt}
 
--- an act or a meeting
+-- one event of weight 1, as an act or a meeting is
 abbrev pub IsAct : List Event → Type 0
 IsAct [] = ⊥
 IsAct (e ∷ es) = (weigh e.what ≡ 1) × (es ≡ [])
 
--- an act or a meeting, or nothing
+-- such an event, or nothing
 abbrev pub IsActAtMost : List Event → Type 0
 IsActAtMost [] = Unit {0}
 IsActAtMost (e ∷ es) = IsAct (e ∷ es)
 
--- A turn: the pure steps of a thread as one event, no more of them than the quantum, and then its act or its meeting, or nothing; or
--- the act or the meeting alone.
+-- A turn, by weights: an event of at most the quantum, as pure steps are, and then one of weight 1, as an act or a meeting is, or
+-- nothing; or the one of weight 1 alone.
 abbrev pub IsTurn : ℕ → List Event → Type 0
 IsTurn quantum [] = ⊥
 IsTurn quantum (e ∷ es) = (weigh e.what ≤ quantum) × IsActAtMost es

@@ -31,7 +31,7 @@ pub struct Resumed {
 }
 
 /// Goes on from a cut, by one worker, until no thread can step or events of this weight were made. An undo costs a copy of the
-/// state and the steps since the last cut.
+/// state, and what is left of the steps from its section's entry on is played again.
 pub fn go_on(alloc: Global, origin: Origin, fuel: u64, quantum: u32) -> Result<Resumed, NoMemory>
     requires origin { IsOrigin origin }
     requires fuel { fuel ≤ 16000000 }

@@ -15,8 +15,8 @@ use std::alloc::Global;
 use std::collections::BTreeMap;
 
 /// Goes on from an image by one worker, until no thread can step or events of this weight were made. With the events of each run
-/// for which the image stands, they are a history that ends in the same state. An undo costs a copy of the state and the steps
-/// since the last cut.
+/// for which the image stands, they are a history that ends in the same state. An undo costs a copy of the state, and what is
+/// left of the steps from its section's entry on is played again.
 pub fn resume(alloc: Global, image: Image, fuel: u64, quantum: u32) -> Result<Resumed, NoMemory>
     requires fuel { fuel ≤ max_fuel }
     requires some_quantum { 1 ≤ quantum }

@@ -36,8 +36,9 @@ pub enum Verdict {
     No(Seq, Why),
 }
 
-/// Replays a history on the machine of the plain language and judges it. Each step is played once, at an undo again those that
-/// come after the last cut, and those up to it once more at most.
+/// Replays a history on the machine of the plain language and judges it. Each step is played once. At an undo the state is
+/// copied, and what is left of the steps from its section's entry on is played again; from the last cut on where an earlier section
+/// goes than went before.
 pub fn verify(alloc: Global, job: &Job, history: &History) -> Result<Verdict, NoMemory>
     ensures { IfOk result (IsVerdict job.now.program job.now.script history.now) }
 {
