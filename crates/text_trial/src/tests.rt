@@ -3,6 +3,7 @@
 mod depths;
 mod files;
 mod jobs;
+mod logs;
 mod mill;
 mod orders;
 mod probes;

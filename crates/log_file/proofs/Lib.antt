@@ -1,0 +1,2 @@
+pub mod Firm
+pub mod Whole

@@ -1,0 +1,5 @@
+pub mod Disk
+pub mod DiskLog
+pub mod MemLog
+pub mod Opened
+pub mod Told
