@@ -8,4 +8,7 @@ pub survive-requires : goal.survive-requires
 survive-requires c = subst (λ ks. IsUpward (λ (n : Numbered). has ks n.seq.0 ≡ true) c.args.run.now) (sym c.requires.gone) c.upward_closed.ensures
 
 pub survive_from-requires : goal.survive_from-requires
-survive_from-requires c = subst (λ ks. IsUpward (λ (n : Numbered). has ks n.seq.0 ≡ true) c.args.run.now) (sym c.requires.gone) c.upward_closed.ensures
+survive_from-requires c = record {
+  rise = c.requires.rise;
+  closed = subst (λ ks. IsUpward (λ (n : Numbered). has ks n.seq.0 ≡ true) c.args.run.now) (sym c.requires.gone) c.upward_closed.ensures;
+}
