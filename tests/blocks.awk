@@ -18,7 +18,7 @@
     next
 }
 commands {
-    if (before ~ /^stab: (Bad|No |Untyped)/ && lines[commands] && $0 ~ /: [a-z`0-9]/) explains = 1
+    if (before ~ /^stab: (Bad|File|Held|No|Sink|Spent|TooBig|Untyped)/ && lines[commands] && $0 ~ /: [a-z`0-9]/) explains = 1
     before = line[commands, ++lines[commands]] = $0
 }
 

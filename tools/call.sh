@@ -1,5 +1,5 @@
-# Read by other scripts: calls the program $program on words, and has a refusal explained by $parts/explain where standard error is a
-# terminal or STAB_EXPLAIN=1. It comes back to no one.
+# Read by other scripts: calls the program $program on words, and has each status other than 0 explained by $parts/explain where
+# standard error is a terminal or STAB_EXPLAIN=1. It comes back to no one.
 call() {
     name=$program
     folder=${program%/*}
@@ -23,7 +23,7 @@ call() {
     said=${said%.*}
     printf %s "$said" >&2
     case $status in
-    2 | 3 | 10 | 11 | 12 | 13 | 15 | 17) "$parts/explain" "$said" "$@" >&2 ;;
+    [1-9] | 1[0-35-7]) "$parts/explain" "$said" "$@" >&2 ;;
     esac
     exit "$status"
 }

@@ -13,7 +13,7 @@ _stab() {
     verify | save) options='--probes' ;;
     resume) options=$'--fuel\n--quantum' ending=image ;;
     drill) options=$'--probes\n--fuel\n--quantum' ;;
-    mill) options=$'--workers\n--fuel\n--quantum' ;;
+    mill | serve) options=$'--workers\n--fuel\n--quantum' ;;
     esac
     # Behind the program comes a trace or a script, behind an image nothing.
     case ${COMP_WORDS[*]:2:COMP_CWORD - 2} in
@@ -28,7 +28,7 @@ _stab() {
     esac
     COMPREPLY=()
     if [[ $COMP_CWORD -eq 1 ]]; then
-        COMPREPLY=($(compgen -W $'run\ncheck\ntypes\ntrace\nwatch\nverify\ndrill\nsave\nresume\nmill\n--help\n--version' -- "$word"))
+        COMPREPLY=($(compgen -W $'run\ncheck\ntypes\ntrace\nwatch\nserve\nverify\ndrill\nsave\nresume\nmill\n--help\n--version' -- "$word"))
     elif [[ $before == --probes ]]; then
         COMPREPLY=($(compgen -f -- "$word"))
     elif [[ $word == -* ]]; then

@@ -18,6 +18,7 @@ stab runs programs whose threads can take back part of their work.
   stab run FILE                  runs a program, and writes what it printed and how its threads ended
   stab trace FILE                makes such a run, and writes its journal instead
   stab watch FILE                runs it too, and writes one more line: its fuel, its undos and its cuts
+  stab serve FILE                runs it while its numbers come on standard input, and answers as they come
   stab verify FILE TRACE         says whether a trace is one of a run of the program
   stab drill FILE SCRIPT         plays a schedule of workers that is written by hand
   stab save FILE TRACE CUT       writes the image at a cut of a trace

@@ -29,7 +29,7 @@ word_kinds() {
 # What stands in a command's place.
 place_kind() {
     case $1,$2 in
-    run,1 | trace,1 | watch,1 | check,1 | types,1 | verify,1 | drill,1 | save,1) echo program ;;
+    run,1 | trace,1 | watch,1 | serve,1 | check,1 | types,1 | verify,1 | drill,1 | save,1) echo program ;;
     verify,2 | save,2) echo trace ;;
     drill,2) echo script ;;
     resume,1) echo image ;;

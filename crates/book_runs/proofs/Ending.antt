@@ -65,7 +65,7 @@ module _ (writes : Writing) (workers : ℕ) where
 -- ---- a text that was written whole
 
 module _ (text_by : BookView → PlainState → List ℕ) (workers : ℕ) (book : BookView) (state : PlainState) (sink after : Device (List ℕ)) where
-  whole_by : (status : Status) → IsWritten workers status book state (text_by book state) sink after → AsReleased text_by workers status book state sink after
+  pub whole_by : (status : Status) → IsWritten workers status book state (text_by book state) sink after → AsReleased text_by workers status book state sink after
   whole_by Done w = w
   whole_by Held w = w
   whole_by BadWords w = w
@@ -173,7 +173,7 @@ module _ (workers : ℕ) (book : BookView) (state : PlainState) (job : JobParts)
 
   module _ (last : LastLine) (sink after : Device (List ℕ)) where
     -- only the lines of what was released were written
-    lines_only : Gains sink after (released_lines book) → AsReleased (text_with last) workers NoMemory book state sink after
+    pub lines_only : Gains sink after (released_lines book) → AsReleased (text_with last) workers NoMemory book state sink after
     lines_only gains =
         let more = text_more last in (
           record {
@@ -186,7 +186,7 @@ module _ (workers : ℕ) (book : BookView) (state : PlainState) (job : JobParts)
         )
 
     -- a line couldn't be written
-    fault_written : StopSays stops.SinkFault book state sink after → AsReleased (text_with last) workers SinkFault book state sink after
+    pub fault_written : StopSays stops.SinkFault book state sink after → AsReleased (text_with last) workers SinkFault book state sink after
     fault_written says =
         let more = text_more last in (
           subst (SomePrefix (λ front. Appends sink.told after.told front × HasReleases book state front)) (sym more.1)
@@ -196,7 +196,7 @@ module _ (workers : ℕ) (book : BookView) (state : PlainState) (job : JobParts)
 
     module _ (between : Device (List ℕ)) (so_far : Gains sink between (released_lines book)) where
       -- the rest was written, or a prefix of it
-      rest_prefix : (text : List ℕ) → IsTextBehind last book text → GainsPrefix between after text → AsReleased (text_with last) workers SinkFault book state sink after
+      pub rest_prefix : (text : List ℕ) → IsTextBehind last book text → GainsPrefix between after text → AsReleased (text_with last) workers SinkFault book state sink after
       rest_prefix text behind prefix =
           let part = prefix.0 in (
             record {
@@ -211,11 +211,11 @@ module _ (workers : ℕ) (book : BookView) (state : PlainState) (job : JobParts)
             subst (λ n. Rose n after.faults) so_far.1 prefix.1,
           )
 
-      rest_whole : (text : List ℕ) → IsTextBehind last book text → Gains between after text → Gains sink after (text_with last book state)
+      pub rest_whole : (text : List ℕ) → IsTextBehind last book text → Gains between after text → Gains sink after (text_with last book state)
       rest_whole text behind gains = subst (Gains sink after) (sym (text_rest last text behind)) (gains_on sink between after (released_lines book) text so_far gains)
 
       -- there was no memory for the rest
-      rest_none : Rests between after → AsReleased (text_with last) workers NoMemory book state sink after
+      pub rest_none : Rests between after → AsReleased (text_with last) workers NoMemory book state sink after
       rest_none rests = lines_only (rests.0 ∙ so_far.0, rests.1 ∙ so_far.1)
 
 -- ---- a run, from what is said of its play

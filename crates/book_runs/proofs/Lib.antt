@@ -5,3 +5,4 @@ pub mod Played
 pub mod Results
 pub mod Ending
 pub mod Watched
+pub mod Served

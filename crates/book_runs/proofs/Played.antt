@@ -46,7 +46,7 @@ use Rattle.book_runs.proofs.Rounding.{lines_stay, run_lines, run_same, two_parts
 
 -- the lines of the first n values begin with the lines of what was released by fewer events
 module _ (b : BookView) (shown : IsShown b) where
-  front_lines : (n : ℕ) (first : List Event) (piece more : List ℕ) → released first ≤ n → piece ≡ value_lines b.job.program (take n b.printed) ++ more
+  pub front_lines : (n : ℕ) (first : List Event) (piece more : List ℕ) → released first ≤ n → piece ≡ value_lines b.job.program (take n b.printed) ++ more
       → (rest : List ℕ) × (piece ≡ first_lines b.job.program shown.state first ++ rest)
   front_lines n first piece more le is =
       let p = b.job.program in
@@ -156,7 +156,7 @@ module _ (workers : ℕ) (some : 1 ≤ workers) where
   later_named old b later named = subst (AreOf workers) (sym later.events) (of_both old.history.events later.added named (of_one later.added later.by_one))
 
 -- the run of a book of the job, from what its events are
-run_of_book : (workers : ℕ) (job : JobParts) (b : BookView) (shown : IsShown b) → b.job ≡ job → AreOf workers b.history.events → (workers ≡ 1 → IsSoloPart job b.history.events) → IsRunOf workers job b shown.state
+pub run_of_book : (workers : ℕ) (job : JobParts) (b : BookView) (shown : IsShown b) → b.job ≡ job → AreOf workers b.history.events → (workers ≡ 1 → IsSoloPart job b.history.events) → IsRunOf workers job b shown.state
 run_of_book workers job b shown of_job named solo = record {
   of_job = of_job;
   run = shown.run;

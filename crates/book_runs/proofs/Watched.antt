@@ -17,7 +17,7 @@ pub not_one : most_workers ≢ 1
 not_one is = absurd (omega (arith, is))
 
 -- fewer workers than the most
-of_most : (workers : ℕ) → workers ≤ most_workers → (es : List Event) → AreOf workers es → AreOf most_workers es
+pub of_most : (workers : ℕ) → workers ≤ most_workers → (es : List Event) → AreOf workers es → AreOf most_workers es
 of_most workers few [] named = tt
 of_most workers few (e ∷ es) named = ((named.0.0, let m = named.0.1 in omega (arith, m, few)), of_most workers few es named.1)
 

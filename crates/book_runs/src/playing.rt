@@ -43,7 +43,7 @@ pub fn play<K: Sink>(alloc: Global, book: &mut Book, sink: &mut K) -> Result<Sta
 }
 
 // Held if a thread failed or waits, Done otherwise.
-fn at_rest(book: &Book) -> Status
+pub(crate) fn at_rest(book: &Book) -> Status
     ensures status { result ≡ (if nat_eq (faulted_in book.now.job.program book.now.threads book.now.next.thread
         + in_state Parked book.now) 0 then IsDone else IsHeld) }
     ensures valid { IsValid book.now.job.program }

@@ -154,7 +154,7 @@ fn run_with<R: Threads + Wait + Sync, K: Sink, G: Gate + Sync>(
 }
 
 // What is left to write when the run is over.
-fn rest_with(alloc: Global, book: &Book, last: LastLine) -> Result<Vec<u8>, NoMemory>
+pub(crate) fn rest_with(alloc: Global, book: &Book, last: LastLine) -> Result<Vec<u8>, NoMemory>
     ensures { IfOk result (λ text. IsTextBehind last book.now text.items) }
 {
     let mut text = rest_text(alloc, book)?;
@@ -185,7 +185,11 @@ fn line_of(alloc: Global, book: &Book, last: LastLine) -> Result<String, NoMemor
 }
 
 // Writes the rest of the text, if there was memory for it. If all is written, the status is the one given.
-fn write_rest<K: Sink>(status: Status, rest: Result<Vec<u8>, NoMemory>, sink: &mut K) -> Status
+pub(crate) fn write_rest<K: Sink>(
+    status: Status,
+    rest: Result<Vec<u8>, NoMemory>,
+    sink: &mut K,
+) -> Status
     ensures written { IfOk rest (λ text. WritesOf status result text.items
         (device K.told K.faults sink.old) (device K.told K.faults sink.new)) }
     ensures silent { IfErr rest (λ _. (result ≡ OutOfMemory) ×

@@ -1,6 +1,7 @@
 -- A file that is read before others.
 use Rattle.std.proofs.Common.{◌≡◌, inr, ℕ, ℤ, List, Option, Some, refl, ap, sym, subst, ◌∙◌}
 use Rattle.stab_files.specs.Entry.{Entry}
+use Rattle.call_report.specs.Input.{no_input}
 use Rattle.call_report.specs.Call.{Call, NextSays, ScriptSays}
 use Rattle.sink_lines.specs.Device.{Device}
 use Rattle.call_report.specs.Report.{Outcome}
@@ -18,7 +19,7 @@ same_files files other told faults =
 
 -- the call that finds these files
 abbrev pub finding : Outcome → ℕ → Device (List Entry) → Call
-finding outcome after files = record { files = files; files_after = after; outcome = outcome }
+finding outcome after files = record { files = files; files_after = after; input = no_input; input_after = no_input; outcome = outcome }
 
 -- the script was read, and then this is said of what was done with it
 pub script_read : (outcome : Outcome) (after : ℕ) (files between : Device (List Entry)) (named : Option (List ℕ)) (file : List ℕ) (Said : Call → List ℤ → Type 0) (script : List ℤ) → named ≡ Some file →

@@ -1,4 +1,4 @@
--- The lemmas behind `Book`, in five rooms. The root of a room says of each file what it proves.
+-- The lemmas behind `Book`, in six rooms. The root of a room says of each file what it proves.
 --
 -- What every book keeps (`IsShown` of specs/Book.antt), and where it is shown that each call keeps it:
 --
@@ -13,6 +13,7 @@
 --     counts, due, fault_of                          Threads
 --     commit, commit_current, release                Acting
 --     both commits, of a stabilize that is granted   Undoing
+--     feed, unused, is_held, asks_probe              Numbers
 --     the laws of src/laws.rt                        Lawful
 --     released, unreleased                           Lawful (Firm)
 --     job, history, printed, reference, last_thread  no room: what the call hands out is what the view says
@@ -25,5 +26,7 @@ pub mod Keeping
 pub mod Acting
 -- A stabilize that is granted.
 pub mod Undoing
+-- The numbers that probes get.
+pub mod Numbers
 -- The laws of books.
 pub mod Lawful

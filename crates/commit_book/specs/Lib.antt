@@ -18,6 +18,7 @@ pub mod Layout
 pub mod Started
 pub mod Restated
 pub mod Turns
+pub mod Probing
 pub mod Limits
 pub mod Rows
 pub mod Undoing

@@ -7,7 +7,7 @@ ghost use Rattle.commit_book.specs.Book.{IsShown, IsAtStart, fault_at};
 ghost use Rattle.commit_book.specs.Counts.{AreCounts, in_state};
 ghost use Rattle.commit_book.specs.Layout.{without_spare};
 ghost use Rattle.commit_book.specs.References.{value_at};
-ghost use Rattle.commit_book.specs.Turns.{choice_of, IsTurn, IsWork, Lends, RestsIfQuiet, SpentIfSo, given_back, IsRecalled};
+ghost use Rattle.commit_book.specs.Turns.{choice_of, IsTurn, IsWork, Lends, RestsIfQuiet, SpentIfSo, given_back, is_held, IsRecalled};
 ghost use Rattle.commit_book.specs.declared.turn.Choice.TheVariants as choice;
 
 use crate::counts::Counts;
@@ -222,6 +222,14 @@ impl Book {
         if self.parts.is_lent(t, generation) {
             self.parts.slots.set_state(t, State::Ready);
         }
+    }
+
+    /// Whether a lease is still the thread's: the thread is leased, and of the lease's generation.
+    pub fn is_held(&self, lease: &Lease) -> bool
+        ensures held { result ≡ is_held self.now lease.now }
+        ensures shown { IsShown self.now }
+    {
+        self.parts.is_lent(lease.thread(), lease.generation())
     }
 
     /// Makes each leased thread ready again. Leases that are still out are judged as any others when they end.

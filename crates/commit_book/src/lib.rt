@@ -9,6 +9,7 @@ mod create;
 mod cut;
 mod done;
 mod exchange;
+mod feed;
 mod laws;
 mod lease;
 mod parts;
@@ -23,6 +24,7 @@ pub use book::Book;
 pub use commit::COMMIT_RESERVE;
 pub use counts::Counts;
 pub use done::{CommitRefused, Done};
+pub use feed::asks_probe;
 pub use laws::{
     books_show_a_run, final_steps_stay, no_undone_value_is_shown, pinned_steps_stay,
     refusals_are_due, released_values_stay, undos_take_what_depends,

@@ -6,4 +6,5 @@ mod number;
 mod read;
 
 pub use fault::ProbesFault;
+pub use number::number_of;
 pub use read::read_probes;

@@ -10,7 +10,7 @@ const MOST_BELOW: u64 = 1 << 63;
 const MOST_ABOVE: u64 = MOST_BELOW - 1;
 
 /// The number that the bytes are, if they are one.
-pub(crate) fn number_of(bytes: &[u8]) -> Option<i64>
+pub fn number_of(bytes: &[u8]) -> Option<i64>
     ensures { result ≡ number_of bytes.now }
 {
     match bytes {

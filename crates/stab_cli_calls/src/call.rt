@@ -3,6 +3,7 @@
 use crate::resumed::resumed_of;
 use crate::table::{Held, Table, Told};
 use call_report::{Made, Report, reason};
+use number_source::MemSource;
 use stab_base::Seq;
 use stab_files::{MemFiles, MemSink};
 use stab_journal::{Label, What};
@@ -31,9 +32,10 @@ impl Gate for Counting {
 /// Makes the call that was begun, and keeps what it did.
 pub fn call<R: Threads + Wait + Sync>(rt: &R, alloc: Global, table: &mut Table) -> io::Result<()> {
     let mut files = files_of(alloc, table)?;
+    let mut numbers = numbers_of(alloc, table)?;
     let mut sink = sink_of(alloc, table)?;
     let words = words_of(alloc, table)?;
-    table.told = told(rt, alloc, &words, &mut files, &mut sink)?;
+    table.told = told(rt, alloc, &words, &mut files, &mut numbers, &mut sink)?;
     Ok(())
 }
 
@@ -42,12 +44,13 @@ fn told<R: Threads + Wait + Sync>(
     alloc: Global,
     words: &[String],
     files: &mut MemFiles,
+    numbers: &mut Option<MemSource>,
     sink: &mut MemSink,
 ) -> io::Result<Told> {
     let gate = Counting {
         calls: AtomicU32::new(0),
     };
-    let report = stab(rt, alloc, words, files, sink, &gate);
+    let report = stab(rt, alloc, words, files, numbers, sink, &gate);
     told_of(
         alloc,
         &report,
@@ -114,6 +117,14 @@ fn files_of(alloc: Global, table: &Table) -> Result<MemFiles, AllocError> {
 
 fn copy_of(alloc: Global, file: &Held) -> Result<(String, Vec<u8>), AllocError> {
     Ok((file.name.clone()?, file.bytes.to_vec(alloc)?))
+}
+
+// The numbers that come to the call, by the plan of the table.
+fn numbers_of(alloc: Global, table: &Table) -> io::Result<Option<MemSource>> {
+    match MemSource::new(alloc, table.plan.to_vec(alloc)?) {
+        Ok(source) => Ok(Some(source)),
+        Err(_) => Err(io::Error::from(ErrorKind::OutOfMemory)),
+    }
 }
 
 fn sink_of(alloc: Global, table: &Table) -> io::Result<MemSink> {

@@ -1,5 +1,6 @@
 //! Calls over the files of the system.
 
+use number_source::MemSource;
 use stab_files::{DiskFiles, OutSink};
 use stab_top::command;
 use std::alloc::{AllocError, Global};
@@ -10,12 +11,13 @@ use std::sync::Wait;
 use std::thread::Threads;
 
 /// Makes the call with the words of a line, and prints its exit status. What it writes to standard error is written to standard
-/// output here.
+/// output here. No numbers come to it.
 pub fn call<R: AllocGlobal + Files + Print + Threads + Wait + Sync>(
     rt: &R,
     line: &str,
 ) -> io::Result<()> {
     let mut files = DiskFiles::new(rt);
+    let mut numbers: Option<MemSource> = None;
     let mut output = OutSink::new(io::writer(rt));
     let mut errors = OutSink::new(io::writer(rt));
     let args = args(rt.alloc(), line)?;
@@ -24,6 +26,7 @@ pub fn call<R: AllocGlobal + Files + Print + Threads + Wait + Sync>(
         rt.alloc(),
         Ok(args),
         &mut files,
+        &mut numbers,
         &mut output,
         &mut errors,
     );

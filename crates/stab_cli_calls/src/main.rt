@@ -19,6 +19,7 @@
 //! | `byte N` | the last file goes on with this byte |
 //! | `stab WORDS` | a call |
 //! | `failing load N`, `failing put N` | the N-th load of a file, or put of the output, fails in it |
+//! | `comes WORDS` | what comes to it in place of standard input: numbers, `gap` where none is there yet, `bad@N` for a line that is none and begins at byte N, `fails` for a read that fails, `end` |
 //! | `once TEXT` | a line that its output has once |
 //! | `struck NUMBERS` | the events with the sign `-` of the trace that it wrote |
 //! | `undos N` | how many events with the sign `!` that trace has |
@@ -37,6 +38,7 @@
 
 mod answer;
 mod call;
+mod coming;
 mod disk;
 mod events;
 mod resumed;

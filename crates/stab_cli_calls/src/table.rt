@@ -1,6 +1,8 @@
 //! The lines of a table that come before the call of a row is made.
 
+use crate::coming::add_coming;
 use crate::events::{trace_of, with_one_more, without};
+use number_source::Came;
 use std::alloc::{AllocError, Global};
 
 /// A file that calls may load.
@@ -35,6 +37,8 @@ pub struct Table {
     pub line: Option<String>,
     pub failing_loads: Vec<u64>,
     pub failing_puts: Vec<u64>,
+    /// What comes to the call in place of standard input.
+    pub plan: Vec<Came>,
     /// The lines behind the call, which say what it is to answer.
     pub expected: String,
     /// What the last call did.
@@ -49,6 +53,7 @@ impl Table {
             line: None,
             failing_loads: Vec::new(alloc),
             failing_puts: Vec::new(alloc),
+            plan: Vec::new(alloc),
             expected: String::new(alloc),
             told: Told {
                 status: 0,
@@ -71,7 +76,8 @@ impl Table {
     ) -> Result<(), AllocError> {
         match word {
             "stab" => self.begin(alloc, line),
-            "failing" => self.plan(line, rest),
+            "failing" => self.fail(line, rest),
+            "comes" => self.come(line, rest),
             "keep" => self.keep(alloc, rest),
             _ if self.line.is_some() => self.take_answer(line, word, rest),
             _ => self.take_file(alloc, line, word, rest),
@@ -101,6 +107,7 @@ impl Table {
         self.line = None;
         self.failing_loads.clear();
         self.failing_puts.clear();
+        self.plan.clear();
         self.expected.clear();
     }
 
@@ -218,8 +225,16 @@ impl Table {
         Ok(())
     }
 
+    // What comes to the call next.
+    fn come(&mut self, line: &str, rest: &str) -> Result<(), AllocError> {
+        if add_coming(&mut self.plan, rest)? {
+            return Ok(());
+        }
+        self.expect(line)
+    }
+
     // A load or a put that is to fail.
-    fn plan(&mut self, line: &str, rest: &str) -> Result<(), AllocError> {
+    fn fail(&mut self, line: &str, rest: &str) -> Result<(), AllocError> {
         let (device, number) = cut(rest);
         match (device, number.parse::<u64>()) {
             ("load", Ok(number)) => Ok(self.failing_loads.push(number)?),

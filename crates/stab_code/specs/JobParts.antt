@@ -1,5 +1,5 @@
 -- What a run is given.
-use Rattle.std.specs.Prelude.{ℕ, ◌≤◌, ℤ, List, length}
+use Rattle.std.specs.Prelude.{ℕ, ◌≤◌, ℤ, List, ◌++◌, length}
 use Rattle.stab_code.specs.Limits.{max_fuel, max_quantum, max_script}
 use Rattle.stab_code.specs.Program.{ProgramParts}
 
@@ -12,6 +12,10 @@ pub record JobParts : Type 0 where
 
 abbrev pub job_of : ProgramParts → List ℤ → ℕ → ℕ → JobParts
 job_of program script fuel quantum = record { program = program; script = script; fuel = fuel; quantum = quantum }
+
+-- the job with these numbers behind its script
+abbrev pub longer : JobParts → List ℤ → JobParts
+longer job numbers = record job { script = job.script ++ numbers }
 
 -- a job that keeps its limits
 pub record IsWithinLimits (job : JobParts) : Type 0 where

@@ -1,7 +1,7 @@
 //! What a run is given.
-ghost use Rattle.std.specs.Prelude.{◌≡◌, ◌≤◌, ◌↔◌, length, IfOk, IsTrue};
+ghost use Rattle.std.specs.Prelude.{◌≡◌, ◌+◌, ◌≤◌, ◌↔◌, length, IfOk, IsTrue, OnErr, OnOk};
 ghost use Rattle.std.specs.Arc.{arc_value};
-ghost use Rattle.stab_code.specs.JobParts.{IsWithinLimits, job_of};
+ghost use Rattle.stab_code.specs.JobParts.{IsWithinLimits, job_of, longer};
 
 use crate::program::Program;
 use stab_base::{NoMemory, Same, all_same};
@@ -91,6 +91,15 @@ impl Job {
         ensures limits { IsWithinLimits self.now }
     {
         self.quantum
+    }
+
+    /// Puts numbers behind the script.
+    pub fn extend_script(&mut self, numbers: &[i64]) -> Result<(), NoMemory>
+        requires within { length self.old.script + length numbers.now ≤ MAX_SCRIPT }
+        ensures longer { OnOk result (self.new ≡ longer self.old numbers.now) }
+        ensures err { OnErr result (self.new ≡ self.old) }
+    {
+        Ok(self.script.extend_from_slice(numbers)?)
     }
 
     /// An equal job, over the same program.

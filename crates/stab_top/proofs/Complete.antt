@@ -23,7 +23,7 @@ use Rattle.book_runs.specs.Watching.{watched_by}
 use Rattle.stab_words.specs.declared.request.DrillArgs.{DrillArgs}
 use Rattle.stab_words.specs.declared.request.MillArgs.{MillArgs}
 use Rattle.stab_words.specs.declared.request.Request.{Request}
-use Rattle.stab_words.specs.declared.request.Request.TheVariants.{Run, Trace, Verify, Drill, Check, Mill, Types, Save, Resume, Watch}
+use Rattle.stab_words.specs.declared.request.Request.TheVariants.{Run, Trace, Verify, Drill, Check, Mill, Types, Save, Resume, Watch, Serve}
 use Rattle.stab_words.specs.declared.request.RunArgs.{RunArgs}
 use Rattle.stab_words.specs.declared.request.VerifyArgs.{VerifyArgs}
 use Rattle.stab_words.specs.declared.request.WordFault.{WordFault}
@@ -41,6 +41,7 @@ use Rattle.file_commands.specs.Judging.{IsJudged, IsTold, TraceSays, VerdictEnds
 use Rattle.stab_top.specs.Running.{RunEnds}
 use Rattle.file_commands.specs.Drilling.{DrillEnds, DrillSays, OrdersSay, PlayEnds}
 use Rattle.stab_top.specs.Milling.{MillEnds}
+use Rattle.stab_top.specs.Serving.{IsServedBy}
 use Rattle.call_report.specs.Loading.{Finds, LoadRefused, Loads}
 use Rattle.call_status.specs.Role.{max_bytes}
 use Rattle.call_report.specs.Report.{Blames}
@@ -476,6 +477,7 @@ request_with_fault c (Save args) bytes fault says is has =
     fault_refused source_form c args.file bytes is fault (λ s text. not_both bytes s.program fault text.1 has) (λ other same. one_fault bytes other fault same has) c.files.faults
     (λ s. ScriptSays c args.probes (λ script. CutSays c args s script)) says
 request_with_fault c (Resume args) bytes fault says is has = elim is [ ]
+request_with_fault c (Serve args) bytes fault says is has = text_with_fault c args.file bytes fault c.files_after (λ p. IsServedBy args p c.input c.input_after c.outcome) is has says
 request_with_fault c (Watch args) bytes fault says is has = run_with_fault (AsReleased watched_by) c (record args { workers = most_workers }) args.probes bytes fault says.0 is has
 
 pub bad_text_refused : (words : List (List ℕ)) (c : Call) (request : Request) (bytes : List ℕ) (fault : TextFault) → Says words c → asked words ≡ Ok request →

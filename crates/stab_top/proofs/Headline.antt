@@ -3,7 +3,7 @@ use Rattle.std.proofs.Common.{◌≡◌, ◌∙◌, inl, inr, ℕ, ℤ, List, []
 use Rattle.std.specs.Prelude.{option_map}
 use Rattle.drill_text.specs.Script.{script_of}
 use Rattle.drill_text.specs.declared.script.Line.{Line}
-use Rattle.stab_code.specs.JobParts.{JobParts, job_of}
+use Rattle.stab_code.specs.JobParts.{JobParts, job_of, longer}
 use Rattle.stab_code.specs.Program.{ProgramParts}
 use Rattle.stab_files.specs.Entry.{Entry}
 use Rattle.stab_words.specs.Asked.{asked}
@@ -12,8 +12,9 @@ use Rattle.book_runs.specs.Watching.{watched_by}
 use Rattle.stab_words.specs.declared.request.DrillArgs.{DrillArgs}
 use Rattle.stab_words.specs.declared.request.MillArgs.{MillArgs}
 use Rattle.stab_words.specs.declared.request.Request.{Request}
-use Rattle.stab_words.specs.declared.request.Request.TheVariants.{Run, Trace, Verify, Drill, Check, Mill, Types, Save, Resume, Watch}
+use Rattle.stab_words.specs.declared.request.Request.TheVariants.{Run, Trace, Verify, Drill, Check, Mill, Types, Save, Resume, Watch, Serve}
 use Rattle.stab_words.specs.declared.request.RunArgs.{RunArgs}
+use Rattle.stab_words.specs.declared.request.ServeArgs.{ServeArgs}
 use Rattle.language.specs.Plain.{IsRun, PlainState, end_of}
 use Rattle.stab_journal.specs.declared.event.Numbered.{Numbered}
 use Rattle.stab_journal.specs.Journal.{survivors}
@@ -33,6 +34,8 @@ use Rattle.sink_lines.specs.Device.{Device, Gains}
 use Rattle.book_runs.specs.Ending.{AsReleased, AtTheEnd, IsRunOf, IsWritten, RestSays, Writing, milled_by, shown_by}
 use Rattle.call_report.specs.Report.{Leaves, Outcome}
 use Rattle.stab_top.specs.Running.{RunEnds}
+use Rattle.stab_top.specs.Serving.{IsServedBy, ServeSays, heard_by}
+use Rattle.book_runs.specs.Serving.{AsServed, ServedEnds, Serves}
 use Rattle.book_runs.specs.Ending as runs
 use Rattle.call_report.specs.declared.report.Made.{Made}
 use Rattle.call_report.specs.declared.report.Made.TheVariants as made
@@ -44,7 +47,7 @@ use Rattle.call_report.specs.Reading.{AreGiven, AreGivenBy, BytesRefused, Form, 
 use Rattle.stab_top.proofs.Complete.{request_said}
 
 -- what a book shows
-abbrev of_shown : (book : BookView) (run : List Numbered) (state : PlainState) → ShowsRun book run state → IsOfTheLanguage book
+abbrev pub of_shown : (book : BookView) (run : List Numbered) (state : PlainState) → ShowsRun book run state → IsOfTheLanguage book
 of_shown book run state shows =
     let shown : IsShown book = record { run = run; state = state; shows = shows } in
     record {
@@ -54,7 +57,7 @@ of_shown book run state shows =
       pins = pinned_lasts book shown;
     }
 
-abbrev of_language : (workers : ℕ) (job : JobParts) (book : BookView) (state : PlainState) → IsRunOf workers job book state → IsOfTheLanguage book
+abbrev pub of_language : (workers : ℕ) (job : JobParts) (book : BookView) (state : PlainState) → IsRunOf workers job book state → IsOfTheLanguage book
 of_language workers job book state r = of_shown book r.run state r.shown
 
 -- a list of steps ends in only one state
@@ -65,7 +68,7 @@ one_end p run steps s u same left right =
     let one : u ≡ s = cc in
     one
 
-ends_in : (workers : ℕ) (job : JobParts) (book : BookView) (state : PlainState) (r : IsRunOf workers job book state) → (of_language workers job book state r).run.end ≡ state
+pub ends_in : (workers : ℕ) (job : JobParts) (book : BookView) (state : PlainState) (r : IsRunOf workers job book state) → (of_language workers job book state r).run.end ≡ state
 ends_in workers job book state r =
     let p = book.job.program in
     let history = r.shown.journal.history in
@@ -74,17 +77,17 @@ ends_in workers job book state r =
 
 -- ---- a call
 
-abbrev book_made : Option BookView → Option Made
+abbrev pub book_made : Option BookView → Option Made
 book_made left = option_map made.Book left
 
-not_there : {A : Type 0} (o : Option Made) (b : BookView) → o ≡ None → o ≡ Some (made.Book b) → A
+pub not_there : {A : Type 0} (o : Option Made) (b : BookView) → o ≡ None → o ≡ Some (made.Book b) → A
 not_there o b none some = absurd (let wrong : ⊥ = cc in wrong)
 
-same_book : (o : Option Made) (a b : BookView) → o ≡ Some (made.Book a) → o ≡ Some (made.Book b) → a ≡ b
+pub same_book : (o : Option Made) (a b : BookView) → o ≡ Some (made.Book a) → o ≡ Some (made.Book b) → a ≡ b
 same_book o a b x y = cc
 
 -- a book that is left is the one that is reported
-left_book : (o : Option Made) (left : Option BookView) (a : BookView) → o ≡ book_made left → left ≡ Some a → o ≡ Some (made.Book a)
+pub left_book : (o : Option Made) (left : Option BookView) (a : BookView) → o ≡ book_made left → left ≡ Some a → o ≡ Some (made.Book a)
 left_book o left a is left_is = is ∙ ap book_made left_is
 
 no_bytes_book : {Content Fault : Type 0} (form : Form Content Fault) (report : Report) (bytes : List ℕ) → BytesRefused form report bytes → report.made ≡ None
@@ -166,6 +169,17 @@ module _ (c : Call) (b : BookView) (there : c.outcome.report.made ≡ Some (made
   mill_book args (same, inl refused) = not_there c.outcome.report.made b (no_bytes_book program_form c.outcome.report _ refused.0) there
   mill_book args (same, inr (p, is, ends)) = run_book c.outcome b there (AsReleased (milled_by args.size)) args.workers _ (status_of c) ends
 
+  -- the program was read, and then numbers came
+  serve_left : (job : JobParts) (args : ServeArgs) (left : Option BookView) → c.outcome.report.made ≡ book_made left
+      → ServedEnds args.workers (status_of c) job left (heard_by c.input) (heard_by c.input_after) c.outcome.sink c.outcome.sink_after → IsOfTheLanguage b
+  serve_left job args left is (inl none) = not_there c.outcome.report.made b (is ∙ ap book_made none.1) there
+  serve_left job args left is (inr s) = ends_book c.outcome b there AsServed most_workers (longer job s.numbers) left is (status_of c) s.ends
+
+  serve_book : (args : ServeArgs) → ServeSays c args → IsOfTheLanguage b
+  serve_book args says =
+      read_book program_form args.file c.files_after (λ p. IsServedBy args p c.input c.input_after c.outcome)
+      (λ p ends. serve_left (job_of p [] args.fuel args.quantum) args ends.left ends.is_made ends.ends) says
+
   -- the program was read, then the probe script, then the drill script
   behind_probes : (named : Option (List ℕ)) (Said : List ℤ → Type 0) → ((script : List ℤ) → Said script → IsOfTheLanguage b) → ScriptSays c named Said → IsOfTheLanguage b
   behind_probes None Said all says = all [] says
@@ -190,6 +204,7 @@ module _ (c : Call) (b : BookView) (there : c.outcome.report.made ≡ Some (made
   built_book (Types file) asks says = elim asks [ ]
   built_book (Save args) asks says = elim asks [ ]
   built_book (Resume args) asks says = elim asks [ ]
+  built_book (Serve args) asks says = serve_book args says
   built_book (Watch args) asks says = file_book (AsReleased watched_by) (record args { workers = most_workers }) args.probes says.0
 
 -- each reported book of a run is of the language
@@ -293,7 +308,7 @@ module _ {Content Fault : Type 0} (form : Form Content Fault) (bad : IsEnd form.
   bytes_no_end bytes (inl have) = bad (subst IsEnd have.status over)
   bytes_no_end bytes (inr none) = subst IsEnd none.0 over
 
-  read_no_end : (files : Device (List Entry)) (name : List ℕ) (faults : ℕ) → ReadRefused form report files name faults → ⊥
+  pub read_no_end : (files : Device (List Entry)) (name : List ℕ) (faults : ℕ) → ReadRefused form report files name faults → ⊥
   read_no_end files name faults (inl x) = load_no_end form.role report.status files name faults x.0 over
   read_no_end files name faults (inr x) = bytes_no_end x.0 x.2
 

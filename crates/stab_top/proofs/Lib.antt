@@ -10,3 +10,5 @@ pub mod Watched
 pub mod TypesFound
 pub mod SavedCuts
 pub mod ReadImages
+pub mod Served
+pub mod ServedReports

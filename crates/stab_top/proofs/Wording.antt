@@ -8,7 +8,7 @@ use Rattle.commit_book.specs.Book.{BookView}
 use Rattle.turn_floor.specs.Served.{AreOf}
 use Rattle.book_runs.specs.Watching.{watched_by}
 use Rattle.stab_words.specs.declared.request.Request.{Request}
-use Rattle.stab_words.specs.declared.request.Request.TheVariants.{Run, Trace, Verify, Drill, Check, Mill, Types, Save, Resume, Watch}
+use Rattle.stab_words.specs.declared.request.Request.TheVariants.{Run, Trace, Verify, Drill, Check, Mill, Types, Save, Resume, Watch, Serve}
 use Rattle.stab_words.specs.declared.request.RunArgs.{RunArgs}
 use Rattle.stab_words.specs.declared.request.WordFault.{WordFault}
 use Rattle.call_status.specs.declared.status.Status.TheVariants.{NoMemory}
@@ -23,7 +23,8 @@ use Rattle.file_commands.specs.Typing.{TypesEnds}
 use Rattle.file_commands.specs.Saving.{CutSays, source_form}
 use Rattle.file_commands.specs.Resuming.{ResumeEnds, image_form}
 use Rattle.call_report.specs.Call.{Call, LastSays, ReadSays, ScriptSays, Untouched, status_of}
-use Rattle.stab_top.specs.Call.{FaultSays, RequestSays, RunSaysBy, Says, WordsSay}
+use Rattle.stab_top.specs.Call.{FaultSays, Hears, RequestSays, RunSaysBy, Says, WordsSay}
+use Rattle.stab_top.specs.Serving.{IsServedBy}
 use Rattle.file_commands.specs.Drilling.{OrdersSay}
 use Rattle.file_commands.specs.Judging.{TraceSays}
 
@@ -51,6 +52,7 @@ request_says (Types file) c none is = unread program_form c file c.files_after (
 request_says (Save args) c none is = unread source_form c args.file c.files.faults (λ s. ScriptSays c args.probes (λ script. CutSays c args s script)) none is
 request_says (Resume args) c none is = unread image_form c args.image c.files_after (λ image. ResumeEnds (status_of c) image args.fuel args.quantum c.outcome) none is
 request_says (Watch args) c none is = (run_says (AsReleased watched_by) (record args { workers = most_workers }) args.probes c none is, no_events (AreOf args.workers) c.outcome.report.made is.refuses.0.nothing)
+request_says (Serve args) c none is = unread program_form c args.file c.files_after (λ p. IsServedBy args p c.input c.input_after c.outcome) none is
 
 words_say : (meant : Result Request WordFault) (c : Call) → status_of c ≡ NoMemory → Untouched c None → WordsSay meant c
 words_say (Ok request) c none is = request_says request c none is
@@ -63,3 +65,22 @@ no_memory_call words c none is = words_say (asked words) c none is
 -- what is said of a request by its command
 pub said : (request known : Request) (c : Call) → request ≡ known → RequestSays c known → RequestSays c request
 said request known c is says = subst (RequestSays c) (sym is) says
+
+-- where no number was taken, nothing else is asked
+pub hears_none : (meant : Result Request WordFault) (c : Call) → c.input_after ≡ c.input → Hears meant c
+hears_none (Ok (Run args)) c is = is
+hears_none (Ok (Trace args)) c is = is
+hears_none (Ok (Verify args)) c is = is
+hears_none (Ok (Drill args)) c is = is
+hears_none (Ok (Check file)) c is = is
+hears_none (Ok (Mill args)) c is = is
+hears_none (Ok (Types file)) c is = is
+hears_none (Ok (Save args)) c is = is
+hears_none (Ok (Resume args)) c is = is
+hears_none (Ok (Watch args)) c is = is
+hears_none (Ok (Serve args)) c is = λ none. is
+hears_none (Err fault) c is = is
+
+-- what is heard by what the words mean
+pub heard : (meant known : Result Request WordFault) (c : Call) → meant ≡ known → Hears known c → Hears meant c
+heard meant known c is hears = subst (λ m. Hears m c) (sym is) hears

@@ -2,7 +2,7 @@
 use Rattle.std.specs.Prelude.{◌≡◌, ℕ, List, [], Option, Some, None, Result, Ok, Err}
 use Rattle.stab_code.specs.JobParts.{job_of}
 use Rattle.stab_words.specs.declared.request.Request.{Request}
-use Rattle.stab_words.specs.declared.request.Request.TheVariants.{Check, Drill, Mill, Resume, Run, Save, Trace, Types, Verify, Watch}
+use Rattle.stab_words.specs.declared.request.Request.TheVariants.{Check, Drill, Mill, Resume, Run, Save, Serve, Trace, Types, Verify, Watch}
 use Rattle.stab_words.specs.declared.request.MillArgs.{MillArgs}
 use Rattle.stab_words.specs.declared.request.RunArgs.{RunArgs}
 use Rattle.stab_words.specs.declared.request.WordFault.{WordFault}
@@ -24,6 +24,7 @@ use Rattle.book_runs.specs.Ending.{AsReleased, AtTheEnd, Writing, shown_by}
 use Rattle.book_runs.specs.Watching.{watched_by}
 use Rattle.stab_top.specs.Milling.{MillEnds}
 use Rattle.stab_top.specs.Running.{IfBook, RunEnds}
+use Rattle.stab_top.specs.Serving.{ServeSays}
 
 -- what each status says of words with this fault: it is the cause, or memory ran out
 abbrev pub FaultSays : Status → Call → WordFault → Type 0
@@ -64,6 +65,7 @@ RequestSays c (Drill args) = DrillSays c args
 RequestSays c (Check file) = CheckSays c file
 RequestSays c (Types file) = TypesSays c file
 RequestSays c (Watch args) = WatchSays c args
+RequestSays c (Serve args) = ServeSays c args
 RequestSays c (Save args) = SaveSays c args
 RequestSays c (Resume args) = ResumeSays c args
 
@@ -75,3 +77,8 @@ WordsSay (Ok request) c = RequestSays c request
 -- what a call with these words says by its status
 abbrev pub Says : List (List ℕ) → Call → Type 0
 Says words c = WordsSay (asked words) c
+
+-- only `serve` takes numbers, and only if it leaves a book
+abbrev pub Hears : Result Request WordFault → Call → Type 0
+Hears (Ok (Serve args)) c = c.outcome.report.made ≡ None → c.input_after ≡ c.input
+Hears meant c = c.input_after ≡ c.input

@@ -7,20 +7,22 @@ use Rattle.language.specs.Plain.{PlainState, end_of}
 use Rattle.drill_text.specs.declared.fault.DrillFault.{DrillFault}
 use Rattle.stab_base.specs.declared.numbers.FnId.{FnId}
 use Rattle.stab_code.specs.JobParts.{JobParts}
+use Rattle.stab_code.specs.Limits.{max_script}
+use Rattle.number_source.specs.declared.came.Came.TheVariants as answers
 use Rattle.stab_code.specs.Program.{ProgramParts}
 use Rattle.stab_files.specs.Entry.{Entry, contents_of}
 use Rattle.stab_journal.specs.Journal.{Journal}
 use Rattle.stab_journal.specs.Surviving.{run_of}
 use Rattle.stab_types.specs.Typed.{IsFirstUntyped, IsTyped}
 use Rattle.stab_words.specs.declared.request.Request.{Request}
-use Rattle.stab_words.specs.declared.request.Request.TheVariants.{Check, Drill, Run, Save, Trace as WritesTrace, Types, Verify, Watch}
+use Rattle.stab_words.specs.declared.request.Request.TheVariants.{Check, Drill, Run, Save, Serve, Trace as WritesTrace, Types, Verify, Watch}
 use Rattle.trace_verify.specs.declared.verdict.Verdict.{Verdict}
 use Rattle.trace_verify.specs.Verdict.{IsOfRun, IsVerdict}
 use Rattle.image_commands.specs.Cuts.{cuts_in}
 use Rattle.image_commands.specs.Saved.{IsImageOf}
 use Rattle.image_laws.specs.Image.{Image}
 use Rattle.call_status.specs.declared.status.Status.{Status}
-use Rattle.call_status.specs.declared.status.Status.TheVariants.{BadScript, Done, FileFault, Held, NoCut, NoMemory, No, SinkFault, Spent, Untyped}
+use Rattle.call_status.specs.declared.status.Status.TheVariants.{BadProbes, BadScript, Done, FileFault, Held, NoCut, NoMemory, No, SinkFault, Spent, TooBig, Untyped}
 use Rattle.call_status.specs.declared.role.Role.{Role}
 use Rattle.call_status.specs.declared.role.Role.TheVariants.{Program, Probes}
 use Rattle.call_report.specs.Call.{Call, CountedFault, status_of}
@@ -52,6 +54,7 @@ IsHeldFor c (Check file) bytes = IsHeld Program c file bytes
 IsHeldFor c (Types file) bytes = IsHeld Program c file bytes
 IsHeldFor c (Watch args) bytes = IsHeld Program c args.file bytes
 IsHeldFor c (Save args) bytes = IsHeld Program c args.file bytes
+IsHeldFor c (Serve args) bytes = IsHeld Program c args.file bytes
 IsHeldFor c _ bytes = ⊥
 
 -- the script is the one in the probe file of this name, or empty if there is no name
@@ -66,6 +69,25 @@ Ran Held = Unit {0}
 Ran Spent = Unit {0}
 Ran NoMemory = Unit {0}
 Ran _ = ⊥
+
+-- one number more came in the call than a script may have
+pub record CameTooMany (c : Call) : Type 0 where
+  pub numbers : List ℤ
+  pub over : List ℤ
+  pub came : c.input_after.came ≡ c.input.came ++ numbers ++ over
+  pub full : length numbers ≡ max_script
+  pub more : length over ≡ 1
+
+-- the run came to its end, or it was stopped by a line that is no number, a read that failed or too many numbers; or memory ran out
+abbrev pub WasServed : Status → Call → Type 0
+WasServed Done c = Unit {0}
+WasServed Held c = Unit {0}
+WasServed Spent c = Unit {0}
+WasServed NoMemory c = Unit {0}
+WasServed BadProbes c = (at : ℕ) × (c.input_after.last ≡ Some (answers.Bad at))
+WasServed FileFault c = c.input_after.last ≡ Some answers.Failed
+WasServed TooBig c = CameTooMany c
+WasServed _ c = ⊥
 
 -- the line of the program was written, or memory ran out
 abbrev pub Checked : Status → Type 0

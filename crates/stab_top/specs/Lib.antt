@@ -1,5 +1,6 @@
 pub mod Running
 pub mod Milling
+pub mod Serving
 pub mod Call
 pub mod Command
 pub mod Complete

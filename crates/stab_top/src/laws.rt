@@ -34,20 +34,23 @@ ghost use Rattle.stab_words.specs.Asked.{asked};
 ghost use Rattle.stab_words.specs.declared.request.Request.{Request};
 ghost use Rattle.stab_words.specs.declared.request.DrillArgs.{DrillArgs};
 ghost use Rattle.stab_words.specs.declared.request.MillArgs.{MillArgs};
-ghost use Rattle.stab_words.specs.declared.request.Request.TheVariants.{Check, Drill, Mill, Resume, Run, Save, Trace, Types, Verify, Watch};
+ghost use Rattle.stab_words.specs.declared.request.Request.TheVariants.{Check, Drill, Mill, Resume, Run, Save, Serve, Trace, Types, Verify, Watch};
 ghost use Rattle.stab_words.specs.declared.request.ResumeArgs.{ResumeArgs};
 ghost use Rattle.stab_words.specs.declared.request.SaveArgs.{SaveArgs};
 ghost use Rattle.stab_words.specs.declared.request.RunArgs.{RunArgs as Args};
+ghost use Rattle.stab_words.specs.declared.request.ServeArgs.{ServeArgs};
 ghost use Rattle.stab_words.specs.declared.request.VerifyArgs.{VerifyArgs};
 ghost use Rattle.trace_text.specs.declared.fault.TraceFault.{TraceFault};
 ghost use Rattle.trace_text.specs.Text.{trace};
 ghost use Rattle.call_report.specs.Call.{Call, CountedFault, status_of};
 ghost use Rattle.stab_top.specs.Call.{Says};
-ghost use Rattle.stab_top.specs.Complete.{Checked, ComesTo, HasResumed, IsHeld, IsHeldFor, IsRefused, IsSavedAs, IsScriptFor, Ran, StopsWith, TypesFound, WasDrilled, WasJudged, WasStuck};
+ghost use Rattle.stab_top.specs.Complete.{Checked, ComesTo, HasResumed, IsHeld, IsHeldFor, IsRefused, IsSavedAs, IsScriptFor, Ran, StopsWith, TypesFound, WasDrilled, WasJudged, WasServed, WasStuck};
 ghost use Rattle.book_runs.specs.Ending.{IsRunOf, shown_by};
 ghost use Rattle.book_runs.specs.Watching.{watched_by};
 ghost use Rattle.stab_words.specs.Command.{most_workers};
-ghost use Rattle.stab_top.specs.Headline.{AsksForRun, IsEnd, IsOfTheLanguage, ShowsRunOf};
+ghost use Rattle.stab_top.specs.Headline.{AsksForRun, HasWhatCame, IsEnd, IsOfTheLanguage, ShowsRunOf, ShowsServed};
+ghost use Rattle.stab_top.specs.Serving.{heard_by};
+ghost use Rattle.book_runs.specs.Serving.{LeftOver};
 ghost use Rattle.stab_top.specs.Alone.{ReportsDrillOfOne};
 ghost use Rattle.call_report.specs.Reading.{probes_form, program_form, trace_form};
 ghost use Rattle.file_commands.specs.Resuming.{image_form};
@@ -82,8 +85,26 @@ pub fn watched_runs_are_of_the_language()
         IsEnd (status_of c) → ShowsRunOf watched_by c (record args { workers = most_workers }) }
 {}
 
-/// If the report of a run, a trace, a watched run, the mill or a drill has a book, what is said above of the book's journal is true,
-/// whatever the status.
+/// If the words ask to serve a program, and the call is Done, Held or Spent, then: the program in the file was run, with the fuel and the
+/// quantum that the words name; the numbers that came in the call are the script of the report's book, all of them and in their order,
+/// so the i-th probe got the i-th number that came, and 0 for want of one only after the input's end; what is said above of the book's
+/// journal is true; the status says how the run ended; and exactly what the run shows was written. This is true for every
+/// sequence of numbers, whenever each comes, and for any number of workers.
+pub fn served_runs_are_of_the_language()
+    ensures { (words : List (List ℕ)) (c : Call) (args : ServeArgs) → Says words c → asked words ≡ Ok (Serve args) →
+        IsEnd (status_of c) → ShowsServed c args }
+{}
+
+/// If the report of such a call has a book, its probes got the numbers that came in the call, whatever the status. None is left over but
+/// where memory ran out, and of too many numbers the last.
+pub fn served_probes_get_what_came()
+    ensures { (words : List (List ℕ)) (c : Call) (args : ServeArgs) (book : BookView) → Says words c → asked words ≡ Ok (Serve args) →
+        c.outcome.report.made ≡ Some (made.Book book) →
+        (over : List ℤ) × HasWhatCame c book over × LeftOver (status_of c) book.job (heard_by c.input_after) over }
+{}
+
+/// If the report of a run, a trace, a watched or served run, the mill or a drill has a book, what is said above of the book's journal is
+/// true, whatever the status.
 pub fn books_are_of_the_language()
     ensures { (words : List (List ℕ)) (c : Call) (request : Request) (book : BookView) → Says words c →
         asked words ≡ Ok request → AsksForRun request → c.outcome.report.made ≡ Some (made.Book book) → IsOfTheLanguage book }
@@ -121,6 +142,15 @@ pub fn good_programs_are_watched()
         IsTextOf bytes program → IsScriptFor c args.probes script → Ran (status_of c) ⊎ CountedFault c }
 {}
 
+/// If the words ask to serve a program, and the files say that they hold its text under its name within the limit, then the run came to
+/// its end, or a line that came is no number, or reading a number failed, or one more came than a script may have, or memory ran out,
+/// or a fault was counted.
+pub fn good_programs_are_served()
+    ensures { (words : List (List ℕ)) (c : Call) (args : ServeArgs) (bytes : List ℕ) (program : ProgramParts) → Says words c →
+        asked words ≡ Ok (Serve args) → IsHeld ProgramFile c args.file bytes → IsTextOf bytes program →
+        WasServed (status_of c) c ⊎ CountedFault c }
+{}
+
 /// If the words ask for the mill, and its text is that of a program, then the run came to its end, or memory ran out, or a fault
 /// was counted.
 pub fn mills_run()
@@ -145,7 +175,7 @@ pub fn types_are_told()
 {}
 
 /// If the words ask for the types of a program, and the status is Done, then no thread in any book of that program has failed
-/// because a value was of the wrong kind. The book may come from `run`, `trace`, `watch`, `mill` or `drill`, with any
+/// because a value was of the wrong kind. The book may come from `run`, `trace`, `watch`, `serve`, `mill` or `drill`, with any
 /// numbers for its probes.
 pub fn typed_files_never_go_wrong()
     ensures { (words : List (List ℕ)) (c : Call) (file bytes : List ℕ) (program : ProgramParts) (book : BookView) → Says words c →

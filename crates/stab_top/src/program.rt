@@ -2,8 +2,9 @@
 ghost use Rattle.std.specs.Prelude.{◌≡◌, ◌≢◌, drop, map as each, string_bytes, IfOk, IfErr, None};
 ghost use Rattle.std.specs.IoError.{error_kind};
 ghost use Rattle.std.specs.Vec.Iter.{into_iter_items};
-ghost use Rattle.stab_top.specs.Call.{Says};
-ghost use Rattle.call_report.specs.Call.{call_of};
+ghost use Rattle.stab_words.specs.Asked.{asked};
+ghost use Rattle.stab_top.specs.Call.{Hears, Says};
+ghost use Rattle.call_report.specs.Call.{call_over};
 ghost use Rattle.stab_top.specs.Command.{EndsWith, EndsWithoutWords, Executes, execution_of};
 ghost use Rattle.sink_lines.specs.Device.{Rests, Writes, device};
 ghost use Rattle.call_report.specs.Report.{Blames, outcome_of};
@@ -14,6 +15,7 @@ ghost use Rattle.call_status.specs.declared.status.Status.TheVariants.{BadWords,
 use crate::top::stab;
 use call_report::{Report, reason};
 use call_status::Status;
+use number_source::NumberSource;
 use stab_base::NoMemory;
 use stab_files::{Files, Sink};
 use std::alloc::Global;
@@ -31,26 +33,30 @@ impl Gate for OpenGate {
 }
 
 /// Carries out the command in the program's arguments, writes to `errors` why it didn't end as Done, and returns the exit status.
-/// The first argument is the program's name. Arguments that aren't text give BadWords.
-pub fn command<R: Threads + Wait + Sync, F: Files, K: Sink, E: Sink>(
+/// The first argument is the program's name. Arguments that aren't text give BadWords. Only `serve` needs a source of numbers.
+pub fn command<R: Threads + Wait + Sync, F: Files, N: NumberSource, K: Sink, E: Sink>(
     rt: &R,
     alloc: Global,
     args: io::Result<Args>,
     files: &mut F,
+    source: &mut Option<N>,
     sink: &mut K,
     errors: &mut E,
 ) -> u8
     ensures executes { IfOk args (λ args. Executes (each string_bytes (drop 1 (into_iter_items args))) (execution_of
-        F.held F.faults files.old files.new K.told K.faults sink.old sink.new E.told E.faults errors.old errors.new result)) }
+        F.held F.faults files.old files.new N.came N.ended N.last source.old source.new
+        K.told K.faults sink.old sink.new E.told E.faults errors.old errors.new result)) }
     ensures no_memory { IfErr args (λ error. error_kind error ≡ ErrorKind.OutOfMemory → EndsWithoutWords OutOfMemory (execution_of
-        F.held F.faults files.old files.new K.told K.faults sink.old sink.new E.told E.faults errors.old errors.new result)) }
+        F.held F.faults files.old files.new N.came N.ended N.last source.old source.new
+        K.told K.faults sink.old sink.new E.told E.faults errors.old errors.new result)) }
     ensures no_text { IfErr args (λ error. error_kind error ≢ ErrorKind.OutOfMemory → EndsWithoutWords BadWords (execution_of
-        F.held F.faults files.old files.new K.told K.faults sink.old sink.new E.told E.faults errors.old errors.new result)) }
+        F.held F.faults files.old files.new N.came N.ended N.last source.old source.new
+        K.told K.faults sink.old sink.new E.told E.faults errors.old errors.new result)) }
     ensures kept { F.held files.new ≡ F.held files.old }
 {
     match args {
         Ok(args) => {
-            let report = called(rt, alloc, args, files, sink);
+            let report = called(rt, alloc, args, files, source, sink);
             finish(alloc, &report, errors)
         }
         Err(error) => {
@@ -60,19 +66,22 @@ pub fn command<R: Threads + Wait + Sync, F: Files, K: Sink, E: Sink>(
     }
 }
 
-fn called<R: Threads + Wait + Sync, F: Files, K: Sink>(
+fn called<R: Threads + Wait + Sync, F: Files, N: NumberSource, K: Sink>(
     rt: &R,
     alloc: Global,
     args: Args,
     files: &mut F,
+    source: &mut Option<N>,
     sink: &mut K,
 ) -> Report
-    ensures says { Says (each string_bytes (drop 1 (into_iter_items args))) (call_of F.held F.faults files.old files.new
-        (outcome_of K.told K.faults sink.old sink.new result)) }
+    ensures says { Says (each string_bytes (drop 1 (into_iter_items args))) (call_over F.held F.faults files.old files.new
+        N.came N.ended N.last source.old source.new (outcome_of K.told K.faults sink.old sink.new result)) }
+    ensures hears { Hears (asked (each string_bytes (drop 1 (into_iter_items args)))) (call_over F.held F.faults files.old files.new
+        N.came N.ended N.last source.old source.new (outcome_of K.told K.faults sink.old sink.new result)) }
     ensures kept { F.held files.new ≡ F.held files.old }
 {
     match words(alloc, args) {
-        Ok(words) => stab(rt, alloc, &words, files, sink, &OpenGate),
+        Ok(words) => stab(rt, alloc, &words, files, source, sink, &OpenGate),
         Err(NoMemory) => Report::bare(Status::NoMemory),
     }
 }

@@ -1,18 +1,21 @@
 //! The program's one call.
-ghost use Rattle.std.specs.Prelude.{◌≡◌, map as each, string_bytes};
+ghost use Rattle.std.specs.Prelude.{◌≡◌, Ok, map as each, string_bytes};
+ghost use Rattle.stab_words.specs.Asked.{asked};
 ghost use Rattle.stab_words.specs.Within.{IsRunWithin, IsWithin};
-ghost use Rattle.call_report.specs.Call.{call_of};
+ghost use Rattle.call_report.specs.Call.{call_of, call_over};
 ghost use Rattle.call_report.specs.Report.{outcome_of};
 ghost use Rattle.book_runs.specs.Ending.{AsReleased, AtTheEnd, shown_by};
-ghost use Rattle.stab_top.specs.Call.{RequestSays, RunSays, Says};
+ghost use Rattle.stab_top.specs.Call.{Hears, RequestSays, RunSays, Says};
 
 use crate::milling::run_mill;
 use crate::running::{means_of, run_given, trace_given};
+use crate::serving::serve_file;
 use crate::watching::watch_file;
 use book_runs::LastLine;
 use call_report::{Blame, Report, read_run};
 use call_status::Status;
 use file_commands::{check_file, drill_file, resume_file, save_file, types_file, verify_file};
+use number_source::NumberSource;
 use stab_files::{Files, Sink};
 use stab_words::{Request, RunArgs, WordFault, read_words};
 use std::alloc::Global;
@@ -26,40 +29,47 @@ use worker_lease::Gate;
 /// program shows; `check FILE` writes how many functions and texts the program has; `types FILE` writes how many functions it
 /// has, if it is typed; `save FILE TRACE CUT` writes the image at a cut of a trace; `resume IMAGE` goes on from an image, and
 /// writes what the run shows behind what was printed up to the cut; `watch FILE` is `run FILE` while a board shows the run's
-/// journal, with a last line of what it shows. `run`, `trace`, `watch` and `mill` use as many workers as the words say. One worker
-/// runs on the calling thread and calls no gate, but not in `watch`. Of several workers, each runs in a thread of its own, if one
-/// can be made, and calls the gate before each commit. So the call may wait.
-pub fn stab<R: Threads + Wait + Sync, F: Files, K: Sink, G: Gate + Sync>(
+/// journal, with a last line of what it shows; `serve FILE` is `run FILE` while the numbers come, from the source. `run`, `trace`,
+/// `watch`, `serve` and `mill` use as many workers as the words say. One worker runs on the calling thread and calls no gate, but not in
+/// `watch` and `serve`. Of several workers, each runs in a thread of its own, if one can be made, and calls the gate before each
+/// commit. So the call may wait. No other command than `serve` needs a source; without one `serve` ends with NoMemory.
+pub fn stab<R: Threads + Wait + Sync, F: Files, N: NumberSource, K: Sink, G: Gate + Sync>(
     rt: &R,
     alloc: Global,
     words: &[String],
     files: &mut F,
+    source: &mut Option<N>,
     sink: &mut K,
     gate: &G,
 ) -> Report
-    ensures says { Says (each string_bytes words.now) (call_of F.held F.faults files.old files.new
-        (outcome_of K.told K.faults sink.old sink.new result)) }
+    ensures says { Says (each string_bytes words.now) (call_over F.held F.faults files.old files.new
+        N.came N.ended N.last source.old source.new (outcome_of K.told K.faults sink.old sink.new result)) }
+    ensures hears { Hears (asked (each string_bytes words.now)) (call_over F.held F.faults files.old files.new
+        N.came N.ended N.last source.old source.new (outcome_of K.told K.faults sink.old sink.new result)) }
     ensures kept { F.held files.new ≡ F.held files.old }
 {
     match read_words(alloc, words) {
-        Ok(request) => answer_request(rt, alloc, &request, files, sink, gate),
+        Ok(request) => answer_request(rt, alloc, &request, files, source, sink, gate),
         Err(WordFault::NoMemory) => Report::bare(Status::NoMemory),
         Err(fault) => Report::blaming(Status::BadWords, Blame::Words(fault)),
     }
 }
 
 // Carries out a request.
-fn answer_request<R: Threads + Wait + Sync, F: Files, K: Sink, G: Gate + Sync>(
+fn answer_request<R: Threads + Wait + Sync, F: Files, N: NumberSource, K: Sink, G: Gate + Sync>(
     rt: &R,
     alloc: Global,
     request: &Request,
     files: &mut F,
+    source: &mut Option<N>,
     sink: &mut K,
     gate: &G,
 ) -> Report
     requires { IsWithin request.now }
-    ensures says { RequestSays (call_of F.held F.faults files.old files.new
-        (outcome_of K.told K.faults sink.old sink.new result)) request.now }
+    ensures says { RequestSays (call_over F.held F.faults files.old files.new
+        N.came N.ended N.last source.old source.new (outcome_of K.told K.faults sink.old sink.new result)) request.now }
+    ensures hears { Hears (Ok request.now) (call_over F.held F.faults files.old files.new
+        N.came N.ended N.last source.old source.new (outcome_of K.told K.faults sink.old sink.new result)) }
     ensures kept { F.held files.new ≡ F.held files.old }
 {
     match request {
@@ -73,6 +83,7 @@ fn answer_request<R: Threads + Wait + Sync, F: Files, K: Sink, G: Gate + Sync>(
         Request::Save(args) => save_file(alloc, args, files, sink),
         Request::Resume(args) => resume_file(alloc, args, files, sink),
         Request::Watch(args) => watch_file(rt, alloc, args, files, sink, gate),
+        Request::Serve(args) => serve_file(rt, alloc, args, files, source, sink, gate),
     }
 }
 

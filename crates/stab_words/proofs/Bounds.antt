@@ -3,7 +3,7 @@ use Rattle.std.proofs.Common.{ℕ, Option, Some, None, arith}
 use Rattle.std.specs.Prelude.{IfSome, IfOk, unwrap_or}
 use Rattle.std.specs.Option.{option_map, option_and_then, ok_or}
 use Rattle.stab_words.specs.declared.command.Command.{Command}
-use Rattle.stab_words.specs.declared.command.Command.TheVariants.{Run, Trace, Verify, Drill, Check, Mill, Types, Save, Resume, Watch}
+use Rattle.stab_words.specs.declared.command.Command.TheVariants.{Run, Trace, Verify, Drill, Check, Mill, Types, Save, Resume, Watch, Serve}
 use Rattle.stab_words.specs.declared.given.Given.{Given}
 use Rattle.stab_words.specs.declared.request.Request.{Request}
 use Rattle.stab_words.specs.declared.request.WordFault.{WordFault}
@@ -42,6 +42,7 @@ pub request_within : (c : Command) (g : Given) → IsGiven g → IfSome (request
 request_within Run g within = made g.file _ (λ _. run g within)
 request_within Trace g within = made g.file _ (λ _. run g within)
 request_within Watch g within = made g.file _ (λ _. run g within)
+request_within Serve g within = made g.file _ (λ _. run g within)
 request_within Check g within = made g.file _ (λ _. tt)
 request_within Types g within = made g.file _ (λ _. tt)
 request_within Verify g within = made_of g.file _ (λ _. made g.second _ (λ _. tt))

@@ -4,7 +4,7 @@ use Rattle.std.specs.Str.{bytes_eq}
 use Rattle.std.specs.List.{before_first, after_first, position_or_len}
 use Rattle.std.specs.Option.{option_and_then}
 use Rattle.stab_words.specs.declared.command.Command.{Command}
-use Rattle.stab_words.specs.declared.command.Command.TheVariants.{Run, Trace, Verify, Drill, Check, Mill, Types, Save, Resume, Watch}
+use Rattle.stab_words.specs.declared.command.Command.TheVariants.{Run, Trace, Verify, Drill, Check, Mill, Types, Save, Resume, Watch, Serve}
 use Rattle.stab_words.specs.declared.command.Setting.{Setting}
 use Rattle.stab_words.specs.declared.given.Given.{Given}
 use Rattle.stab_words.specs.declared.request.Request.{Request}
@@ -118,6 +118,8 @@ request_of Mill g = option_map (λ size.
     asks.Mill (record { size = size; workers = workers_of g; fuel = fuel_of g; quantum = quantum_of g })) g.number
 request_of Resume g = option_map (λ image.
     asks.Resume (record { image = image; fuel = fuel_of g; quantum = quantum_of g })) g.file
+request_of Serve g = option_map (λ file.
+    asks.Serve (record { file = file; workers = workers_of g; fuel = fuel_of g; quantum = quantum_of g })) g.file
 
 -- the request if each place is filled, MissingWord otherwise
 abbrev pub request : Command → Given → Result Request WordFault

@@ -2,7 +2,7 @@
 use Rattle.std.specs.Prelude.{ℕ, Bool, true, false, List, [], ◌∷◌, Option, codes}
 use Rattle.text_lines.specs.Table.{named_in}
 use Rattle.stab_words.specs.declared.command.Command.{Command}
-use Rattle.stab_words.specs.declared.command.Command.TheVariants.{Run, Trace, Verify, Drill, Check, Mill, Types, Save, Resume, Watch}
+use Rattle.stab_words.specs.declared.command.Command.TheVariants.{Run, Trace, Verify, Drill, Check, Mill, Types, Save, Resume, Watch, Serve}
 use Rattle.stab_words.specs.declared.command.Setting.{Setting}
 use Rattle.stab_words.specs.declared.command.Setting.TheVariants.{Probes, Workers, Fuel, Quantum}
 use Rattle.stab_words.specs.declared.command.Place.{Place}
@@ -13,7 +13,7 @@ abbrev pub commands : List (List ℕ × Command)
 commands =
     (codes "run", Run) ∷ (codes "trace", Trace) ∷ (codes "verify", Verify) ∷ (codes "drill", Drill)
     ∷ (codes "check", Check) ∷ (codes "mill", Mill) ∷ (codes "types", Types) ∷ (codes "save", Save)
-    ∷ (codes "resume", Resume) ∷ (codes "watch", Watch) ∷ []
+    ∷ (codes "resume", Resume) ∷ (codes "watch", Watch) ∷ (codes "serve", Serve) ∷ []
 
 abbrev pub command_named : List ℕ → Option Command
 command_named word = named_in commands word
@@ -38,6 +38,7 @@ places Types = File ∷ []
 places Save = File ∷ Second ∷ Number ∷ []
 places Resume = File ∷ []
 places Watch = File ∷ []
+places Serve = File ∷ []
 
 -- the options of each command
 abbrev pub takes : Command → Setting → Bool
@@ -57,6 +58,8 @@ takes Resume Fuel = true
 takes Resume Quantum = true
 takes Resume _ = false
 takes Watch option = true
+takes Serve Probes = false
+takes Serve _ = true
 
 -- the largest value of each number; the smallest is 1
 abbrev pub most_workers : ℕ

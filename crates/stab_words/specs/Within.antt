@@ -4,7 +4,7 @@ use Rattle.stab_words.specs.declared.given.Given.{Given}
 use Rattle.stab_words.specs.declared.given.Value.{Value}
 use Rattle.stab_words.specs.declared.given.Value.TheVariants as value
 use Rattle.stab_words.specs.declared.request.Request.{Request}
-use Rattle.stab_words.specs.declared.request.Request.TheVariants.{Run, Trace, Verify, Drill, Check, Mill, Types, Save, Resume, Watch}
+use Rattle.stab_words.specs.declared.request.Request.TheVariants.{Run, Trace, Verify, Drill, Check, Mill, Types, Save, Resume, Watch, Serve}
 use Rattle.stab_words.specs.Command.{most_workers, most_fuel, most_quantum, most_size}
 
 -- a number from 1 to `most`
@@ -37,6 +37,7 @@ abbrev pub IsWithin : Request → Type 0
 IsWithin (Run args) = IsRunWithin args.workers args.fuel args.quantum
 IsWithin (Trace args) = IsRunWithin args.workers args.fuel args.quantum
 IsWithin (Watch args) = IsRunWithin args.workers args.fuel args.quantum
+IsWithin (Serve args) = IsRunWithin args.workers args.fuel args.quantum
 IsWithin (Mill args) = IsUpTo most_size args.size × IsRunWithin args.workers args.fuel args.quantum
 IsWithin (Drill args) = IsUpTo most_fuel args.fuel × IsUpTo most_quantum args.quantum
 IsWithin (Resume args) = IsUpTo most_fuel args.fuel × IsUpTo most_quantum args.quantum

@@ -17,6 +17,7 @@ pub enum Command {
     Save,
     Resume,
     Watch,
+    Serve,
 }
 
 /// An option of a command.
@@ -39,7 +40,7 @@ pub enum Place {
     Number,
 }
 
-const COMMANDS: [(&str, Command); 10] = [
+const COMMANDS: [(&str, Command); 11] = [
     ("run", Command::Run),
     ("trace", Command::Trace),
     ("verify", Command::Verify),
@@ -50,6 +51,7 @@ const COMMANDS: [(&str, Command); 10] = [
     ("save", Command::Save),
     ("resume", Command::Resume),
     ("watch", Command::Watch),
+    ("serve", Command::Serve),
 ];
 
 const OPTIONS: [(&str, Setting); 4] = [
@@ -84,7 +86,8 @@ impl Command {
             | Command::Check
             | Command::Types
             | Command::Resume
-            | Command::Watch => &[Place::File],
+            | Command::Watch
+            | Command::Serve => &[Place::File],
             Command::Verify | Command::Drill => &[Place::File, Place::Second],
             Command::Save => &[Place::File, Place::Second, Place::Number],
             Command::Mill => &[Place::Number],
@@ -107,7 +110,7 @@ impl Command {
             ),
             Setting::Workers => matches!(
                 self,
-                Command::Run | Command::Trace | Command::Watch | Command::Mill
+                Command::Run | Command::Trace | Command::Watch | Command::Mill | Command::Serve
             ),
             Setting::Fuel | Setting::Quantum => matches!(
                 self,
@@ -117,6 +120,7 @@ impl Command {
                     | Command::Mill
                     | Command::Drill
                     | Command::Resume
+                    | Command::Serve
             ),
         }
     }

@@ -11,5 +11,5 @@ mod request;
 pub use name::Name;
 pub use reading::read_words;
 pub use request::{
-    DrillArgs, MillArgs, Request, ResumeArgs, RunArgs, SaveArgs, VerifyArgs, WordFault,
+    DrillArgs, MillArgs, Request, ResumeArgs, RunArgs, SaveArgs, ServeArgs, VerifyArgs, WordFault,
 };

@@ -10,7 +10,7 @@ use crate::command::{Command, Place, Setting, command_named, option_named};
 use crate::given::Given;
 use crate::name::Name;
 use crate::request::{
-    DrillArgs, MillArgs, Request, ResumeArgs, RunArgs, SaveArgs, VerifyArgs, WordFault,
+    DrillArgs, MillArgs, Request, ResumeArgs, RunArgs, SaveArgs, ServeArgs, VerifyArgs, WordFault,
 };
 use std::alloc::Global;
 
@@ -252,6 +252,7 @@ fn request_of(command: Command, given: Given) -> Option<Request>
         Command::Save => save(given),
         Command::Mill => mill(given),
         Command::Resume => resume(given),
+        Command::Serve => serve(given),
     }
 }
 
@@ -316,6 +317,17 @@ fn resume(given: Given) -> Option<Request>
 {
     Some(Request::Resume(ResumeArgs {
         image: given.file?,
+        fuel: given.fuel.unwrap_or(DEFAULT_FUEL),
+        quantum: given.quantum.unwrap_or(DEFAULT_QUANTUM),
+    }))
+}
+
+fn serve(given: Given) -> Option<Request>
+    ensures { result ≡ request_of Command.Serve given }
+{
+    Some(Request::Serve(ServeArgs {
+        file: given.file?,
+        workers: given.workers.unwrap_or(DEFAULT_WORKERS),
         fuel: given.fuel.unwrap_or(DEFAULT_FUEL),
         quantum: given.quantum.unwrap_or(DEFAULT_QUANTUM),
     }))

@@ -30,6 +30,8 @@ pub enum Request {
     Resume(ResumeArgs),
     /// Run a program, and show meanwhile how far it is.
     Watch(RunArgs),
+    /// Run a program whose numbers come while it runs.
+    Serve(ServeArgs),
 }
 
 /// The arguments of `run`, `trace` and `watch`. The quantum is the most pure steps that one event stands for.
@@ -82,6 +84,15 @@ pub struct SaveArgs {
 #[derive(Drop)]
 pub struct ResumeArgs {
     pub image: Name,
+    pub fuel: u64,
+    pub quantum: u32,
+}
+
+/// The arguments of `serve`: the program, and how it is run.
+#[derive(Drop)]
+pub struct ServeArgs {
+    pub file: Name,
+    pub workers: u32,
     pub fuel: u64,
     pub quantum: u32,
 }

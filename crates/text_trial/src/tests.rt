@@ -5,6 +5,7 @@ mod files;
 mod jobs;
 mod logs;
 mod mill;
+mod numbers;
 mod orders;
 mod probes;
 mod small_stack;

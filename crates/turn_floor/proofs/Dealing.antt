@@ -1,7 +1,7 @@
 -- The views of passes that are dealt out.
 use Rattle.std.proofs.Common.{◌≡◌, ◌≢◌, ℕ, zero, suc, ◌+◌, ◌-◌, ◌<◌, ◌≤◌, List, [], ◌∷◌, ◌++◌, length, map, refl, ap, sym, ◌∙◌, subst, arith}
 use Rattle.std.specs.Prelude.{slice_index_or}
-use Rattle.turn_floor.specs.Parts.{AreAll, FloorParts, IsPass, PassParts, pass_of}
+use Rattle.turn_floor.specs.Parts.{AreAll, FloorParts, IsPass, PassParts, new_pass}
 use Rattle.turn_floor.specs.Plays.{dealer, dealt}
 use Rattle.turn_floor.specs.Served.{from_to}
 use Rattle.turn_floor.specs.Start.{Start}
@@ -14,11 +14,21 @@ pub dealer_is : (start : Start) (n : ℕ) → 1 < n → dealer (dealing start (n
 dealer_is start n more = let e : n - 1 + 1 ≡ n = omega (arith, more) in ap (dealing start) e
 
 -- worker 1, once all numbers are given out
-pub first_pass : (start : Start) (last : ℕ) → last ≡ start.workers → 1 ≤ start.workers → start.workers ≤ 64 → IsPass (dealing start last) 1 0
-first_pass start last all some-worker few = record { number_is = refl; positive = omega arith; within = some-worker; few = few; idle = refl; one_seat = refl; last_is = all; len_is = refl; own_is = refl }
+pub first_pass : (start : Start) (last len : ℕ) → last ≡ start.workers → 1 ≤ start.workers → start.workers ≤ 64 → len ≡ length start.events → IsPass (dealing start last) 1 len
+first_pass start last len all some-worker few long = record {
+  number_is = refl;
+  positive = omega arith;
+  within = some-worker;
+  few = few;
+  idle = refl;
+  one_seat = refl;
+  last_is = all;
+  len_is = sym long;
+  own_is = refl;
+}
 
-pub next_pass : (start : Start) (n : ℕ) → 1 < n → n ≤ start.workers → start.workers ≤ 64 → IsPass (dealt (dealing start (n - 1))) n 0
-next_pass start n more within few = record {
+pub next_pass : (start : Start) (n len : ℕ) → 1 < n → n ≤ start.workers → start.workers ≤ 64 → len ≡ length start.events → IsPass (dealt (dealing start (n - 1))) n len
+next_pass start n len more within few long = record {
   number_is = omega (arith, more);
   positive = omega (arith, more);
   within = within;
@@ -26,21 +36,21 @@ next_pass start n more within few = record {
   idle = refl;
   one_seat = refl;
   last_is = sym (last_zero n start.workers (λ one. omega (arith, more, one)));
-  len_is = refl;
+  len_is = sym long;
   own_is = refl;
 }
 
-length-new : (floor : FloorParts) (a n : ℕ) → length (map (λ (w : ℕ). pass_of floor w [] 0 0) (from_to a n)) ≡ n
+length-new : (floor : FloorParts) (a n : ℕ) → length (map (new_pass floor) (from_to a n)) ≡ n
 length-new floor a zero = refl
 length-new floor a (suc n) = ap suc (length-new floor (suc a) n)
 
-new_at : (floor : FloorParts) (a n k : ℕ) (d : PassParts) → k < n → slice_index_or (map (λ (w : ℕ). pass_of floor w [] 0 0) (from_to a n)) k d ≡ pass_of floor (a + k) [] 0 0
+new_at : (floor : FloorParts) (a n k : ℕ) (d : PassParts) → k < n → slice_index_or (map (new_pass floor) (from_to a n)) k d ≡ new_pass floor (a + k)
 new_at floor a zero k d lt = absurd (omega (arith, lt))
-new_at floor a (suc n) zero d lt = let e : a ≡ a + 0 = omega arith in ap (λ (w : ℕ). pass_of floor w [] 0 0) e
-new_at floor a (suc n) (suc k) d lt = let e : suc a + k ≡ a + suc k = omega arith in new_at floor (suc a) n k d (omega (arith, lt)) ∙ ap (λ (w : ℕ). pass_of floor w [] 0 0) e
+new_at floor a (suc n) zero d lt = let e : a ≡ a + 0 = omega arith in ap (new_pass floor) e
+new_at floor a (suc n) (suc k) d lt = let e : suc a + k ≡ a + suc k = omega arith in new_at floor (suc a) n k d (omega (arith, lt)) ∙ ap (new_pass floor) e
 
 -- new passes are all that the floor has
-pub all_new : (floor : FloorParts) (n : ℕ) (passes : List PassParts) → passes ≡ map (λ (w : ℕ). pass_of floor w [] 0 0) (from_to 1 n) → floor.start.workers ≡ n → AreAll floor passes
+pub all_new : (floor : FloorParts) (n : ℕ) (passes : List PassParts) → passes ≡ map (new_pass floor) (from_to 1 n) → floor.start.workers ≡ n → AreAll floor passes
 all_new floor n passes e w = subst (AreAll floor) (sym e) record {
   own = λ k d lt. ap (λ (p : PassParts). p.floor) (new_at floor 1 n k d (omega (arith, lt, length-new floor 1 n)));
   every = length-new floor 1 n ∙ sym w;
@@ -48,17 +58,17 @@ all_new floor n passes e w = subst (AreAll floor) (sym e) record {
 }
 
 -- the passes so far, with one more behind them
-pub next_new : (floor : FloorParts) (n number m : ℕ) (passes after : List PassParts) (p : PassParts) → passes ≡ map (λ (w : ℕ). pass_of floor w [] 0 0) (from_to 2 n) → after ≡ passes ++ p ∷ [] → p ≡ pass_of floor number [] 0 0
-    → number ≡ 2 + n → suc n ≡ m → after ≡ map (λ (w : ℕ). pass_of floor w [] 0 0) (from_to 2 m)
+pub next_new : (floor : FloorParts) (n number m : ℕ) (passes after : List PassParts) (p : PassParts) → passes ≡ map (new_pass floor) (from_to 2 n) → after ≡ passes ++ p ∷ [] → p ≡ new_pass floor number
+    → number ≡ 2 + n → suc n ≡ m → after ≡ map (new_pass floor) (from_to 2 m)
 next_new floor n number m passes after p so-far put is next more =
-    let new : p ≡ pass_of floor (2 + n) [] 0 0 = is ∙ ap (λ (w : ℕ). pass_of floor w [] 0 0) next in
+    let new : p ≡ new_pass floor (2 + n) = is ∙ ap (new_pass floor) next in
     put
     ∙ (λ i. so-far i ++ new i ∷ [])
-    ∙ sym (map-append (λ (w : ℕ). pass_of floor w [] 0 0) (from_to 2 n) ((2 + n) ∷ []))
-    ∙ ap (map (λ (w : ℕ). pass_of floor w [] 0 0)) (sym (from_to_end 2 n))
-    ∙ ap (λ (k : ℕ). map (λ (w : ℕ). pass_of floor w [] 0 0) (from_to 2 k)) more
+    ∙ sym (map-append (new_pass floor) (from_to 2 n) ((2 + n) ∷ []))
+    ∙ ap (map (new_pass floor)) (sym (from_to_end 2 n))
+    ∙ ap (λ (k : ℕ). map (new_pass floor) (from_to 2 k)) more
 
 -- worker 1's pass comes to the front
-pub first_new : (floor : FloorParts) (n m : ℕ) (passes after : List PassParts) (p : PassParts) → passes ≡ map (λ (w : ℕ). pass_of floor w [] 0 0) (from_to 2 n) → after ≡ p ∷ passes → p ≡ pass_of floor 1 [] 0 0 → suc n ≡ m
-    → after ≡ map (λ (w : ℕ). pass_of floor w [] 0 0) (from_to 1 m)
-first_new floor n m passes after p others put is more = put ∙ (λ i. is i ∷ others i) ∙ ap (λ (k : ℕ). map (λ (w : ℕ). pass_of floor w [] 0 0) (from_to 1 k)) more
+pub first_new : (floor : FloorParts) (n m : ℕ) (passes after : List PassParts) (p : PassParts) → passes ≡ map (new_pass floor) (from_to 2 n) → after ≡ p ∷ passes → p ≡ new_pass floor 1 → suc n ≡ m
+    → after ≡ map (new_pass floor) (from_to 1 m)
+first_new floor n m passes after p others put is more = put ∙ (λ i. is i ∷ others i) ∙ ap (λ (k : ℕ). map (new_pass floor) (from_to 1 k)) more

@@ -7,7 +7,7 @@ use Rattle.stab_journal.specs.declared.event.Event.{Event}
 use Rattle.stab_journal.specs.declared.event.Recorded.{Recorded}
 use Rattle.stab_journal.specs.Own.{own, own_at, own_from}
 use Rattle.turn_floor.specs.declared.kept.Told.{Told}
-use Rattle.turn_floor.specs.Served.{Adds, AreOf, Tells, from_to, recorded, told_events}
+use Rattle.turn_floor.specs.Served.{Adds, AddsOf, AreOf, Tells, from_to, recorded, told_events}
 
 module _ {A : Type 0} where
   pub prefix_self : (xs : List A) → IsPrefix xs xs
@@ -79,6 +79,28 @@ named_upto m n (e ∷ es) le named = let is = named.0 in let low = is.0 in let h
 pub none_yet_from : (n q : ℕ) (es : List Event) → AreOf n es → own_from (suc n) q es ≡ []
 none_yet_from n q [] named = refl
 none_yet_from n q (e ∷ es) named = let is = named.0 in let high = is.1 in ap (λ b. cond b (at q e ∷ []) [] ++ own_from (suc n) (suc q) es) (ne_eqb e.worker (suc n) (λ same. omega arith)) ∙ none_yet_from n (suc q) es named.1
+
+-- nor had it any, but those that were there at first
+pub own_first : (n : ℕ) (first whole : List Event) → AddsOf n first whole → own (suc n) whole ≡ own (suc n) first
+own_first n first whole a =
+    ap (own (suc n)) a.1
+    ∙ own_append (suc n) 1 first a.0
+    ∙ ap (λ (l : List Recorded). own (suc n) first ++ l) (none_yet_from n (1 + length first) a.0 a.2)
+    ∙ append-nil (own (suc n) first)
+
+-- what was added stays, and more comes from one of the numbers
+pub adds_more : (v n : ℕ) (first whole after : List Event) → 1 ≤ v → v ≤ n → AddsOf n first whole → Adds v whole after → AddsOf n first after
+adds_more v n first whole after pos le a more =
+    (a.0 ++ more.0, more.1 ∙ ap (λ (l : List Event). l ++ more.0) a.1 ∙ append_assoc first a.0 more.0, named_more v n a.0 more.0 pos le more.2 a.2)
+
+pub adds_upto : (m n : ℕ) (first whole : List Event) → m ≤ n → AddsOf m first whole → AddsOf n first whole
+adds_upto m n first whole le a = (a.0, a.1, named_upto m n a.0 le a.2)
+
+pub adds_nothing : (n : ℕ) (first : List Event) → AddsOf n first first
+adds_nothing n first = ([], sym (append-nil first), tt)
+
+pub adds_begins : (n : ℕ) (first whole : List Event) → AddsOf n first whole → IsPrefix first whole
+adds_begins n first whole a = (a.0, sym a.1)
 
 pub same_slot : {S : Type 0} (h k : S) (c : List (ℕ × S)) → c ≡ (0, h) ∷ [] → c ≡ (0, k) ∷ [] → h ≡ k
 same_slot {S} h k c p q = ap (λ (l : List (ℕ × S)). (get_or l 0 (0, k)).1) (sym p ∙ q)

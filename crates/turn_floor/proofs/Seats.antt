@@ -16,7 +16,7 @@ use Rattle.stab_journal.specs.Own.{own, own_from}
 use Rattle.turn_floor.specs.Served.{AreOf}
 use Rattle.turn_floor.specs.Turn.{total_seats, is_here, Fits, Placed, Turned}
 use Rattle.turn_floor.specs.Plays.{dealer, dealt, both, spent, longer}
-use Rattle.turn_floor.proofs.Histories.{named_upto, none_yet_from}
+use Rattle.turn_floor.proofs.Histories.{adds_begins, adds_nothing, adds_upto, own_first, prefix_self}
 use Rattle.turn_floor.proofs.Steps.{at_length, seats_set, holder_is}
 
 at_end : {A : Type 0} (l : List A) (a b : A) (j : ℕ) → get_elem? (l ++ a ∷ []) j ≡ some b → (get_elem? l j ≡ some b) ⊎ ((j ≡ length l) × (a ≡ b))
@@ -97,9 +97,9 @@ module _ {S : Type 0} (Keeps : Start → S → Type 0) (events_of : S → List E
             (λ y. subst (λ (z : ℕ × View). Fits start t.whole (suc t.last) t.holder z.0 z.1) (λ k. (sym y.0 k, y.1 k))
             record {
               start_is = f.start_is;
-              seen_is = f.seen_is;
+              seen_is = subst (λ (st : Start). IsPrefix st.events t.whole) (sym f.start_is) (adds_begins t.last start.events t.whole t.grown);
               olds_are = tt;
-              own_is = sym (ap (λ (n : ℕ). own n t.whole) next ∙ none_yet_from t.last 1 t.whole t.named);
+              own_is = (λ k. own (next k) (f.start_is k).events) ∙ sym (own_first t.last start.events t.whole t.grown) ∙ ap (λ (n : ℕ). own n t.whole) (sym next);
               positive = omega arith;
               within = omega arith;
               last_is = λ none-last. absurd (omega arith);
@@ -119,7 +119,8 @@ module _ {S : Type 0} (Keeps : Start → S → Type 0) (events_of : S → List E
             (at_end l (dealt v) a i ea);
         counted = let c = seats_set s.views id v (dealer v) at in let d = seats_end l (dealt v) in let k = t.counted in omega arith;
         room = let w = ap (λ (st : Start). st.workers) f.start_is in omega arith;
-        named = named_upto t.last (suc t.last) t.whole (omega arith) t.named;
+        named = t.named;
+        grown = adds_upto t.last (suc t.last) start.events t.whole (omega arith) t.grown;
       }
 
   pub joins_in : (id other : ℕ) (v w : View) → 0 < v.seats → 0 < w.seats → v.holds ≡ false → w.holds ≡ false → w.last ≡ 0 → Joins Rule id v other w (both v w) spent
@@ -158,13 +159,14 @@ module _ {S : Type 0} (Keeps : Start → S → Type 0) (events_of : S → List E
         counted = let c = seats_set s.views id v (both v w) at in let d = seats_set one other w spent there in let k = t.counted in omega arith;
         room = t.room;
         named = t.named;
+        grown = t.grown;
       }
 
   pub ends : (id : ℕ) (v : View) (ws : List ℕ) (xs : List S) → 0 < v.last → v.seats ≡ v.last → v.holds ≡ false → Final (Seen Rule id v) ws xs
-      → (k : S) × (get_elem? xs 0 ≡ some k) × Keeps start k × IsPrefix v.seen (events_of k) × AllByRecursion (λ (old : List Event). IsPrefix old (events_of k)) v.olds × (v.own ≡ own v.worker (events_of k)) × AreOf v.last (events_of k)
+      → (k : S) × (get_elem? xs 0 ≡ some k) × Keeps start k × IsPrefix v.seen (events_of k) × AllByRecursion (λ (old : List Event). IsPrefix old (events_of k)) v.olds × (v.own ≡ own v.worker (events_of k)) × AreOf start.workers (events_of k) × IsPrefix start.events (events_of k)
   ends id v ws xs first every idle (s, both-facts, words, long, homes) = ends_at s both-facts.0 both-facts.1 homes both-facts.0.holder both-facts.0.placed refl where
     ends_at : (s : State S View) (t : Rule s) → get_elem? s.views id ≡ some v → ((k : ℕ) (y : S) → get_elem? s.homes k ≡ some (some y) → get_elem? xs k ≡ some y) → (h : Option ℕ) → Placed Keeps events_of start t.whole s.words s.homes h → t.holder ≡ h
-        → (k : S) × (get_elem? xs 0 ≡ some k) × Keeps start k × IsPrefix v.seen (events_of k) × AllByRecursion (λ (old : List Event). IsPrefix old (events_of k)) v.olds × (v.own ≡ own v.worker (events_of k)) × AreOf v.last (events_of k)
+        → (k : S) × (get_elem? xs 0 ≡ some k) × Keeps start k × IsPrefix v.seen (events_of k) × AllByRecursion (λ (old : List Event). IsPrefix old (events_of k)) v.olds × (v.own ≡ own v.worker (events_of k)) × AreOf start.workers (events_of k) × IsPrefix start.events (events_of k)
     ends_at s t at homes none p e =
         let f = t.each id v at (omega arith) in
         let is : t.whole ≡ events_of p.1 = sym p.4 in (
@@ -174,7 +176,8 @@ module _ {S : Type 0} (Keeps : Start → S → Type 0) (events_of : S → List E
           subst (IsPrefix v.seen) is f.seen_is,
           subst (λ (l : List Event). AllByRecursion (λ (old : List Event). IsPrefix old l) v.olds) is f.olds_are,
           f.own_is ∙ ap (own v.worker) is,
-          subst (λ (z : ℕ × List Event). AreOf z.0 z.1) (λ i. (sym (f.last_is first).1 i, is i)) t.named,
+          subst (AreOf start.workers) is t.named,
+          subst (IsPrefix start.events) is (adds_begins t.last start.events t.whole t.grown),
         )
     ends_at s t at homes (some i) p e =
         let h = t.holder_lives i e in
@@ -182,27 +185,40 @@ module _ {S : Type 0} (Keeps : Start → S → Type 0) (events_of : S → List E
         let f = t.each id v at (omega arith) in let last = (f.last_is first).1 in let all = t.counted in let some-seat = h.2 in
         absurd (omega arith)
 
-  pub opens : (k : S) → 1 ≤ start.workers → events_of k ≡ [] → Keeps start k → Rule (Rattle.atomic_table.specs.Table.opening (0 ∷ 0 ∷ []) (k ∷ []) (Rattle.turn_floor.specs.Turn.first_view start))
-  opens k some-worker none-yet is = record {
-    whole = [];
+  pub opens : (k : S) (len : ℕ) → 1 ≤ start.workers → len ≡ length start.events → events_of k ≡ start.events → AreOf start.workers start.events → Keeps start k
+      → Rule (Rattle.atomic_table.specs.Table.opening (0 ∷ len ∷ []) (k ∷ []) (Rattle.turn_floor.specs.Turn.first_view start))
+  opens k len some-worker long has named is = record {
+    whole = start.events;
     last = 1;
     holder = none;
-    placed = (refl, k, refl, is, none-yet);
+    placed = (ap (λ (n : ℕ). 0 ∷ n ∷ []) long, k, refl, is, has);
     holder_lives = λ i e. absurd (some-ne-none i (sym e));
     each = λ id v e live. only id v e;
     apart = λ i j v w ei ej lv lw same. first_only i v ei ∙ sym (first_only j w ej);
     counted = refl;
     room = some-worker;
-    named = tt;
+    named = named;
+    grown = adds_nothing 1 start.events;
   } where
     first_only : (i : ℕ) (v : View) → get_elem? (Rattle.turn_floor.specs.Turn.first_view start ∷ []) i ≡ some v → i ≡ 0
     first_only zero v e = refl
     first_only (suc i) v e = absurd (some-ne-none v (sym e))
 
-    only : (id : ℕ) (v : View) → get_elem? (Rattle.turn_floor.specs.Turn.first_view start ∷ []) id ≡ some v → Fits start [] 1 none id v
-    only zero v e = subst (Fits start [] 1 none 0) (some-injective _ v e)
-        record { start_is = refl; seen_is = ([], refl); olds_are = tt; own_is = refl; positive = omega arith; within = omega arith; last_is = λ _. (refl, refl); holds_is = refl; saw_all = λ yes. absurd (true≢false (sym yes)) }
+    only : (id : ℕ) (v : View) → get_elem? (Rattle.turn_floor.specs.Turn.first_view start ∷ []) id ≡ some v → Fits start start.events 1 none id v
+    only zero v e = subst (Fits start start.events 1 none 0) (some-injective _ v e)
+        record {
+          start_is = refl;
+          seen_is = prefix_self start.events;
+          olds_are = tt;
+          own_is = refl;
+          positive = omega arith;
+          within = omega arith;
+          last_is = λ _. (refl, refl);
+          holds_is = refl;
+          saw_all = λ yes. absurd (true≢false (sym yes));
+        }
     only (suc id) v e = absurd (some-ne-none v (sym e))
 
-  pub opens_with : (slots ks : List S) (k : S) → ks ≡ slots ++ k ∷ [] → slots ≡ [] → 1 ≤ start.workers → events_of k ≡ [] → Keeps start k → Rule (Rattle.atomic_table.specs.Table.opening (0 ∷ 0 ∷ []) ks (Rattle.turn_floor.specs.Turn.first_view start))
-  opens_with slots ks k e empty some-worker none-yet is = subst (λ (l : List S). Rule (Rattle.atomic_table.specs.Table.opening (0 ∷ 0 ∷ []) l (Rattle.turn_floor.specs.Turn.first_view start))) (sym (e ∙ ap (λ (l : List S). l ++ k ∷ []) empty)) (opens k some-worker none-yet is)
+  pub opens_with : (slots ks : List S) (k : S) (len : ℕ) → ks ≡ slots ++ k ∷ [] → slots ≡ [] → 1 ≤ start.workers → len ≡ length start.events → events_of k ≡ start.events → AreOf start.workers start.events → Keeps start k
+      → Rule (Rattle.atomic_table.specs.Table.opening (0 ∷ len ∷ []) ks (Rattle.turn_floor.specs.Turn.first_view start))
+  opens_with slots ks k len e empty some-worker long has named is = subst (λ (l : List S). Rule (Rattle.atomic_table.specs.Table.opening (0 ∷ len ∷ []) l (Rattle.turn_floor.specs.Turn.first_view start))) (sym (e ∙ ap (λ (l : List S). l ++ k ∷ []) empty)) (opens k len some-worker long has named is)

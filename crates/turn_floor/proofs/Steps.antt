@@ -11,10 +11,10 @@ use Rattle.turn_floor.specs.Start.{Start}
 use Rattle.stab_journal.specs.declared.event.Event.{Event}
 use Rattle.turn_floor.specs.declared.view.View.{View}
 use Rattle.stab_journal.specs.Own.{own}
-use Rattle.turn_floor.specs.Served.{AreOf, Adds}
+use Rattle.turn_floor.specs.Served.{AddsOf, AreOf, Adds}
 use Rattle.turn_floor.specs.Turn.{total_seats, is_here, Fits, Placed, Turned}
 use Rattle.turn_floor.specs.Plays.{holding, showing, giving, taken, shown, given}
-use Rattle.turn_floor.proofs.Histories.{prefix_self, prefix_more, olds_more, own_same, named_more, named_upto}
+use Rattle.turn_floor.proofs.Histories.{prefix_self, prefix_more, olds_more, own_same, named_more, adds_more}
 
 pub at_length : {A : Type 0} (l : List A) (i : ℕ) (a : A) → get_elem? l i ≡ some a → i < length l
 at_length [] i a e = absurd (some-ne-none a (sym e))
@@ -57,9 +57,10 @@ module _ {S : Type 0} (Keeps : Start → S → Type 0) (events_of : S → List E
       → ((i : ℕ) → holder ≡ some i → i ≡ id)
       → Fits start whole t.last holder id w
       → ((j : ℕ) (u : View) → j ≢ id → get_elem? s.views j ≡ some u → 0 < u.seats → Fits start t.whole t.last t.holder j u → Fits start whole t.last holder j u)
-      → AreOf t.last whole
+      → AreOf start.workers whole
+      → AddsOf t.last start.events whole
       → Rule record { words = words; homes = homes; views = set s.views id w }
-  moved s t id v w words homes whole holder at alive number many stands lives fits others named = record {
+  moved s t id v w words homes whole holder at alive number many stands lives fits others named grown = record {
     whole = whole;
     last = t.last;
     holder = holder;
@@ -74,6 +75,7 @@ module _ {S : Type 0} (Keeps : Start → S → Type 0) (events_of : S → List E
     counted = let c = seats_set s.views id v w at in let k = t.counted in omega arith;
     room = t.room;
     named = named;
+    grown = grown;
   } where
     here : get_elem? (set s.views id w) id ≡ some w
     here = set_here s.views id w (at_length s.views id v at)
@@ -108,7 +110,8 @@ module _ {S : Type 0} (Keeps : Start → S → Type 0) (events_of : S → List E
               holds_is = g.holds_is ∙ ap (λ (h : Option ℕ). is_here h j) none-holds ∙ not_here id j ne;
               saw_all = λ holds. absurd (true≢false (sym holds ∙ g.holds_is ∙ ap (λ (h : Option ℕ). is_here h j) none-holds));
             })
-            t.named,
+            t.named
+            t.grown,
         (
           (λ _. (
             k,
@@ -117,7 +120,7 @@ module _ {S : Type 0} (Keeps : Start → S → Type 0) (events_of : S → List E
               keeps = subst (λ (st : Start). Keeps st k) (sym f.start_is) at-home.3;
               seen_is = subst (IsPrefix v.seen) (sym whole-is) f.seen_is;
               own_is = f.own_is ∙ ap (own v.worker) (sym whole-is);
-              named = subst (AreOf v.start.workers) (sym whole-is) (named_upto t.last v.start.workers t.whole (let r = t.room in let w = ap (λ (st : Start). st.workers) f.start_is in omega arith) t.named);
+              named = subst (AreOf v.start.workers) (sym whole-is) (subst (λ (st : Start). AreOf st.workers t.whole) (sym f.start_is) t.named);
             },
           )),
           λ miss. absurd (miss hit),
@@ -164,7 +167,8 @@ module _ {S : Type 0} (Keeps : Start → S → Type 0) (events_of : S → List E
               holds_is = g.holds_is ∙ ap (λ (h : Option ℕ). is_here h j) o.0;
               saw_all = λ yes. absurd (true≢false (sym yes ∙ g.holds_is ∙ ap (λ (h : Option ℕ). is_here h j) o.0 ∙ sym (not_here id j ne)));
             })
-            (subst (AreOf t.last) (sym more.1) (named_more v.worker t.last t.whole more.0 f.positive f.within more.2 t.named)),
+            (subst (AreOf start.workers) (sym more.1) (named_more v.worker start.workers t.whole more.0 f.positive (let w = f.within in let r = t.room in omega arith) more.2 t.named))
+            (adds_more v.worker t.last start.events t.whole after f.positive f.within t.grown more),
         (λ k' e. ap (λ (c : List (ℕ × S)). (showing v (events_of (get_or c 0 (0, k)).1), (0, k) ∷ [])) e),
       )
 
@@ -193,7 +197,8 @@ module _ {S : Type 0} (Keeps : Start → S → Type 0) (events_of : S → List E
               holds_is = off;
               saw_all = λ yes. absurd (true≢false (sym yes ∙ off));
             })
-            t.named,
+            t.named
+            t.grown,
         refl,
       )
 

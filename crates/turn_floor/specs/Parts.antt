@@ -28,6 +28,10 @@ floor_of table start = record { table = table; start = start }
 abbrev pub pass_of : FloorParts → ℕ → List Event → ℕ → ℕ → PassParts
 pass_of floor worker seen commits stale = record { floor = floor; worker = worker; seen = seen; commits = commits; stale = stale }
 
+-- the pass of a worker before its first turn: it has seen what the floor was given
+abbrev pub new_pass : FloorParts → ℕ → PassParts
+new_pass floor worker = pass_of floor worker floor.start.events 0 0
+
 -- passes of the floor, one for each of its workers, in the order of their numbers
 pub record AreAll (floor : FloorParts) (passes : List PassParts) : Type 0 where
   pub own : All (λ (p : PassParts). p.floor ≡ floor) passes

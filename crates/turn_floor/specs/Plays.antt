@@ -25,9 +25,9 @@ giving v = view_of v.worker v.start v.seen v.olds v.own false v.seats v.last
 abbrev pub dealer : View → View
 dealer v = view_of v.worker v.start v.seen v.olds v.own v.holds v.seats (v.last + 1)
 
--- split: the new seat has that number, and made no event
+-- split: the new seat has that number, and has seen what the floor was given
 abbrev pub dealt : View → View
-dealt v = view_of (v.last + 1) v.start v.seen [] [] false 1 0
+dealt v = view_of (v.last + 1) v.start v.start.events [] (own (v.last + 1) v.start.events) false 1 0
 
 abbrev pub longer : List Event → List Event → List Event
 longer xs ys = if nat_le (length xs) (length ys) then ys else xs

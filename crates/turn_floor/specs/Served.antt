@@ -26,6 +26,10 @@ told_events t events = take t.count (drop (t.first.0 - 1) (recorded 1 events))
 abbrev pub AreOf : ℕ → List Event → Type 0
 AreOf n events = AllByRecursion (λ (e : Event). (1 ≤ e.worker) × (e.worker ≤ n)) events
 
+-- the events at first, and then such that each carry a number from 1 to n
+abbrev pub AddsOf : ℕ → List Event → List Event → Type 0
+AddsOf n first events = (new : List Event) × (events ≡ first ++ new) × AreOf n new
+
 -- the numbers a, a + 1, .., of which there are n
 abbrev pub from_to : ℕ → ℕ → List ℕ
 from_to a zero = []

@@ -8,16 +8,16 @@ use Rattle.atomic_table.specs.Table.{State}
 use Rattle.stab_journal.specs.Own.{own}
 use Rattle.stab_journal.specs.declared.event.Event.{Event}
 use Rattle.stab_journal.specs.declared.event.Recorded.{Recorded}
-use Rattle.turn_floor.specs.Served.{AreOf}
+use Rattle.turn_floor.specs.Served.{AddsOf, AreOf}
 use Rattle.turn_floor.specs.Start.{Start}
 use Rattle.turn_floor.specs.declared.view.View.{View}
 
 abbrev pub view_of : ℕ → Start → List Event → List (List Event) → List Recorded → Bool → ℕ → ℕ → View
 view_of worker start seen olds own holds seats last = record { worker = worker; start = start; seen = seen; olds = olds; own = own; holds = holds; seats = seats; last = last }
 
--- worker 1 has seen nothing, and the numbers to the last one were given out
+-- worker 1 has seen what the floor was given, and the numbers to the last one were given out
 abbrev pub dealing : Start → ℕ → View
-dealing start last = view_of 1 start [] [] [] false 1 last
+dealing start last = view_of 1 start start.events [] (own 1 start.events) false 1 last
 
 -- no other number was given out
 abbrev pub first_view : Start → View
@@ -63,4 +63,5 @@ module _ {S : Type 0} (Keeps : Start → S → Type 0) (events_of : S → List E
     pub apart : (i j : ℕ) (v w : View) → get_elem? s.views i ≡ some v → get_elem? s.views j ≡ some w → 0 < v.seats → 0 < w.seats → v.worker ≡ w.worker → i ≡ j
     pub counted : total_seats s.views ≡ last
     pub room : last ≤ start.workers
-    pub named : AreOf last whole
+    pub named : AreOf start.workers whole
+    pub grown : AddsOf last start.events whole

@@ -33,6 +33,7 @@ impl<K: Kept, C: Ledger, S: Ledger> Floor<K, C, S> {
         requires all { AreAll self passes.items }
         requires parts { (C.parts ≡ self.start.workers) × (S.parts ≡ self.start.workers) }
         ensures job { K.job_of result.0 ≡ self.start.job }
+        ensures begins { IsPrefix self.start.events (K.events_of result.0) }
         ensures seen { All (λ p. IsPrefix p.seen (K.events_of result.0)) passes.items }
         ensures own { All (λ p. p.worker ≡ 1 → own 1 (K.events_of result.0) ≡ own 1 p.seen) passes.items }
         ensures named { AreOf self.start.workers (K.events_of result.0) }
@@ -133,10 +134,11 @@ impl<K: Kept, C: Ledger, S: Ledger> Floor<K, C, S> {
         requires id { seat.table_id ≡ self.table }
         requires every { (0 < seat.me.0.last) × (seat.me.0.seats ≡ seat.me.0.last) × (seat.me.0.holds ≡ false) }
         ensures keeps { Keeps K.job_of K.commits_of K.stale_of self.start result }
+        ensures begins { IsPrefix self.start.events (K.events_of result.state) }
         ensures seen { IsPrefix seat.me.0.seen (K.events_of result.state)
             × AllByRecursion (λ old. IsPrefix old (K.events_of result.state)) seat.me.0.olds }
         ensures own { seat.me.0.own ≡ own seat.me.0.worker (K.events_of result.state) }
-        ensures named { AreOf seat.me.0.last (K.events_of result.state) }
+        ensures named { AreOf self.start.workers (K.events_of result.state) }
     {
         let Floor {
             table,

@@ -63,15 +63,16 @@ impl<K: Kept, C: Ledger, S: Ledger> Model for Floor<K, C, S> {
     ghost use Rattle.atomic_table.specs.Seated.{table_id_coded};
     ghost use Rattle.stab_code.specs.contracts.job.Job as jobs;
     ghost use Rattle.stab_journal.specs.Event.{IsWorker};
+    ghost use Rattle.stab_journal.specs.contracts.event.Event as events;
     ghost use Rattle.turn_floor.specs.Start.{start_code, start_of};
     ghost use Rattle.turn_floor.specs.Parts.{FloorParts, floor_code, floor_of};
 
     ghost Value = { FloorParts };
 
-    ghost coded = { floor_code table_id_coded (start_code jobs.the_row.coded) };
+    ghost coded = { floor_code table_id_coded (start_code jobs.the_row.coded events.the_row.coded) };
 
     ghost view = { λ f. floor_of f.table.shared.table_id
-        (start_of (K.job_of f.table.shared.key.state.value) (K.commits_of f.table.shared.key.state.value) (K.stale_of f.table.shared.key.state.value) f.table.shared.key.workers) };
+        (start_of (K.job_of f.table.shared.key.state.value) (K.events_of f.table.shared.key.state.value) (K.commits_of f.table.shared.key.state.value) (K.stale_of f.table.shared.key.state.value) f.table.shared.key.workers) };
 
     ghost invariant = { λ f. (f.table.shared.table_id.words ≡ 2) × (f.table.shared.table_id.slots ≡ 1) × IsWorker f.table.shared.key.workers };
 }

@@ -1,8 +1,8 @@
 //! A floor is made, and its passes are dealt out.
-ghost use Rattle.std.specs.Prelude.{◌≡◌, ◌+◌, ◌-◌, ◌<◌, ◌≤◌, [], map, IfOk, IfErr};
+ghost use Rattle.std.specs.Prelude.{◌≡◌, ◌+◌, ◌-◌, ◌<◌, ◌≤◌, [], length, map, IfOk, IfErr};
 ghost use Rattle.stab_journal.specs.Event.{IsWorker};
-ghost use Rattle.turn_floor.specs.Parts.{AreAll, pass_of};
-ghost use Rattle.turn_floor.specs.Served.{from_to};
+ghost use Rattle.turn_floor.specs.Parts.{AreAll, new_pass};
+ghost use Rattle.turn_floor.specs.Served.{AreOf, from_to};
 ghost use Rattle.turn_floor.specs.Start.{start_of};
 ghost use Rattle.turn_floor.specs.Turn.{dealing};
 
@@ -34,7 +34,8 @@ struct Opened<K: Kept, C: Ledger, S: Ledger> {
 }
 
 impl<K: Kept, C: Ledger, S: Ledger> Floor<K, C, S> {
-    /// A floor over the state, and a pass for each worker, numbered from 1.
+    /// A floor over the state, and a pass for each worker, numbered from 1. The state may have events of these
+    /// workers; then each pass has seen them.
     pub fn new(
         alloc: Global,
         state: K,
@@ -43,15 +44,16 @@ impl<K: Kept, C: Ledger, S: Ledger> Floor<K, C, S> {
         stale: Blank,
     ) -> Result<(Floor<K, C, S>, Vec<Pass<K, C, S>>), FloorRefused<K>>
         requires workers { IsWorker workers }
-        requires empty { K.events_of state ≡ [] }
+        requires named { AreOf workers (K.events_of state) }
         requires commits { (commits.name ≡ C.name) × (commits.parts ≡ C.parts) × (commits.parts ≡ workers) }
         requires stale { (stale.name ≡ S.name) × (stale.parts ≡ S.parts) × (stale.parts ≡ workers) }
         ensures start { IfOk result (λ r. r.0.start
-            ≡ start_of (K.job_of state) (K.commits_of state) (K.stale_of state) workers) }
+            ≡ start_of (K.job_of state) (K.events_of state) (K.commits_of state) (K.stale_of state) workers) }
         ensures all { IfOk result (λ r. AreAll r.0 r.1.items) }
-        ensures passes { IfOk result (λ r. r.1.items ≡ map (λ w. pass_of r.0 w [] 0 0) (from_to 1 workers)) }
+        ensures passes { IfOk result (λ r. r.1.items ≡ map (new_pass r.0) (from_to 1 workers)) }
         ensures err { IfErr result (λ r. r.state ≡ state) }
     {
+        let len = state.history().len();
         let Ok(mut passes) = Vec::with_capacity(alloc, workers as usize) else {
             return Err(FloorRefused { state });
         };
@@ -60,7 +62,7 @@ impl<K: Kept, C: Ledger, S: Ledger> Floor<K, C, S> {
             mut seat,
             mut commits,
             mut stale,
-        } = match open_table(alloc, state, workers, commits, stale) {
+        } = match open_table(alloc, state, len, workers, commits, stale) {
             Ok(opened) => opened,
             Err(refused) => {
                 passes.destroy_empty();
@@ -70,9 +72,9 @@ impl<K: Kept, C: Ledger, S: Ledger> Floor<K, C, S> {
         let mut last = 1;
         while last < workers {
             last += 1;
-            passes.push_reserved(floor.deal(&mut seat, last, &mut commits, &mut stale));
+            passes.push_reserved(floor.deal(&mut seat, last, len, &mut commits, &mut stale));
         }
-        passes.push_reserved(Pass::begin(seat, 1, commits, stale));
+        passes.push_reserved(Pass::begin(seat, 1, len, commits, stale));
         passes.rotate_right(1);
         Ok((floor, passes))
     }
@@ -82,37 +84,41 @@ impl<K: Kept, C: Ledger, S: Ledger> Floor<K, C, S> {
         &self,
         seat: &mut Place<K, C, S>,
         number: u32,
+        len: u64,
         commits: &mut Count<C>,
         stale: &mut Count<S>,
     ) -> Pass<K, C, S>
         requires id { seat.old.table_id ≡ self.now.table }
         requires number { (1 < number) × (number ≤ self.now.start.workers) }
+        requires len { len ≡ length self.now.start.events }
         requires view { seat.old.me ≡ (dealing self.now.start (number - 1), []) }
         requires parts { (1 < commits.old.share.parts) × (1 < stale.old.share.parts) }
         ensures id { seat.new.table_id ≡ seat.old.table_id }
         ensures view { seat.new.me ≡ (dealing self.now.start number, []) }
-        ensures pass { result ≡ pass_of self.now number [] 0 0 }
+        ensures pass { result ≡ new_pass self.now number }
         ensures parts { (commits.new.share.parts + 1 ≡ commits.old.share.parts) × (stale.new.share.parts + 1 ≡ stale.old.share.parts) }
         ensures amounts { (commits.new.share.amount ≡ commits.old.share.amount) × (stale.new.share.amount ≡ stale.old.share.amount) }
     {
         let next = self.table.shared.split_seat::<Deal>(seat);
-        Pass::begin(next, number, commits.split_off(), stale.split_off())
+        Pass::begin(next, number, len, commits.split_off(), stale.split_off())
     }
 }
 
 fn open_table<K: Kept, C: Ledger, S: Ledger>(
     alloc: Global,
     state: K,
+    len: u64,
     workers: u32,
     commits: Blank,
     stale: Blank,
 ) -> Result<Opened<K, C, S>, FloorRefused<K>>
     requires workers { IsWorker workers }
-    requires empty { K.events_of state ≡ [] }
+    requires len { len ≡ length (K.events_of state) }
+    requires named { AreOf workers (K.events_of state) }
     requires commits { (commits.name ≡ C.name) × (commits.parts ≡ C.parts) }
     requires stale { (stale.name ≡ S.name) × (stale.parts ≡ S.parts) }
     ensures start { IfOk result (λ o. o.floor.start
-        ≡ start_of (K.job_of state) (K.commits_of state) (K.stale_of state) workers) }
+        ≡ start_of (K.job_of state) (K.events_of state) (K.commits_of state) (K.stale_of state) workers) }
     ensures seat { IfOk result (λ o. (o.seat.table_id ≡ o.floor.table) × (o.seat.me ≡ (dealing o.floor.start 1, []))) }
     ensures parts { IfOk result (λ o. (o.commits.share.parts ≡ C.parts) × (o.stale.share.parts ≡ S.parts)) }
     ensures amounts { IfOk result (λ o. (o.commits.share.amount ≡ 0) × (o.stale.share.amount ≡ 0)) }
@@ -132,7 +138,7 @@ fn open_table<K: Kept, C: Ledger, S: Ledger>(
         commits: commit_book,
         stale: stale_book,
     });
-    match Table::new(alloc, &[0, 0], slots, &about) {
+    match Table::new(alloc, &[0, len], slots, &about) {
         Ok((table, seat)) => {
             let floor = Floor {
                 table,

@@ -35,7 +35,7 @@ impl<K: Kept, C: Ledger, S: Ledger> Model for Pass<K, C, S> {
 
     ghost Value = { PassParts };
 
-    ghost coded = { pass_code (floor_code table_id_coded (start_code jobs.the_row.coded)) events.the_row.coded };
+    ghost coded = { pass_code (floor_code table_id_coded (start_code jobs.the_row.coded events.the_row.coded)) events.the_row.coded };
 
     ghost view = { λ p. pass_of (floor_of p.seat.table_id p.seat.me.0.start) p.worker p.seat.me.0.seen p.commits.share.amount p.stale.share.amount };
 
@@ -43,21 +43,22 @@ impl<K: Kept, C: Ledger, S: Ledger> Model for Pass<K, C, S> {
 }
 
 impl<K: Kept, C: Ledger, S: Ledger> Pass<K, C, S> {
-    // The pass of a worker that has seen no event.
+    // The pass of a worker that has seen this many events.
     pub(crate) fn begin(
         seat: Place<K, C, S>,
         worker: u32,
+        seen: u64,
         commits: Count<C>,
         stale: Count<S>,
     ) -> Self
-        requires seat { (seat.me.1 ≡ []) × IsPass seat.me.0 worker 0 }
+        requires seat { (seat.me.1 ≡ []) × IsPass seat.me.0 worker seen }
         requires parts { (commits.share.parts ≡ 1) × (stale.share.parts ≡ 1) }
         ensures { result ≡ pass_of (floor_of seat.table_id seat.me.0.start) worker seat.me.0.seen commits.share.amount stale.share.amount }
     {
         Pass {
             seat,
             worker,
-            seen: 0,
+            seen,
             commits,
             stale,
             rests: 0,

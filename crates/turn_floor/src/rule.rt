@@ -26,9 +26,9 @@ impl<K: Kept, C: Ledger, S: Ledger> TableRule<Held<K, C, S>, View, About<K>> for
 
     ghost holds = { λ key. Turned
         (Keeps K.job_of K.commits_of K.stale_of) (events_in K.events_of)
-        (start_of (K.job_of key.state.value) (K.commits_of key.state.value) (K.stale_of key.state.value) key.workers) };
+        (start_of (K.job_of key.state.value) (K.events_of key.state.value) (K.commits_of key.state.value) (K.stale_of key.state.value) key.workers) };
 
-    ghost first = { λ key. first_view (start_of (K.job_of key.state.value) (K.commits_of key.state.value) (K.stale_of key.state.value) key.workers) };
+    ghost first = { λ key. first_view (start_of (K.job_of key.state.value) (K.events_of key.state.value) (K.commits_of key.state.value) (K.stale_of key.state.value) key.workers) };
 }
 
 /// One compare_exchange of the turn word from 0 to 1, which takes the turn or misses it.

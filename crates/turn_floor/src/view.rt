@@ -16,7 +16,7 @@ pub struct View {
     /// The worker's number, from 1.
     pub ghost worker: { ℕ },
     /// What the floor was given.
-    pub ghost start: { Start } by { start_code jobs.the_row.coded },
+    pub ghost start: { Start } by { start_code jobs.the_row.coded event_row.the_row.coded },
     /// The history as far as it was seen.
     pub ghost seen: { List Event } by { coded_list event_row.the_row.coded },
     /// What the seats had seen that were joined, itself one of them.

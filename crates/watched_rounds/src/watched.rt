@@ -16,7 +16,7 @@ use stab_watch::{Board, Watched, WritePass};
 use std::alloc::Global;
 use std::sync::{Arc, Wait};
 use std::thread::Threads;
-use worker_lease::{Desk, Gate, OnDesk};
+use worker_lease::{Desk, Gate, NeverPauses};
 use worker_rounds::{Left, Shared, Stop, recalled, run_state};
 
 /// Runs the book from its start as `run_shared` does, also by one worker, while a board shows its history: each worker reads the
@@ -42,7 +42,7 @@ pub fn run_watched<R: Threads + Wait + Sync, K: Sink, G: Gate + Sync>(
 }
 
 // Runs such a state, which has no event, in the same way.
-fn run_shown<D: OnDesk + Send + Drop, R: Threads + Wait + Sync, K: Sink, G: Gate + Sync>(
+fn run_shown<D: NeverPauses + Send + Drop, R: Threads + Wait + Sync, K: Sink, G: Gate + Sync>(
     rt: &R,
     alloc: Global,
     state: D,

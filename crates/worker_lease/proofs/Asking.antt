@@ -29,15 +29,18 @@ use Rattle.worker_lease.specs.Telling.{told}
 use Rattle.worker_lease.specs.Working.{IsLater, ReleaseSays}
 
 -- an ask that isn't a release tells of none
-pub tells_none : (job : JobParts) (events : List Event) (a : DeskAsk) (b : DeskAnswer) → IsWorkAsk a → IsReplyTo a b → Says job events b → HasNoRelease (told_events (told b) events)
-tells_none job events a (answer.Turn turn) work reply says = tt
-tells_none job events a (answer.Done (Ok done)) work reply says = says
-tells_none job events a (answer.Done (Err refused)) work reply says = tt
-tells_none job events a answer.Given work reply says = tt
-tells_none job events ask.Lease (answer.Released lines number) work reply says = absurd reply
-tells_none job events (ask.Commit lease progress) (answer.Released lines number) work reply says = absurd reply
-tells_none job events (ask.GiveBack lease) (answer.Released lines number) work reply says = absurd reply
-tells_none job events (ask.Release text) (answer.Released lines number) work reply says = absurd work
+pub tells_none : (pauses : Type 0) (job : JobParts) (events : List Event) (a : DeskAsk) (b : DeskAnswer) → IsWorkAsk a → IsReplyTo pauses a b → Says job events b → HasNoRelease (told_events (told b) events)
+tells_none pauses job events a (answer.Turn turn) work reply says = tt
+tells_none pauses job events a (answer.Done (Ok done)) work reply says = says
+tells_none pauses job events a (answer.Done (Err refused)) work reply says = tt
+tells_none pauses job events a answer.Given work reply says = tt
+tells_none pauses job events a answer.Dry work reply says = tt
+tells_none pauses job events a answer.Rung work reply says = tt
+tells_none pauses job events a answer.Kept work reply says = tt
+tells_none pauses job events ask.Lease (answer.Released lines number) work reply says = absurd reply
+tells_none pauses job events (ask.Commit lease progress) (answer.Released lines number) work reply says = absurd reply
+tells_none pauses job events (ask.GiveBack lease) (answer.Released lines number) work reply says = absurd reply
+tells_none pauses job events (ask.Release text) (answer.Released lines number) work reply says = absurd work
 
 abbrev pub releases : List Recorded → List Recorded
 releases own = filter (λ (r : Recorded). is_release r.event.what) own

@@ -42,7 +42,7 @@ TurnFits job events Spent = job.fuel ≤ weight_of events
 TurnFits job events Release = 0 < due events
 
 -- what a lease says is true; a commit made no release; what was released is the last event, or nothing was due; a lease that was given
--- back, and want of memory, say nothing
+-- back, want of memory, and that a number has to come first, say nothing
 abbrev pub Says : JobParts → List Event → DeskAnswer → Type 0
 Says job events (answer.Turn (Ok turn)) = TurnFits job events turn
 Says job events (answer.Turn (Err none)) = Unit {0}
@@ -52,6 +52,9 @@ Says job events answer.Given = Unit {0}
 Says job events (answer.Released text (Ok None)) = due events ≡ 0
 Says job events (answer.Released text (Ok (Some q))) = IsReleaseOf job events q.0 text.items
 Says job events (answer.Released text (Err none)) = Unit {0}
+Says job events answer.Dry = Unit {0}
+Says job events answer.Rung = Unit {0}
+Says job events answer.Kept = Unit {0}
 
 abbrev pub AnswerFits : JobParts → List Event → DeskAnswer → Type 0
 AnswerFits job events a = IsHistoryOf job events × Says job events a

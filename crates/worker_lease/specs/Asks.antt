@@ -19,13 +19,16 @@ AskFits job worker (ask.Commit lease progress) = progress.program ≡ job.progra
 AskFits job worker (ask.GiveBack lease) = Unit {0}
 AskFits job worker (ask.Release text) = (text.items ≡ []) × (worker ≡ 1)
 
--- whether the answer is one to such an ask
-abbrev pub IsReplyTo : DeskAsk → DeskAnswer → Type 0
-IsReplyTo ask.Lease (answer.Turn turn) = Unit {0}
-IsReplyTo (ask.Commit lease progress) (answer.Done done) = Unit {0}
-IsReplyTo (ask.GiveBack lease) answer.Given = Unit {0}
-IsReplyTo (ask.Release text) (answer.Released lines number) = Unit {0}
-IsReplyTo _ _ = ⊥
+-- whether the answer is one to such an ask, of a state that pauses, if it ever does
+abbrev pub IsReplyTo : Type 0 → DeskAsk → DeskAnswer → Type 0
+IsReplyTo pauses ask.Lease (answer.Turn turn) = Unit {0}
+IsReplyTo pauses ask.Lease answer.Dry = pauses
+IsReplyTo pauses ask.Lease answer.Rung = pauses
+IsReplyTo pauses (ask.Commit lease progress) (answer.Done done) = Unit {0}
+IsReplyTo pauses (ask.Commit lease progress) answer.Kept = pauses
+IsReplyTo pauses (ask.GiveBack lease) answer.Given = Unit {0}
+IsReplyTo pauses (ask.Release text) (answer.Released lines number) = Unit {0}
+IsReplyTo _ _ _ = ⊥
 
 -- the lease under this worker's number
 abbrev pub under : ℕ → LeaseView → LeaseView
@@ -48,24 +51,36 @@ IsServed old worker (ask.Release text) (answer.Released lines (Err none)) new =
     (0 < due old.history.events) × (new ≡ old) × (lines.items ≡ text.items)
 IsServed _ _ _ _ _ = ⊥
 
--- each answer is to its ask
-pub replied : (old : BookView) (worker : ℕ) (a : DeskAsk) (b : DeskAnswer) (new : BookView) → IsServed old worker a b new → IsReplyTo a b
+-- each answer is to its ask, and a desk never pauses
+pub replied : (old : BookView) (worker : ℕ) (a : DeskAsk) (b : DeskAnswer) (new : BookView) → IsServed old worker a b new → IsReplyTo ⊥ a b
 replied old worker ask.Lease (answer.Turn turn) new is = tt
 replied old worker ask.Lease (answer.Done done) new is = is
 replied old worker ask.Lease answer.Given new is = is
 replied old worker ask.Lease (answer.Released lines number) new is = is
+replied old worker ask.Lease answer.Dry new is = is
+replied old worker ask.Lease answer.Rung new is = is
+replied old worker ask.Lease answer.Kept new is = is
 replied old worker (ask.Commit lease progress) (answer.Turn turn) new is = is
 replied old worker (ask.Commit lease progress) (answer.Done done) new is = tt
 replied old worker (ask.Commit lease progress) answer.Given new is = is
 replied old worker (ask.Commit lease progress) (answer.Released lines number) new is = is
+replied old worker (ask.Commit lease progress) answer.Dry new is = is
+replied old worker (ask.Commit lease progress) answer.Rung new is = is
+replied old worker (ask.Commit lease progress) answer.Kept new is = is
 replied old worker (ask.GiveBack lease) (answer.Turn turn) new is = is
 replied old worker (ask.GiveBack lease) (answer.Done done) new is = is
 replied old worker (ask.GiveBack lease) answer.Given new is = tt
 replied old worker (ask.GiveBack lease) (answer.Released lines number) new is = is
+replied old worker (ask.GiveBack lease) answer.Dry new is = is
+replied old worker (ask.GiveBack lease) answer.Rung new is = is
+replied old worker (ask.GiveBack lease) answer.Kept new is = is
 replied old worker (ask.Release text) (answer.Turn turn) new is = is
 replied old worker (ask.Release text) (answer.Done done) new is = is
 replied old worker (ask.Release text) answer.Given new is = is
 replied old worker (ask.Release text) (answer.Released lines number) new is = tt
+replied old worker (ask.Release text) answer.Dry new is = is
+replied old worker (ask.Release text) answer.Rung new is = is
+replied old worker (ask.Release text) answer.Kept new is = is
 
 -- an ask of a worker's round: any but a release
 abbrev pub IsWorkAsk : DeskAsk → Type 0

@@ -33,3 +33,6 @@ told (answer.Done (Err refused)) = nothing
 told answer.Given = nothing
 told (answer.Released text (Ok number)) = told_number number
 told (answer.Released text (Err none)) = nothing
+told answer.Dry = nothing
+told answer.Rung = nothing
+told answer.Kept = nothing

@@ -33,7 +33,7 @@ pub fn run_round<
     requires all { AreAll floor.now (map (λ c. c.pass) cells.old) }
     requires job { J.job_of job.now ≡ floor.now.start.job }
     ensures all { AreAll floor.now (map (λ c. c.pass) cells.new) }
-    ensures rounds { AreRounds floor.now.start.job (λ c. c.pass) (λ c. c.end) cells.old cells.new }
+    ensures rounds { AreRounds D.pauses floor.now.start.job (λ c. c.pass) (λ c. c.end) cells.old cells.new }
 {
     let threads = cells.len();
     if threads == 0 {
@@ -41,7 +41,7 @@ pub fn run_round<
     }
     let go = |_: usize, cell: &mut Cell<D, C, S>|
         requires { (cell.now.pass.floor ≡ floor.now) × (J.job_of job.now ≡ floor.now.start.job) }
-        ensures { IsCellRound floor.entry.now.start.job (λ c. c.pass) (λ c. c.end) cell.entry.now cell.exit.now }
+        ensures { IsCellRound D.pauses floor.entry.now.start.job (λ c. c.pass) (λ c. c.end) cell.entry.now cell.exit.now }
     {
         cell.end = work(rt, floor, &mut cell.pass, job.job(), gate);
     };

@@ -30,10 +30,14 @@ pub enum WorkEnd {
     Release,
     /// The memory that the next step needs isn't there.
     NoMemory,
+    /// No thread can step before a number comes.
+    Dry,
+    /// The bell has rung, and a commit waits for a number.
+    Rung,
 }
 
-/// Leases, steps and commits until nothing is left to do, values are due, or memory is wanted. The gate is called before each
-/// commit, outside the turn. It may wait.
+/// Leases, steps and commits until nothing is left to do, values are due, memory is wanted, or a number has to come first. The gate
+/// is called before each commit, outside the turn. It may wait.
 pub fn work<R: Wait, D: OnDesk, C: Ledger, S: Ledger, G: Gate>(
     rt: &R,
     floor: &Floor<D, C, S>,
@@ -43,7 +47,7 @@ pub fn work<R: Wait, D: OnDesk, C: Ledger, S: Ledger, G: Gate>(
 ) -> WorkEnd
     requires own { pass.old.floor ≡ floor.now }
     requires job { job.now ≡ floor.now.start.job }
-    ensures { IsRound floor.now.start.job pass.old pass.new result }
+    ensures { IsRound D.pauses floor.now.start.job pass.old pass.new result }
 {
     for _ in rt.forever() {
         if let Some(end) = turn(rt, floor, pass, job, gate) {
@@ -65,7 +69,7 @@ pub fn turn<R: Wait, D: OnDesk, C: Ledger, S: Ledger, G: Gate>(
     requires job { job.now ≡ floor.now.start.job }
     ensures later { IsLater pass.old pass.new }
     ensures history { IsHistoryOf floor.now.start.job pass.new.seen }
-    ensures says { IfSome result (λ end. EndFits end floor.now.start.job pass.new.seen) }
+    ensures says { IfSome result (λ end. EndFits D.pauses end floor.now.start.job pass.new.seen) }
 {
     match ask(rt, floor, pass, DeskAsk::Lease) {
         DeskAnswer::Turn(Ok(Turn::Work(lease, control))) => step(
@@ -79,6 +83,8 @@ pub fn turn<R: Wait, D: OnDesk, C: Ledger, S: Ledger, G: Gate>(
         DeskAnswer::Turn(Ok(Turn::Spent)) => Some(WorkEnd::Spent),
         DeskAnswer::Turn(Ok(Turn::Release)) => Some(WorkEnd::Release),
         DeskAnswer::Turn(Err(NoMemory)) => Some(WorkEnd::NoMemory),
+        DeskAnswer::Dry => Some(WorkEnd::Dry),
+        DeskAnswer::Rung => Some(WorkEnd::Rung),
         _other => unreachable!(),
     }
 }
@@ -98,7 +104,7 @@ fn step<R: Wait, D: OnDesk, C: Ledger, S: Ledger, G: Gate>(
     requires fits { Fits floor.now.start.job.program control }
     ensures later { IsLater pass.old pass.new }
     ensures history { IsHistoryOf floor.now.start.job pass.new.seen }
-    ensures says { IfSome result (λ end. EndFits end floor.now.start.job pass.new.seen) }
+    ensures says { IfSome result (λ end. EndFits D.pauses end floor.now.start.job pass.new.seen) }
 {
     match advance(job.program(), control, job.quantum()) {
         Ok(progress) => {
@@ -120,10 +126,11 @@ fn commit<R: Wait, D: OnDesk, C: Ledger, S: Ledger>(
     requires program { progress.program ≡ floor.now.start.job.program }
     ensures later { IsLater pass.old pass.new }
     ensures history { IsHistoryOf floor.now.start.job pass.new.seen }
-    ensures says { IfSome result (λ end. EndFits end floor.now.start.job pass.new.seen) }
+    ensures says { IfSome result (λ end. EndFits D.pauses end floor.now.start.job pass.new.seen) }
 {
     match ask(rt, floor, pass, DeskAsk::Commit(lease, progress)) {
         DeskAnswer::Done(Ok(_done)) => None,
+        DeskAnswer::Kept => None,
         DeskAnswer::Done(Err(CommitRefused { lease, progress: _ })) => give_back(
             rt, floor, pass, lease,
         ),
@@ -140,7 +147,7 @@ fn give_back<R: Wait, D: OnDesk, C: Ledger, S: Ledger>(
     requires own { pass.old.floor ≡ floor.now }
     ensures later { IsLater pass.old pass.new }
     ensures history { IsHistoryOf floor.now.start.job pass.new.seen }
-    ensures says { IfSome result (λ end. EndFits end floor.now.start.job pass.new.seen) }
+    ensures says { IfSome result (λ end. EndFits D.pauses end floor.now.start.job pass.new.seen) }
 {
     match ask(rt, floor, pass, DeskAsk::GiveBack(lease)) {
         DeskAnswer::Given => Some(WorkEnd::NoMemory),
@@ -158,7 +165,7 @@ fn ask<R: Wait, D: OnDesk, C: Ledger, S: Ledger>(
     requires own { pass.old.floor ≡ floor.now }
     requires fits { AskFits floor.now.start.job pass.old.worker ask }
     requires work { IsWorkAsk ask }
-    ensures replies { IsReplyTo ask result }
+    ensures replies { IsReplyTo D.pauses ask result }
     ensures fits { AnswerFits floor.now.start.job pass.new.seen result }
     ensures later { IsLater pass.old pass.new }
 {

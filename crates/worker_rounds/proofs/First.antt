@@ -52,11 +52,11 @@ module _ {X : Type 0} (f : X → PassParts) (e : X → WorkEnd) where
   first_set [] y some = absurd (omega (arith, some))
   first_set (x ∷ xs) y some = refl
 
-  pub first_round : (job : JobParts) (floor : FloorParts) (xs ys : List X) → AreAll floor (map f xs) → AreRounds job f e xs ys → 0 < length xs → IsBegun job (first_seen (map f xs)) → IsFirstRound job (first_seen (map f xs)) (first_seen (map f ys))
+  pub first_round : {pauses : Type 0} (job : JobParts) (floor : FloorParts) (xs ys : List X) → AreAll floor (map f xs) → AreRounds pauses job f e xs ys → 0 < length xs → IsBegun job (first_seen (map f xs)) → IsFirstRound job (first_seen (map f xs)) (first_seen (map f ys))
   first_round job floor [] ys all rounds some begun = absurd (omega (arith, some))
   first_round job floor (x ∷ xs) [] all rounds some begun = let m = rounds.as_many in absurd (omega (arith, m))
-  first_round job floor (x ∷ xs) (y ∷ ys) all rounds some begun =
-      let r : IsRound job (f x) (f y) (e y) = rounds.each 0 x (omega arith) in
+  first_round {pauses} job floor (x ∷ xs) (y ∷ ys) all rounds some begun =
+      let r : IsRound pauses job (f x) (f y) (e y) = rounds.each 0 x (omega arith) in
       let one : (f x).worker ≡ 1 = all.in_order 0 (f x) (omega arith) in
       let same : own_releases 1 (f y).seen ≡ own_releases 1 (f x).seen = subst (λ w. own_releases w (f y).seen ≡ own_releases w (f x).seen) one r.later.releases in
       record { history = r.history; grows = r.later.grows; same = same; text = text_stays job (f x).seen (f y).seen begun r.history r.later.grows same }
@@ -65,18 +65,20 @@ module _ {X : Type 0} (f : X → PassParts) (e : X → WorkEnd) where
 pub never : {P : Type 0} (b : Bool) → b ≡ false → (P → IsTrue b) → P → ⊥
 never b is so p = false≢true (sym is ∙ so p)
 
--- worker 1's round ended neither for a release nor for want of memory
+-- worker 1's round ended neither for a release nor for want of memory, over a state that never pauses
 module _ {X : Type 0} (f : X → PassParts) (e : X → WorkEnd) where
-  pub used_up : (job : JobParts) (xs ys : List X) → AreRounds job f e xs ys → 0 < length xs → (Any (λ y. e y ≡ ends.NoMemory) ys → ⊥) → (Any (λ y. e y ≡ ends.Release) ys → ⊥) → IsUsedUp job (first_seen (map f ys))
-  used_up job [] ys rounds some fed calm = absurd (omega (arith, some))
-  used_up job (x ∷ xs) [] rounds some fed calm = let m = rounds.as_many in absurd (omega (arith, m))
-  used_up job (x ∷ xs) (y ∷ ys) rounds some fed calm = by (e y) refl (rounds.each 0 x (omega arith)).says
+  pub used_up : {pauses : Type 0} → (pauses → ⊥) → (job : JobParts) (xs ys : List X) → AreRounds pauses job f e xs ys → 0 < length xs → (Any (λ y. e y ≡ ends.NoMemory) ys → ⊥) → (Any (λ y. e y ≡ ends.Release) ys → ⊥) → IsUsedUp job (first_seen (map f ys))
+  used_up steady job [] ys rounds some fed calm = absurd (omega (arith, some))
+  used_up steady job (x ∷ xs) [] rounds some fed calm = let m = rounds.as_many in absurd (omega (arith, m))
+  used_up {pauses} steady job (x ∷ xs) (y ∷ ys) rounds some fed calm = by (e y) refl (rounds.each 0 x (omega arith)).says
     where
-      by : (end : WorkEnd) → e y ≡ end → EndFits end job (f y).seen → IsUsedUp job (f y).seen
+      by : (end : WorkEnd) → e y ≡ end → EndFits pauses end job (f y).seen → IsUsedUp job (f y).seen
       by ends.Quiet is says = inl says
       by ends.Spent is says = inr says
       by ends.Release is says = absurd (calm (0, y, omega arith, refl, is))
       by ends.NoMemory is says = absurd (fed (0, y, omega arith, refl, is))
+      by ends.Dry is says = absurd (steady says)
+      by ends.Rung is says = absurd (steady says)
 
 -- what a release says after such a round
 pub next_from : (n : Next) (job : JobParts) (old mid new : List Event) (sink after : Device (List ℕ)) → IsFirstRound job old mid → NextSays n job mid new sink after → NextSays n job old new sink after

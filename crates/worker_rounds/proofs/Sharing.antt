@@ -16,7 +16,7 @@ use Rattle.commit_book.specs.Book.{BookView, IsShown}
 use Rattle.commit_book.specs.Counts.{in_state}
 use Rattle.commit_book.specs.Turns.{IsRecalled}
 use Rattle.book_text.specs.Written.{released_lines}
-use Rattle.turn_floor.specs.Parts.{AreAll, FloorParts, PassParts, pass_of}
+use Rattle.turn_floor.specs.Parts.{AreAll, FloorParts, PassParts, new_pass}
 use Rattle.turn_floor.specs.Served.{AreOf, from_to}
 use Rattle.turn_floor.specs.Start.{Start, start_of}
 use Rattle.turn_floor.proofs.Histories.{prefix_more}
@@ -34,13 +34,13 @@ use Rattle.worker_rounds.proofs.Closed.{closed, has_releases}
 
 -- ---- before the first round
 
--- new passes have seen nothing
-pub none_seen_yet : (floor : FloorParts) (n : ℕ) (passes : List PassParts) → passes ≡ map (λ (w : ℕ). pass_of floor w [] 0 0) (from_to 1 n) → first_seen passes ≡ []
-none_seen_yet floor n passes is = ap first_seen is ∙ by n
+-- new passes of a floor that was given no event have seen nothing
+pub none_seen_yet : (floor : FloorParts) (n : ℕ) (passes : List PassParts) → passes ≡ map (new_pass floor) (from_to 1 n) → floor.start.events ≡ [] → first_seen passes ≡ []
+none_seen_yet floor n passes is none = ap first_seen is ∙ by n
   where
-    by : (n : ℕ) → first_seen (map (λ (w : ℕ). pass_of floor w [] 0 0) (from_to 1 n)) ≡ []
+    by : (n : ℕ) → first_seen (map (new_pass floor) (from_to 1 n)) ≡ []
     by zero = refl
-    by (suc n) = refl
+    by (suc n) = none
 
 -- nothing was done, because memory ran out
 pub not_begun : (workers : ℕ) (job after_job : JobParts) (events : List Event) (sink : Device (List ℕ)) → after_job ≡ job → events ≡ [] → IsLeft workers job after_job events (Some NoMemory) sink sink
@@ -69,9 +69,9 @@ pub passes_left : {X Z : Type 0} (f : X → PassParts) (cells : Vec X Z) (left :
 passes_left f cells left passes is many = is ∙ ap (map f) (with_items_is cells left many)
 
 -- what a floor began with is the job, and the workers
-pub left_from : (workers : ℕ) (job after_job : JobParts) (commits stale : ℕ) (events : List Event) (start : Start) (stop : Option Stop) (sink after : Device (List ℕ)) → start ≡ start_of job commits stale workers
+pub left_from : (workers : ℕ) (job after_job : JobParts) (first events : List Event) (commits stale : ℕ) (start : Start) (stop : Option Stop) (sink after : Device (List ℕ)) → start ≡ start_of job first commits stale workers
     → IsLeft start.workers start.job after_job events stop sink after → IsLeft workers job after_job events stop sink after
-left_from workers job after_job commits stale events start stop sink after is left = subst (λ (s : Start). IsLeft s.workers s.job after_job events stop sink after) is left
+left_from workers job after_job first events commits stale start stop sink after is left = subst (λ (s : Start). IsLeft s.workers s.job after_job events stop sink after) is left
 
 -- ---- what was written
 

@@ -15,7 +15,7 @@ use std::sync::Wait;
 use std::sync::ledger::Ledger;
 use std::thread::Threads;
 use turn_floor::{Floor, Pass};
-use worker_lease::{Cell, Gate, HasJob, OnDesk, WorkEnd, release, run_round};
+use worker_lease::{Cell, Gate, HasJob, NeverPauses, OnDesk, WorkEnd, release, run_round};
 
 /// Why a run stopped before its end.
 #[derive(Clone, Copy, PartialEq, Eq, Debug)]
@@ -38,7 +38,7 @@ pub(crate) enum Next {
 /// are written as they are released, one `put` per line. Returns why it was stopped, if it was. It may wait.
 pub fn play_rounds<
     R: Threads + Wait + Sync,
-    D: OnDesk + Send + Drop,
+    D: NeverPauses + Send + Drop,
     C: Ledger + Send + Sync,
     S: Ledger + Send + Sync,
     K: Sink,
@@ -75,7 +75,7 @@ pub fn play_rounds<
 // One round, and the release for which it ended, if it did.
 fn play_round<
     R: Threads + Wait + Sync,
-    D: OnDesk + Send + Drop,
+    D: NeverPauses + Send + Drop,
     C: Ledger + Send + Sync,
     S: Ledger + Send + Sync,
     K: Sink,

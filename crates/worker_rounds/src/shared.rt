@@ -19,7 +19,7 @@ use std::sync::Wait;
 use std::sync::ledger::{Blank, Ledger};
 use std::thread::Threads;
 use turn_floor::{Floor, FloorRefused, Pass};
-use worker_lease::{Desk, Gate, OnDesk, cells_of, passes_of};
+use worker_lease::{Desk, Gate, NeverPauses, cells_of, passes_of};
 
 /// What several workers leave of a run: the book, in which nobody has a lease, and why the run was stopped, if it was.
 #[derive(Drop)]
@@ -58,7 +58,7 @@ pub fn run_shared<R: Threads + Wait + Sync, K: Sink, G: Gate + Sync>(
 }
 
 /// Runs such a state, which has no event, in the same way.
-pub fn run_state<D: OnDesk + Send + Drop, R: Threads + Wait + Sync, K: Sink, G: Gate + Sync>(
+pub fn run_state<D: NeverPauses + Send + Drop, R: Threads + Wait + Sync, K: Sink, G: Gate + Sync>(
     rt: &R,
     alloc: Global,
     state: D,
@@ -80,7 +80,7 @@ pub fn run_state<D: OnDesk + Send + Drop, R: Threads + Wait + Sync, K: Sink, G: 
 fn run_named<
     C: Ledger + Send + Sync,
     S: Ledger + Send + Sync,
-    D: OnDesk + Send + Drop,
+    D: NeverPauses + Send + Drop,
     R: Threads + Wait + Sync,
     K: Sink,
     G: Gate + Sync,
@@ -118,7 +118,7 @@ fn run_named<
 fn run_floor<
     C: Ledger + Send + Sync,
     S: Ledger + Send + Sync,
-    D: OnDesk + Send + Drop,
+    D: NeverPauses + Send + Drop,
     R: Threads + Wait + Sync,
     K: Sink,
     G: Gate + Sync,

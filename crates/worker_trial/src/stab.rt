@@ -3,6 +3,7 @@
 use crate::gates::{GateStab, GateThree};
 use crate::two::ENDLESS;
 use call_status::Status;
+use number_source::MemSource;
 use stab_base::NoMemory;
 use stab_files::{MemFiles, MemSink};
 use stab_top::stab;
@@ -40,7 +41,8 @@ fn status<R: Threads + Wait + Sync, G: Gate + Sync>(
     let Ok(mut sink) = MemSink::new(alloc, 1_000, Vec::new(alloc)) else {
         return Err(NoMemory);
     };
-    Ok(stab(rt, alloc, &words, &mut files, &mut sink, gate).status)
+    let mut numbers = Some(MemSource::new(alloc, Vec::new(alloc))?);
+    Ok(stab(rt, alloc, &words, &mut files, &mut numbers, &mut sink, gate).status)
 }
 
 // While one worker waits at the gate, the other commits: so no call runs all threads by one worker, and no turn lasts from a
@@ -61,6 +63,18 @@ fn gate_stab(rt: HostRuntime) -> Result<(), Fail> {
 fn gate_watch(rt: HostRuntime) -> Result<(), Fail> {
     let gate = GateStab::new();
     let status = status(&rt, rt.alloc(), "watch p --workers 2", &gate)?;
+    let visits = &gate.visits;
+    assert!(rt;
+        status == Status::Spent && visits.all_met() && visits.times(1) >= 1 && visits.times(2) >= 1
+    );
+    Ok(())
+}
+
+// The same of a served run.
+#[test]
+fn gate_serve(rt: HostRuntime) -> Result<(), Fail> {
+    let gate = GateStab::new();
+    let status = status(&rt, rt.alloc(), "serve p --workers 2", &gate)?;
     let visits = &gate.visits;
     assert!(rt;
         status == Status::Spent && visits.all_met() && visits.times(1) >= 1 && visits.times(2) >= 1

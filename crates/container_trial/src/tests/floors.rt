@@ -1,6 +1,7 @@
 //! Counters that real threads serve in turns.
-ghost use Rattle.std.specs.Prelude.{◌≡◌, ◌≤◌};
+ghost use Rattle.std.specs.Prelude.{◌≡◌, ◌≤◌, IfOk};
 ghost use Rattle.stab_journal.specs.Event.{IsWorker};
+ghost use Rattle.turn_floor.specs.Served.{AreOf};
 
 use super::is;
 use stab_base::NoMemory;
@@ -33,21 +34,23 @@ fn plan(workers: u32, turns: u32) -> Plan
     }
 }
 
-// A floor over a counter is made, its workers work in threads of their own, and it is closed.
+// A floor over the counter is made, its workers work in threads of their own, and it is closed.
 fn run<C: Ledger + Send + Sync, S: Ledger + Send + Sync, R: Threads + Wait + Sync>(
     rt: &R,
     alloc: Global,
     commits: Blank,
     stale: Blank,
     plan: Plan,
-    fuel: u64,
+    state: Counter,
 ) -> Result<Closed, NoMemory>
     requires workers { IsWorker plan.workers }
-    requires fuel { (1 ≤ fuel) × (fuel ≤ MAX_FUEL) }
+    requires quantum { 2 ≤ state.job.quantum }
+    requires named { AreOf plan.workers state.history.events }
     requires commits { (commits.name ≡ C.name) × (commits.parts ≡ C.parts) × (commits.parts ≡ plan.workers) }
     requires stale { (stale.name ≡ S.name) × (stale.parts ≡ S.parts) × (stale.parts ≡ plan.workers) }
+    ensures job { IfOk result (λ c. c.state.job ≡ state.job) }
+    ensures named { IfOk result (λ c. AreOf plan.workers c.state.history.events) }
 {
-    let state = Counter::new(alloc, fuel, 2)?;
     let Ok((floor, passes)) = Floor::<Counter, C, S>::new(
         alloc,
         state,
@@ -73,6 +76,24 @@ fn blank(workers: u32) -> Blank
     Blank::new(u64::from(workers))
 }
 
+// The same, with names for the two ledgers.
+fn run_on<R: Threads + Wait + Sync>(
+    rt: &R,
+    alloc: Global,
+    plan: Plan,
+    state: Counter,
+) -> Result<Closed, NoMemory>
+    requires workers { IsWorker plan.workers }
+    requires quantum { 2 ≤ state.job.quantum }
+    requires named { AreOf plan.workers state.history.events }
+    ensures job { IfOk result (λ c. c.state.job ≡ state.job) }
+    ensures named { IfOk result (λ c. AreOf plan.workers c.state.history.events) }
+{
+    let (commits, stale) = (blank(plan.workers), blank(plan.workers));
+    run::<Brand, Brand, R>(rt, alloc, commits, stale, plan, state)
+}
+
+// The same with a new counter.
 fn trial<R: Threads + Wait + Sync>(
     rt: &R,
     alloc: Global,
@@ -81,9 +102,11 @@ fn trial<R: Threads + Wait + Sync>(
 ) -> Result<Closed, NoMemory>
     requires workers { IsWorker plan.workers }
     requires fuel { (1 ≤ fuel) × (fuel ≤ MAX_FUEL) }
+    ensures quantum { IfOk result (λ c. 2 ≤ c.state.job.quantum) }
+    ensures named { IfOk result (λ c. AreOf plan.workers c.state.history.events) }
 {
-    let (commits, stale) = (blank(plan.workers), blank(plan.workers));
-    run::<Brand, Brand, R>(rt, alloc, commits, stale, plan, fuel)
+    let state = Counter::new(alloc, fuel, 2)?;
+    run_on(rt, alloc, plan, state)
 }
 
 // The numbers of a worker's events.
@@ -243,4 +266,70 @@ fn hears<R: Threads + Wait + Sync>(
         Some(heard) => Ok(agree && heard.numbers.as_slice() == numbers),
         None => Ok(false),
     }
+}
+
+// Four workers take 3,000 turns each, and then as many on a floor that begins with the 12,000 events of the first.
+#[test]
+fn a_floor_begins_with_events(rt: HostRuntime) -> Result<(), Fail> {
+    let (tally, all, events, heard) = twice(&rt, rt.alloc(), plan(4, 3_000))?;
+    let found = (tally.commits, tally.stale, all.commits, all.stale, events);
+    is(&rt, &found, &(6_000, 2_400, 12_000, 4_800, 24_000));
+    assert!(rt; heard);
+    Ok(())
+}
+
+// The tally of the second of two floors over one counter, the counts and the length of what is left, and whether the
+// workers heard of their own events.
+fn twice<R: Threads + Wait + Sync>(
+    rt: &R,
+    alloc: Global,
+    plan: Plan,
+) -> Result<(Tally, Tally, u64, bool), NoMemory>
+    requires workers { IsWorker plan.workers }
+{
+    let Closed {
+        state,
+        tally: _,
+        heard: first,
+    } = trial(rt, alloc, plan, MAX_FUEL)?;
+    let Closed {
+        state,
+        tally,
+        heard: then,
+    } = run_on(rt, alloc, plan, state)?;
+    let all = Tally {
+        commits: state.commits,
+        stale: state.stale,
+    };
+    let heard = hear_all(alloc, &state, &first, &then)?;
+    Ok((tally, all, state.history.len(), heard))
+}
+
+// Whether each worker heard of its own events on one floor and then on the next.
+fn hear_all(
+    alloc: Global,
+    state: &Counter,
+    first: &[Heard],
+    then: &[Heard],
+) -> Result<bool, NoMemory> {
+    let mut worker = 0u32;
+    for (first, then) in first.iter().zip(then) {
+        worker = worker.wrapping_add(1);
+        let numbers = joined(alloc, &first.numbers, &then.numbers)?;
+        if own_numbers(alloc, state, worker)? != numbers {
+            return Ok(false);
+        }
+    }
+    Ok(first.len() == then.len())
+}
+
+fn joined(alloc: Global, first: &[u64], then: &[u64]) -> Result<Vec<u64>, NoMemory> {
+    let mut numbers = Vec::new(alloc);
+    for number in first {
+        numbers.push(*number)?;
+    }
+    for number in then {
+        numbers.push(*number)?;
+    }
+    Ok(numbers)
 }

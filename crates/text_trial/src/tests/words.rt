@@ -82,6 +82,11 @@ fn request_text(alloc: Global, request: &Request) -> Result<String, AllocError> 
             let (image, fuel, quantum) = (args.image.as_str(), args.fuel, args.quantum);
             format!(in alloc; "resume {image} {fuel} {quantum}")
         }
+        Request::Serve(args) => {
+            let (file, workers) = (args.file.as_str(), args.workers);
+            let (fuel, quantum) = (args.fuel, args.quantum);
+            format!(in alloc; "serve {file} {workers} {fuel} {quantum}")
+        }
     }
 }
 
@@ -224,10 +229,25 @@ watch a --probes=p -> watch a p 4 1000000 1000\n\
 watch a --fuel 5 -- -> watch a . 4 5 1000\n\
 watch --fuel=5 -- a -> watch a . 4 5 1000\n\
 watch -- é -> watch é . 4 1000000 1000\n\
+serve -> MissingWord\n\
+serve a b -> ExtraWord 2\n\
+serve a --probes p -> UnknownOption 2\n\
+serve a --journal j -> UnknownOption 2\n\
+serve --fuel=5 a --fuel 5 -> Repeated 3\n\
+serve a --workers -> NoValue 2\n\
+serve a --workers=65 -> BadValue 2\n\
+serve a --fuel=0 -> BadValue 2\n\
+serve a --quantum 10001 -> BadValue 2\n\
+serve  -> BadValue 1\n\
+serve - -> UnknownOption 1\n\
+serve a -> serve a 4 1000000 1000\n\
+serve --workers 1 a --fuel=5 --quantum 7 -> serve a 1 5 7\n\
+serve -- - -> serve - 4 1000000 1000\n\
+serve é --workers=64 -> serve é 64 1000000 1000\n\
 ";
 
 #[test]
-fn words_of_trace_and_watch(rt: HostRuntime) -> Result<(), Fail> {
+fn words_of_trace_watch_and_serve(rt: HostRuntime) -> Result<(), Fail> {
     answers(rt.alloc(), TRACE)
 }
 

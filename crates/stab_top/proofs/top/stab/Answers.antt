@@ -1,7 +1,7 @@
 use Rattle.std.proofs.Common.{refl, string_bytes, map as each}
-use Rattle.call_report.specs.Call.{call_of}
+use Rattle.call_report.specs.Call.{call_over}
 use Rattle.call_report.specs.Report.{outcome_of}
-use Rattle.stab_top.proofs.Wording.{no_memory_call}
+use Rattle.stab_top.proofs.Wording.{hears_none, no_memory_call}
 use Rattle.stab_top.proofs.top.stab.Goals as goal
 
 pub returns-in-Err-NoMemory-clause-says : goal.returns-in-Err-NoMemory-clause-says
@@ -9,5 +9,8 @@ returns-in-Err-NoMemory-clause-says g c =
     let files = c.args.files.now in
     let sink = c.args.sink.now in
     no_memory_call (each string_bytes c.args.words.now)
-    (call_of g.F.Files.held g.F.Files.faults files files (outcome_of g.K.Sink.told g.K.Sink.faults sink sink c.bare.result))
+    (call_over g.F.Files.held g.F.Files.faults files files g.N.NumberSource.came g.N.NumberSource.ended g.N.NumberSource.last c.args.source.now c.args.source.now (outcome_of g.K.Sink.told g.K.Sink.faults sink sink c.bare.result))
     c.bare.ensures.status (record { refuses = (c.bare.ensures.blames, (refl, refl)); no_fault = refl })
+
+pub returns-in-Err-NoMemory-clause-hears : goal.returns-in-Err-NoMemory-clause-hears
+returns-in-Err-NoMemory-clause-hears g c = hears_none _ _ refl

@@ -28,7 +28,7 @@ returns-clause-later g c =
     let r = c.with_turn.result in
     let reply = g.met.D.OnDesk.replies s.0 old.worker c.args.ask r s.1 s.2 in
     let says = g.met.D.OnDesk.says c.args.floor.now.start.job new.seen r e.fits in
-    let none = tells_none c.args.floor.now.start.job new.seen c.args.ask r c.requires.work reply says.1 in
+    let none = tells_none g.D.OnDesk.pauses c.args.floor.now.start.job new.seen c.args.ask r c.requires.work reply says.1 in
     record {
       floor = ap (λ p. p.floor) e.told;
       worker = ap (λ p. p.worker) e.told;

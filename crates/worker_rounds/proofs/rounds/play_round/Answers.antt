@@ -23,7 +23,7 @@ pub returns-then-not-has_ended-clause-says : goal.returns-then-not-has_ended-cla
 returns-then-not-has_ended-clause-says g c = (
   wrote_none c.args.floor.now.start.job _ _ (device g.K.Sink.told g.K.Sink.faults c.args.sink.now)
       (first_round (λ c. c.pass) (λ c. c.end) c.args.floor.now.start.job c.args.floor.now c.args.cells.now c.run_round.new.cells c.requires.all c.run_round.ensures.rounds c.requires.some c.requires.begun),
-  used_up (λ c. c.pass) (λ c. c.end) c.args.floor.now.start.job c.args.cells.now c.run_round.new.cells c.run_round.ensures.rounds c.requires.some (never _ c.if-has_ended.false c.has_ended.ensures.1) (never _ c.if-not-has_ended.true c.has_ended-2.ensures.1),
+  used_up (λ c. c.pass) (λ c. c.end) (g.met.D.NeverPauses g.world.𝓛 g.world.𝓜 g.world.𝓡 ((λ s x. x), (λ x. x), (λ x. x), λ x. x)).never c.args.floor.now.start.job c.args.cells.now c.run_round.new.cells c.run_round.ensures.rounds c.requires.some (never _ c.if-has_ended.false c.has_ended.ensures.1) (never _ c.if-not-has_ended.true c.has_ended-2.ensures.1),
 )
 
 pub write_due-requires-clause-own : goal.write_due-requires-clause-own

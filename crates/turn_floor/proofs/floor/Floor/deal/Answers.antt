@@ -23,5 +23,5 @@ begin-requires-clause-seat g c =
     let few = c.self.invariant.2.1 in
     let workers = ap (λ f. f.start.workers) c.self.view_is in (
       ap (λ m. m.1) new,
-      subst (λ v. IsPass v c.args.number 0) (sym (ap (λ m. m.0) new ∙ ap dealt e)) (next_pass _ _ c.requires.number.0 c.requires.number.1 (omega (arith, few, workers))),
+      subst (λ v. IsPass v c.args.number c.args.len) (sym (ap (λ m. m.0) new ∙ ap dealt e)) (next_pass _ _ _ c.requires.number.0 c.requires.number.1 (omega (arith, few, workers)) c.requires.len),
     )

@@ -1,4 +1,4 @@
-use Rattle.std.proofs.Common.{rules, ◌≡◌, ◌+◌, ◌-◌, ◌<◌, ◌∷◌, [], ap, sym, ◌∙◌, arith, ℕ, suc, subst, map, vec_len}
+use Rattle.std.proofs.Common.{rules, ◌≡◌, ◌+◌, ◌-◌, ◌<◌, ◌∷◌, [], length, ap, sym, ◌∙◌, arith, ℕ, suc, subst, map, vec_len}
 use Rattle.turn_floor.specs.Parts.{IsPass, floor_of, pass_of}
 use Rattle.turn_floor.specs.Served.{from_to}
 use Rattle.turn_floor.specs.Turn.{dealing}
@@ -33,8 +33,9 @@ begin-requires g c =
     let le = inv.1 in
     let ge = c.loop-last-test.false in
     let workers = ap (λ s. s.workers) c.in-Ok-open_table.ensures.start in
+    let long = c.len-len.ensures.len ∙ ap length (c.history.ensures ∙ sym (ap (λ s. s.events) c.in-Ok-open_table.ensures.start)) in
     record {
-      seat = (ap (λ m. m.1) inv.4, subst (λ v. IsPass v 1 0) (sym (ap (λ m. m.0) inv.4)) (first_pass _ _ (omega (arith, le, ge, workers)) (omega (arith, workers, c.requires.workers.0)) (omega (arith, workers, c.requires.workers.1))));
+      seat = (ap (λ m. m.1) inv.4, subst (λ v. IsPass v 1 c.len-len.result) (sym (ap (λ m. m.0) inv.4)) (first_pass _ _ _ (omega (arith, le, ge, workers)) (omega (arith, workers, c.requires.workers.0)) (omega (arith, workers, c.requires.workers.1)) long));
       parts = (omega (arith, one, le, ge, inv.5), omega (arith, one, le, ge, inv.6));
     }
 

@@ -1,5 +1,5 @@
 use Rattle.std.proofs.Common.{◌-◌, ◌≡◌, ◌+◌, ◌<◌, ◌≤◌, [], map, vec_len, vec_capacity, ℕ}
-use Rattle.turn_floor.specs.Parts.{pass_of}
+use Rattle.turn_floor.specs.Parts.{new_pass}
 use Rattle.turn_floor.specs.Served.{from_to}
 use Rattle.turn_floor.specs.Turn.{dealing}
 use Rattle.turn_floor.proofs.floor.Floor.new.Given as goal
@@ -10,7 +10,7 @@ invariant-loop-last g l =
     × (l.seat.table_id ≡ l.floor.table) × (l.seat.me ≡ (dealing l.floor.start l.last, []))
     × (l.commits.share.parts + vec_len l.passes ≡ l.initial.workers) × (l.stale.share.parts + vec_len l.passes ≡ l.initial.workers)
     × (l.commits.share.amount ≡ 0) × (l.stale.share.amount ≡ 0)
-    × (l.passes.items ≡ map (λ (w : ℕ). pass_of l.floor w [] 0 0) (from_to 2 (vec_len l.passes)))
+    × (l.passes.items ≡ map (new_pass l.floor) (from_to 2 (vec_len l.passes)))
 
 abbrev pub decreases-loop-last : goal.decreases-loop-last
 decreases-loop-last g l = l.initial.workers - l.last

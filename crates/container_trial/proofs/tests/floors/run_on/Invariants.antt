@@ -1,4 +1,4 @@
-use Rattle.container_trial.proofs.tests.floors.trial.Given as goal
+use Rattle.container_trial.proofs.tests.floors.run_on.Given as goal
 
 abbrev pub ghosts-run-C-Ledger : goal.ghosts-run-C-Ledger
 ghosts-run-C-Ledger g a = record { name = a.commits.name; parts = a.commits.parts }

@@ -1,0 +1,4 @@
+pub mod Live
+pub mod Serving
+pub mod Replies
+pub mod Going

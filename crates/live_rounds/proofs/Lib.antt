@@ -1,0 +1,10 @@
+pub mod Crossing
+pub mod Feeding
+pub mod Growing
+pub mod Leaving
+pub mod Released
+pub mod Resting
+pub mod Writing
+pub mod Rounding
+pub mod Serving
+pub mod Stepping
