@@ -50,10 +50,11 @@ void load(const char *path, struct text *text) {
 
 static void become(char *const words[], char *const settings[], int seconds, int out, int err) {
     struct rlimit time = {seconds, seconds};
-    int nothing = open("/dev/null", O_RDONLY);
+    const char *input = getenv("INPUT");
+    int from = open(input ? input : "/dev/null", O_RDONLY);
     setrlimit(RLIMIT_CPU, &time);
     for (; *settings; settings++) putenv(*settings);
-    dup2(nothing, 0);
+    dup2(from, 0);
     dup2(out, 1);
     dup2(err, 2);
     execv(words[0], words);
